@@ -1,4 +1,5 @@
--- The connection that is unheard for longest, which the contracts of `displacing` need; and the first free slot.
+-- The connection that is unheard for longest, and the first free slot: the contracts of `displacing`
+-- and of `free_slot`.
 use Rattle.std.proofs.Common.{◌≡◌, ℕ, ◌+◌, ◌<◌, ◌≤◌, List, length, get_or, sym, ◌∙◌, ap, subst, arith, inl, inr, true}
 use Rattle.std.specs.Prelude.{Option, None, Some, IfSome, slice_get}
 use Rattle.std.specs.Option.{is_some}

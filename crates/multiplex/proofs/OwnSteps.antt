@@ -1,4 +1,4 @@
--- In any execution a connection's own steps are those of a connection alone: the law `each_connection_is_alone`.
+-- A connection's own steps are those of a connection alone: the law `each_connection_is_alone`.
 use Rattle.std.proofs.Common.{◌≡◌, ℕ, List, [], ◌∷◌, ◌++◌, refl, sym, ap, ◌∙◌, subst, inl, inr, append_assoc, append-nil}
 use Rattle.std.specs.Prelude.{Option, None, Some, slice_get, slice_set, if◌then◌else◌}
 use Rattle.std.specs.Io.KnownBytes.{Appends, Consumes, Keeps}

@@ -77,11 +77,11 @@ module _ {H R W V E : Type 0} (input : Input R) (output : Output W) (handler : B
     pub appends : Appends (output.written old.writer) (output.written new.writer) bytes
     pub others : new ≡ record old { writer = new.writer; waiting = new.waiting; active = now }
 
-  -- why it may end without a message
+  -- why it may end without a message; at the end of its input only where nothing is left to answer
   abbrev pub MayStop : ℕ → Slot H R W E → SlotEnd E → Slot H R W E → Type 0
   MayStop now old ending new = elim ending [
     | Finished end ↦ ⊥
-    | EndOfInput ↦ IsAtEnd (input.unread new.reader)
+    | EndOfInput ↦ IsAtEnd (input.unread new.reader) × handler.needs_more old.handler
     | Broken ↦ input.has_failed new.reader ⊎ output.has_failed new.writer
     | IdleTimeout ↦ old.active + idle_limit ≤ now
     | Displaced ↦ IsUnheard handler now old

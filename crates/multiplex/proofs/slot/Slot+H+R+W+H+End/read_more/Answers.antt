@@ -1,5 +1,6 @@
-use Rattle.std.proofs.Common.{refl, take, inl}
+use Rattle.std.proofs.Common.{refl, take, inl, subst, sym}
 use Rattle.std.proofs.KnownBytes.{Keeps-refl}
+use Rattle.multiplex.specs.Slots.{Slot}
 use Rattle.multiplex.specs.declared.handler.SlotEnd.TheVariants.{EndOfInput, Broken}
 use Rattle.multiplex.proofs.Stepping.{received, found_empty, stopped}
 use Rattle.multiplex.proofs.slot.Slot+H+R+W+H+End.read_more.Goals as goal
@@ -23,7 +24,11 @@ returns-in-EndOfInput-clause-steps g c v room =
     let did = rw c.in-EndOfInput.is at c.try_read.ensures in
     stopped g.R.NonBlockingRead.input g.W.NonBlockingWrite.output g.H.Handler.behavior room
     c.args.now v _ _
-    c.try_read.new.self c.self.inside.writer EndOfInput c.self.view_is did.0 (Keeps-refl _) tt did.1
+    c.try_read.new.self c.self.inside.writer EndOfInput c.self.view_is did.0 (Keeps-refl _) tt (
+      did.1,
+      subst (λ (s : Slot _ _ _ _). g.H.Handler.behavior.needs_more s.handler) (sym c.self.view_is)
+          c.requires.lacks,
+    )
 
 pub returns-in-WouldBlock-clause-steps : goal.returns-in-WouldBlock-clause-steps
 returns-in-WouldBlock-clause-steps g c v room =
