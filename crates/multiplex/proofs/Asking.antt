@@ -165,7 +165,8 @@ module _ {S H R W V E : Type 0} (source : Effects S R W) (input : Input R) (outp
       let fits = step (omega (arith, same)) in
       ap (λ k. Some k) (omega (arith, fits, same))
 
-  -- one round more: it was waited, it was asked who comes, a call may have begun, and each had its turn
+  -- one round more: it was waited, it was asked who comes, a call may have begun, and each had its
+  -- turn
   pub round_more : (waits before more : ℕ) (busy busy' : Bool) (now : ℕ)
       (start old waited asked called new : Loop S H R W V E)
       → SoFar waits before busy start old → IsWait source input output handler limits old busy now

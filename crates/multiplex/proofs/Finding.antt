@@ -1,4 +1,5 @@
--- The connection that is unheard for longest, and the first free slot: the contracts of `displacing`
+-- The connection that is unheard for longest, and the first free slot: the contracts of
+-- `displacing`
 -- and of `free_slot`.
 use Rattle.std.proofs.Common.{◌≡◌, ℕ, ◌+◌, ◌<◌, ◌≤◌, List, length, get_or, sym, ◌∙◌, ap, subst, arith, inl, inr, true}
 use Rattle.std.specs.Prelude.{Option, None, Some, IfSome, slice_get}
@@ -10,7 +11,8 @@ use Rattle.multiplex.proofs.Places.{there}
 use Rattle.multiplex.specs.Behavior.{Behavior}
 use Rattle.multiplex.specs.Slots.{Slot, IsUnheard, IsLongestUnheard}
 
--- of the first slots this one's connection is unheard for longest, since this time, if one is unheard
+-- of the first slots this one's connection is unheard for longest, since this time, if one is
+-- unheard
 pub record IsFound {H R W V E : Type 0} (handler : Behavior H V E) (now : ℕ)
     (slots : List (Option (Slot H R W E)))
     (place : ℕ) (longest : Option ℕ) (since : ℕ) : Type 0 where

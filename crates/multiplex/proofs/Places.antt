@@ -1,4 +1,5 @@
--- What is in a slot, and how many bytes wait in all of them: the contracts of `turns` and `serving`.
+-- What is in a slot, and how many bytes wait in all of them: the contracts of `turns` and
+-- `serving`.
 use Rattle.std.proofs.Common.{◌≡◌, ℕ, zero, suc, ◌+◌, ◌-◌, ◌<◌, ◌≤◌, Bool, true, false, take, List, [], ◌∷◌, length, get_or, refl, sym, ◌∙◌, ap, subst, arith}
 use Rattle.std.specs.Prelude.{Option, None, Some, slice_get, slice_set, sum_by, nat_lt}
 use Rattle.std.proofs.lemmas.Option.{slice_get-get_or, get_or_from_slice_get, same_Some, none-some}

@@ -98,7 +98,8 @@ module _ {S H R W V E : Type 0} (source : Effects S R W) (input : Input R) (outp
   still_allowed slots k now v w first old new FindsFull has_to got allowed is = tt
   still_allowed slots k now v w first old new Wakes has_to got allowed is = tt
 
-  -- some steps at the connection of a slot, from another state of it than the slots that judge the room
+  -- some steps at the connection of a slot, from another state of it than the slots that judge the
+  -- room
   steps_from : (source' : S) (slots : List (Option (Slot H R W E))) (v w : V) (now k : ℕ)
       (first old new : Slot H R W E)
       (steps : List (Step E)) → slice_get slots k ≡ Some (Some first)

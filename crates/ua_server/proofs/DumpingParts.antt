@@ -9,6 +9,9 @@ use Rattle.ua_server.specs.declared.dumps.DumpFault.TheVariants as dump
 use Rattle.ua_server.specs.Dumping.{lines_of}
 
 -- what was written of a content's lines, and the faults that its store met
-abbrev pub IsDumped : Content → Option (List ℕ) → Option (List ℕ) → List StoreFault → Result (Unit {0}) DumpFault → Type 0
+abbrev pub IsDumped : Content → Option (List ℕ) → Option (List ℕ) → List StoreFault
+    → Result (Unit {0}) DumpFault → Type 0
 IsDumped R before after met result =
-    (met ≡ elim result [ Err (dump.Store fault) ↦ fault ∷ [] | _ ↦ [] ]) × MatchResult result (λ done. Appends before after (lines_of R)) (λ fault. AppendsPart before after (lines_of R))
+    (met ≡ elim result [ Err (dump.Store fault) ↦ fault ∷ [] | _ ↦ [] ])
+    × MatchResult result (λ done. Appends before after (lines_of R))
+    (λ fault. AppendsPart before after (lines_of R))

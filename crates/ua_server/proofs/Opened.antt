@@ -20,7 +20,8 @@ pub was-synced : (known : KnownMachine) (first last : known.Archive) (reader : k
     → reader_counted ≡ record { inner = reader; faults = 0 }
     → writer_counted ≡ record { inner = writer; faults = 0 }
     → Syncs (known.held first) (known.held last) (known.unread reader_counted.inner)
-    (known.unread read.inner) (known.written writer_counted.inner) (known.written wrote.inner) ending
+    (known.unread read.inner) (known.written writer_counted.inner)
+    (known.written wrote.inner) ending
     → (ending ≡ Err (sync.Connection Read) → read.faults ≡ counted reader_counted.faults)
     → (ending ≡ Err (sync.Connection Write) → wrote.faults ≡ counted writer_counted.faults)
     → ((ending ≡ Err (sync.Connection Read) → ⊥) → read.faults ≡ reader_counted.faults)

@@ -51,18 +51,21 @@ unopened machine held path fault old new (Err cause, between, set, (same, stays)
     (subst (λ f. SettingsAt machine path (Err f) old between) is set) in
     (u.0, stays ∙ u.1)
 
-answered-line : (answered : Result (Unit {0}) HexFault) (line : LineFault) → Err (Line line) ≡ result_map_both (λ done. done) fault_of answered → ⊥
+answered-line : (answered : Result (Unit {0}) HexFault) (line : LineFault)
+    → Err (Line line) ≡ result_map_both (λ done. done) fault_of answered → ⊥
 answered-line (Ok done) line same = cc
 answered-line (Err hexed.BadHex) line same = cc
 answered-line (Err (hexed.Serve cause)) line same = cc
 
-dumped-line : (dumped : Result (Unit {0}) DumpFault) (line : LineFault) → Err (Line line) ≡ result_map_both (λ done. done) dump_fault dumped → ⊥
+dumped-line : (dumped : Result (Unit {0}) DumpFault) (line : LineFault)
+    → Err (Line line) ≡ result_map_both (λ done. done) dump_fault dumped → ⊥
 dumped-line (Ok done) line same = cc
 dumped-line (Err (dump.Store fault)) line same = cc
 dumped-line (Err dump.Write) line same = cc
 dumped-line (Err dump.OutOfMemory) line same = cc
 
-synced-line : (old written : Option (List ℕ)) (synced : Result Synced SyncFault) (line : LineFault) → PrintsSynced old written synced (Err (Line line)) → ⊥
+synced-line : (old written : Option (List ℕ)) (synced : Result Synced SyncFault) (line : LineFault)
+    → PrintsSynced old written synced (Err (Line line)) → ⊥
 synced-line old written (Ok synced) line prints = let same = prints.0 in cc
 synced-line old written (Err (sync.Connection fault)) line prints = let same = prints.0 in cc
 synced-line old written (Err (sync.Exchange fault)) line prints = let same = prints.0 in cc
@@ -95,7 +98,8 @@ by-line : {C E : Type 0} (known : KnownMachine) (gave : Readings C) (told : Know
     → DoesLine known gave told line old new (Err (Line fault)) → IsUnbegun fault × (new ≡ old)
 by-line known gave told line old new fault
     (Ok (settings, first), opened, opens, (last, done, does, closes)) =
-    absurd (never-line known gave told line settings first last (record old { host = opened }) (record new { host = done }) fault does)
+    absurd (never-line known gave told line settings first last (record old { host = opened })
+    (record new { host = done }) fault does)
 by-line {C} {E} known gave told line old new fault (Err cause, opened, opens, (same, stays)) =
     let is : cause ≡ Line fault = cc in
     let P : ProgramFault → Type 0 = λ f.
@@ -148,13 +152,18 @@ text-shown found known gave told old new (Ok done) may so = inr (may, so)
 text-shown found known gave told old new (Err (Line fault)) may so =
     let is = so.1.0 in absurd cc
 text-shown found known gave told old new (Err File) may so = let is = so.1.0 in absurd cc
-text-shown found known gave told old new (Err (Settings fault place)) may so = let is = so.1.0 in absurd cc
-text-shown found known gave told old new (Err (program.Store fault)) may so = let is = so.1.0 in absurd cc
+text-shown found known gave told old new (Err (Settings fault place)) may so = let is = so.1.0 in
+    absurd cc
+text-shown found known gave told old new (Err (program.Store fault)) may so = let is = so.1.0 in
+    absurd cc
 text-shown found known gave told old new (Err BadHex) may so = let is = so.1.0 in absurd cc
 text-shown found known gave told old new (Err Address) may so = let is = so.1.0 in absurd cc
 text-shown found known gave told old new (Err (Connection fault)) may so = inr (may, so)
-text-shown found known gave told old new (Err (program.Call fault)) may so = let is = so.1.0 in absurd cc
-text-shown found known gave told old new (Err (program.Exchange fault)) may so = let is = so.1.0 in absurd cc
-text-shown found known gave told old new (Err (program.Peer number)) may so = let is = so.1.0 in absurd cc
+text-shown found known gave told old new (Err (program.Call fault)) may so = let is = so.1.0 in
+    absurd cc
+text-shown found known gave told old new (Err (program.Exchange fault)) may so = let is = so.1.0 in
+    absurd cc
+text-shown found known gave told old new (Err (program.Peer number)) may so = let is = so.1.0 in
+    absurd cc
 
 pub ruleset lines = (line-done, text-shown)

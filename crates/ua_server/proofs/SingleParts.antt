@@ -7,4 +7,5 @@ use Rattle.ua_server.specs.Single.{WasText}
 
 -- the input spells no connection in hex
 abbrev pub IsBadText : Option (List ℕ) → Type 0
-IsBadText input = (text : List ℕ) × WasText input text × (¬ (IsUtf8 text) ⊎ IsErr (decode_of (digits_of text)))
+IsBadText input = (text : List ℕ) × WasText input text
+    × (¬ (IsUtf8 text) ⊎ IsErr (decode_of (digits_of text)))

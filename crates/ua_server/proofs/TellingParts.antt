@@ -10,14 +10,19 @@ use Rattle.ua_server.specs.declared.program.ProgramFault.TheVariants.{Line, File
 use Rattle.ua_server.specs.Telling.{words_of, number_told, numbered, fault_text, told_line, place_line}
 
 -- the text of a fault without a number, and of one with it
-pub text-without : (fault : ProgramFault) → number_told fault ≡ None → fault_text fault ≡ words_of fault
-text-without fault e = ap (λ (o : Option ℕ). elim o [ None ↦ words_of fault | Some n ↦ numbered (words_of fault) n ]) e
+pub text-without : (fault : ProgramFault) → number_told fault ≡ None
+    → fault_text fault ≡ words_of fault
+text-without fault e = ap (λ (o : Option ℕ).
+    elim o [ None ↦ words_of fault | Some n ↦ numbered (words_of fault) n ]) e
 
-pub text-with : (fault : ProgramFault) (number : ℕ) → number_told fault ≡ Some number → fault_text fault ≡ numbered (words_of fault) number
-text-with fault number e = ap (λ (o : Option ℕ). elim o [ None ↦ words_of fault | Some n ↦ numbered (words_of fault) n ]) e
+pub text-with : (fault : ProgramFault) (number : ℕ) → number_told fault ≡ Some number
+    → fault_text fault ≡ numbered (words_of fault) number
+text-with fault number e = ap (λ (o : Option ℕ).
+    elim o [ None ↦ words_of fault | Some n ↦ numbered (words_of fault) n ]) e
 
 -- the words of a fault that has a number are short
-pub short-words : (fault : ProgramFault) (number : ℕ) → number_told fault ≡ Some number → length (words_of fault) ≤ 40
+pub short-words : (fault : ProgramFault) (number : ℕ) → number_told fault ≡ Some number
+    → length (words_of fault) ≤ 40
 short-words (Line fault) number e = absurd cc
 short-words File number e = absurd cc
 short-words (Settings fault place) number e = omega arith
@@ -33,10 +38,12 @@ short-words (Peer told) number e = omega arith
 cut-fits : (room : ℕ) (text : List ℕ) → length text ≤ room → cut_to room text ≡ text
 unfolding cut_to
 cut-fits room text h =
-    ap (λ (b : Bool). cond b text (take (floor_char_boundary text (room - 3)) text ++ dots room)) (le-leb (length text) room h)
+    ap (λ (b : Bool). cond b text (take (floor_char_boundary text (room - 3)) text ++ dots room))
+    (le-leb (length text) room h)
 
 -- words and a number that are put one behind the other where there is room for all of them
-pub numbered-text : (t0 t1 t2 t3 t4 words digits : List ℕ) (n : ℕ) → t0 ≡ [] → length words ≤ 40 → digits ≡ decimal n → length digits ≤ 40
+pub numbered-text : (t0 t1 t2 t3 t4 words digits : List ℕ) (n : ℕ) → t0 ≡ [] → length words ≤ 40
+    → digits ≡ decimal n → length digits ≤ 40
     → (length t0 + 40 < 100 → t1 ≡ t0 ++ cut_to 40 words)
     → (length t1 + 2 < 100 → t2 ≡ t1 ++ cut_to 2 (codes " ("))
     → (length t2 + 40 < 100 → t3 ≡ t2 ++ cut_to 40 digits)
@@ -45,17 +52,29 @@ pub numbered-text : (t0 t1 t2 t3 t4 words digits : List ℕ) (n : ℕ) → t0 �
 numbered-text t0 t1 t2 t3 t4 words digits n none short is few one two three four =
     let left = codes " (" in
     let first : t1 ≡ words =
-    one (omega (arith, ap length none)) ∙ (ap (λ (l : List ℕ). l ++ cut_to 40 words) none ∙ cut-fits 40 words short) in
+    one (omega (arith, ap length none)) ∙ (ap (λ (l : List ℕ). l ++ cut_to 40 words) none
+    ∙ cut-fits 40 words short) in
     let second : t2 ≡ words ++ left =
     two (omega (arith, ap length first, short))
-    ∙ (ap (λ (l : List ℕ). l ++ cut_to 2 left) first ∙ ap (λ (l : List ℕ). words ++ l) (cut-fits 2 left (omega arith))) in
+    ∙ (ap (λ (l : List ℕ). l ++ cut_to 2 left) first
+    ∙ ap (λ (l : List ℕ). words ++ l) (cut-fits 2 left (omega arith))) in
     let third : t3 ≡ (words ++ left) ++ decimal n =
     three (omega (arith, ap length second, length-append words left, short))
-    ∙ (ap (λ (l : List ℕ). l ++ cut_to 40 digits) second ∙ ap (λ (l : List ℕ). (words ++ left) ++ l) (cut-fits 40 digits few ∙ is)) in
+    ∙ (ap (λ (l : List ℕ). l ++ cut_to 40 digits) second
+    ∙ ap (λ (l : List ℕ). (words ++ left) ++ l) (cut-fits 40 digits few ∙ is)) in
     let fourth : t4 ≡ ((words ++ left) ++ decimal n) ++ codes ")" =
-    four (omega (arith, ap length third, length-append (words ++ left) (decimal n), length-append words left, ap length is, few, short))
+    four (omega (
+      arith,
+      ap length third,
+      length-append (words ++ left) (decimal n),
+      length-append words left,
+      ap length is,
+      few,
+      short,
+    ))
     ∙ (ap (λ (l : List ℕ). l ++ cut_to 1 (codes ")")) third
-    ∙ ap (λ (l : List ℕ). ((words ++ left) ++ decimal n) ++ l) (cut-fits 1 (codes ")") (omega arith))) in
+    ∙ ap (λ (l : List ℕ). ((words ++ left) ++ decimal n) ++ l)
+    (cut-fits 1 (codes ")") (omega arith))) in
     fourth
 
 -- where settings are refused

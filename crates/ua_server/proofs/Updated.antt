@@ -14,7 +14,9 @@ use Rattle.ua_connection.specs.Environments.{Environment}
 use Rattle.ua_connection.specs.Client.{Ending}
 use Rattle.ua_connection.specs.Serving.{ServesBehind}
 
-module _ (settings : SettingsValues) (a b : Store) (first : List ℕ) (unread left before after : Option (List ℕ)) (used : Environment) (ending : Ending) (serves : ServesBehind settings a b first unread left before after used ending)
+module _ (settings : SettingsValues) (a b : Store) (first : List ℕ)
+    (unread left before after : Option (List ℕ)) (used : Environment) (ending : Ending)
+    (serves : ServesBehind settings a b first unread left before after used ending)
     (rests : IsQuiescent a) (whole : a.broken ≡ false) (honest : b.honest) where
   -- what the archive is left with came of what it held
   grown : (R : Content) → IsLeft b R → Grows a.own a.content R
@@ -23,6 +25,9 @@ module _ (settings : SettingsValues) (a b : Store) (first : List ℕ) (unread le
       let same = left-alone a moved.2 rests (serves.served.passes.honest honest) whole moved.3 in
       subst (λ (S : Content). Grows a.own S R) same moved.5
 
-  pub updates_made : (w : World) (i : ℕ) (s : Replica) (R : Content) → IsLeft b R → ((r : Record) → Has R r → IsLawfulRecord r) → IsReplicaAt w i s → s.number ≡ a.own → s.content ≡ a.content
+  pub updates_made : (w : World) (i : ℕ) (s : Replica) (R : Content) → IsLeft b R
+      → ((r : Record) → Has R r → IsLawfulRecord r) → IsReplicaAt w i s → s.number ≡ a.own
+      → s.content ≡ a.content
       → (events : List Event) × AreUpdates i events × IsUpdated w (run events w) i s R
-  updates_made w i s R is lawful at number content = updates_happen a.own a.content R w i s (grown R is) lawful at number content
+  updates_made w i s R is lawful at number content =
+      updates_happen a.own a.content R w i s (grown R is) lawful at number content

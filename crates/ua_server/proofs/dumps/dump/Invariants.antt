@@ -4,6 +4,7 @@ use Rattle.ua_server.proofs.dumps.dump.Given as goal
 
 abbrev pub invariant-loop : goal.invariant-loop
 invariant-loop g l = record {
-  so_far : Dumping (g.A.Archive.state l.fn.archive) (g.A.Archive.state l.archive) l.known (g.W.Write.contents l.fn.output.inner) (g.W.Write.contents l.output.inner);
+  so_far : Dumping (g.A.Archive.state l.fn.archive) (g.A.Archive.state l.archive) l.known
+      (g.W.Write.contents l.fn.output.inner) (g.W.Write.contents l.output.inner);
   faults : l.output.faults ≡ l.fn.output.faults;
 }

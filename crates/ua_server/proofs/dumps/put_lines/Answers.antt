@@ -8,6 +8,10 @@ loop-r-preserved c =
     let raised = c.raise.ensures.raised in
     let others = c.raise.ensures.others in
     record {
-      lines = lines_more (string_bytes c.args.text.now) (string_bytes c.loop-r.text) (string_bytes c.put_line.new.text) c.args.records.now c.loop-r.r-index c.r-item.result (omega arith) c.loop-r.invariant.lines (rw (← c.r-item.is) line);
-      known = known_more c.args.known.now c.loop-r.known c.raise.new.self c.args.records.now c.loop-r.r-index c.r-item.result (omega arith) c.loop-r.invariant.known (rw (← c.r-item.is) raised) (rw (← c.r-item.is) others);
+      lines = lines_more (string_bytes c.args.text.now) (string_bytes c.loop-r.text)
+          (string_bytes c.put_line.new.text) c.args.records.now c.loop-r.r-index c.r-item.result
+          (omega arith) c.loop-r.invariant.lines (rw (← c.r-item.is) line);
+      known = known_more c.args.known.now c.loop-r.known c.raise.new.self c.args.records.now
+          c.loop-r.r-index c.r-item.result (omega arith) c.loop-r.invariant.known
+          (rw (← c.r-item.is) raised) (rw (← c.r-item.is) others);
     }

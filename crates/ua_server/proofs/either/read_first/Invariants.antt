@@ -7,7 +7,8 @@ invariant-loop-read g l = record {
   length : length l.first ≡ 3;
   within : l.read ≤ 3;
   faults : l.reader.faults ≡ l.initial.reader.faults;
-  consumed : Consumes (g.R.Read.remaining l.initial.reader.inner) (g.R.Read.remaining l.reader.inner) (take l.read l.first);
+  consumed : Consumes (g.R.Read.remaining l.initial.reader.inner)
+      (g.R.Read.remaining l.reader.inner) (take l.read l.first);
 }
 
 abbrev pub decreases-loop-read : goal.decreases-loop-read

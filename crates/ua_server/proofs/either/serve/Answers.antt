@@ -12,7 +12,10 @@ returns-in-Err-clause-serves g c =
     let ends : ◌≡◌ {A = ConnectionEnding} (Err c.in-Err.fault) (Err Read) = cc fault in (
       empty_environment,
       g.met.C.Clock.gave_none c.args.clock.now,
-      inl (breaks-off (g.A.Archive.state c.args.server.now.replica.archive) (left c.args.reader.now.inner) (left c.read_first.new.reader.inner) (g.W.Write.contents c.args.writer.now.inner) (Err c.in-Err.fault) c.in-Err.ensures.broken ends),
+      inl (breaks-off (g.A.Archive.state c.args.server.now.replica.archive)
+          (left c.args.reader.now.inner) (left c.read_first.new.reader.inner)
+          (g.W.Write.contents c.args.writer.now.inner)
+          (Err c.in-Err.fault) c.in-Err.ensures.broken ends),
     )
 
 pub returns-then-is_peers-clause-serves : goal.returns-then-is_peers-clause-serves
@@ -22,7 +25,9 @@ returns-then-is_peers-clause-serves g c =
     let contents = g.W.Write.contents in
     let came = c.in-Ok.ensures in
     let first = take c.in-Ok.n c.read_first.new.first in
-    let three = are-first (left c.args.reader.now.inner) (left c.read_first.new.reader.inner) c.read_first.new.first c.in-Ok.n came.length came.within came.bytes came.end in (
+    let three = are-first (left c.args.reader.now.inner)
+    (left c.read_first.new.reader.inner) c.read_first.new.first c.in-Ok.n came.length
+    came.within came.bytes came.end in (
       empty_environment,
       g.met.C.Clock.gave_none c.args.clock.now,
       inr (
@@ -31,8 +36,12 @@ returns-then-is_peers-clause-serves g c =
         three.0,
         three.1,
         three.2,
-        goes-as-peer c.args.server.now.settings (state c.args.server.now.replica.archive) (state c.serve_a_peer.new.replica.archive) first (left c.read_first.new.reader.inner) (left c.serve_a_peer.new.reader.inner)
-            (contents c.args.writer.now.inner) (contents c.serve_a_peer.new.writer.inner) (is_peers first) c.serve_a_peer.result (sym c.is_peers.ensures ∙ c.if-is_peers.true) c.serve_a_peer.ensures.meets,
+        goes-as-peer c.args.server.now.settings (state c.args.server.now.replica.archive)
+            (state c.serve_a_peer.new.replica.archive) first (left c.read_first.new.reader.inner)
+            (left c.serve_a_peer.new.reader.inner)
+            (contents c.args.writer.now.inner) (contents c.serve_a_peer.new.writer.inner)
+            (is_peers first) c.serve_a_peer.result
+            (sym c.is_peers.ensures ∙ c.if-is_peers.true) c.serve_a_peer.ensures.meets,
       ),
     )
 
@@ -43,7 +52,9 @@ returns-else-is_peers-clause-serves g c =
     let contents = g.W.Write.contents in
     let came = c.in-Ok.ensures in
     let first = take c.in-Ok.n c.read_first.new.first in
-    let three = are-first (left c.args.reader.now.inner) (left c.read_first.new.reader.inner) c.read_first.new.first c.in-Ok.n came.length came.within came.bytes came.end in
+    let three = are-first (left c.args.reader.now.inner)
+    (left c.read_first.new.reader.inner) c.read_first.new.first c.in-Ok.n came.length
+    came.within came.bytes came.end in
     let served = c.serve_client.ensures.serves in (
       served.0,
       served.1,
@@ -53,7 +64,11 @@ returns-else-is_peers-clause-serves g c =
         three.0,
         three.1,
         three.2,
-        goes-as-client c.args.server.now.settings (state c.args.server.now.replica.archive) (state c.serve_client.new.server.replica.archive) first (left c.read_first.new.reader.inner) (left c.serve_client.new.reader.inner)
-            (contents c.args.writer.now.inner) (contents c.serve_client.new.writer.inner) served.0 (is_peers first) c.serve_client.result (sym c.is_peers.ensures ∙ c.if-is_peers.false) (served.2, served.3, served.4),
+        goes-as-client c.args.server.now.settings (state c.args.server.now.replica.archive)
+            (state c.serve_client.new.server.replica.archive) first
+            (left c.read_first.new.reader.inner) (left c.serve_client.new.reader.inner)
+            (contents c.args.writer.now.inner) (contents c.serve_client.new.writer.inner) served.0
+            (is_peers first) c.serve_client.result
+            (sym c.is_peers.ensures ∙ c.if-is_peers.false) (served.2, served.3, served.4),
       ),
     )

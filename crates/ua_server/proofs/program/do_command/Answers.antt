@@ -13,8 +13,12 @@ returns-in-Answer-clause-does g c =
     let P : CommandLine → Type 0 = λ line.
     DoesCommand known g.C.Clock.gave g.E.Write.contents line c.args.server.now.settings
     c.args.server.now.replica.archive c.answer_over.new.server.replica.archive
-    (scene_of (g.R.Read.remaining c.args.input.now.inner) (g.W.Write.contents c.args.output.now.inner) c.args.host.now c.args.clock.now c.args.errors.now)
-    (scene_of (g.R.Read.remaining c.answer_over.new.input.inner) (g.W.Write.contents c.answer_over.new.output.inner) c.args.host.now c.answer_over.new.clock c.args.errors.now)
+    (scene_of (g.R.Read.remaining c.args.input.now.inner)
+    (g.W.Write.contents c.args.output.now.inner) c.args.host.now c.args.clock.now
+    c.args.errors.now)
+    (scene_of (g.R.Read.remaining c.answer_over.new.input.inner)
+    (g.W.Write.contents c.answer_over.new.output.inner) c.args.host.now c.answer_over.new.clock
+    c.args.errors.now)
     c.answer_over.result in
     subst P (sym c.in-Answer.is) (refl, c.answer_over.ensures.does)
 
@@ -27,8 +31,12 @@ returns-in-Serve-clause-does g c =
     let P : CommandLine → Type 0 = λ line.
     DoesCommand known g.C.Clock.gave g.E.Write.contents line c.args.server.now.settings
     c.args.server.now.replica.archive c.serve_at.new.server.replica.archive
-    (scene_of (g.R.Read.remaining c.args.input.now.inner) (g.W.Write.contents c.args.output.now.inner) c.args.host.now c.args.clock.now c.args.errors.now)
-    (scene_of (g.R.Read.remaining c.args.input.now.inner) (g.W.Write.contents c.args.output.now.inner) c.serve_at.new.host c.serve_at.new.clock c.serve_at.new.errors)
+    (scene_of (g.R.Read.remaining c.args.input.now.inner)
+    (g.W.Write.contents c.args.output.now.inner) c.args.host.now c.args.clock.now
+    c.args.errors.now)
+    (scene_of (g.R.Read.remaining c.args.input.now.inner)
+    (g.W.Write.contents c.args.output.now.inner) c.serve_at.new.host c.serve_at.new.clock
+    c.serve_at.new.errors)
     c.serve_at.result in
     subst P (sym c.in-Serve.is) (refl, c.serve_at.ensures.listens)
 
@@ -41,8 +49,12 @@ returns-in-Dump-clause-does g c =
     let P : CommandLine → Type 0 = λ line.
     DoesCommand known g.C.Clock.gave g.E.Write.contents line c.args.server.now.settings
     c.args.server.now.replica.archive c.dump_over.new.server.replica.archive
-    (scene_of (g.R.Read.remaining c.args.input.now.inner) (g.W.Write.contents c.args.output.now.inner) c.args.host.now c.args.clock.now c.args.errors.now)
-    (scene_of (g.R.Read.remaining c.args.input.now.inner) (g.W.Write.contents c.dump_over.new.output.inner) c.args.host.now c.args.clock.now c.args.errors.now)
+    (scene_of (g.R.Read.remaining c.args.input.now.inner)
+    (g.W.Write.contents c.args.output.now.inner) c.args.host.now c.args.clock.now
+    c.args.errors.now)
+    (scene_of (g.R.Read.remaining c.args.input.now.inner)
+    (g.W.Write.contents c.dump_over.new.output.inner) c.args.host.now c.args.clock.now
+    c.args.errors.now)
     c.dump_over.result in
     subst P (sym c.in-Dump.is) (refl, c.dump_over.ensures.dumps)
 
@@ -55,7 +67,11 @@ returns-in-Sync-clause-does g c =
     let P : CommandLine → Type 0 = λ line.
     DoesCommand known g.C.Clock.gave g.E.Write.contents line c.args.server.now.settings
     c.args.server.now.replica.archive c.sync_over.new.server.replica.archive
-    (scene_of (g.R.Read.remaining c.args.input.now.inner) (g.W.Write.contents c.args.output.now.inner) c.args.host.now c.args.clock.now c.args.errors.now)
-    (scene_of (g.R.Read.remaining c.args.input.now.inner) (g.W.Write.contents c.sync_over.new.output.inner) c.sync_over.new.host c.args.clock.now c.args.errors.now)
+    (scene_of (g.R.Read.remaining c.args.input.now.inner)
+    (g.W.Write.contents c.args.output.now.inner) c.args.host.now c.args.clock.now
+    c.args.errors.now)
+    (scene_of (g.R.Read.remaining c.args.input.now.inner)
+    (g.W.Write.contents c.sync_over.new.output.inner) c.sync_over.new.host c.args.clock.now
+    c.args.errors.now)
     c.sync_over.result in
     subst P (sym c.in-Sync.is) (refl, c.sync_over.ensures.calls)

@@ -18,8 +18,12 @@ returns-in-Ok-Work-clause-runs g c =
     g.H.Listener.Listener.closed g.H.Listener.Reader.Read.remaining
     g.H.Listener.Writer.Write.contents g.H.Reader.Read.remaining g.H.Writer.Write.contents in
     line-done (findings_in words) known g.C.Clock.gave g.E.Write.contents c.in-Ok-Work.line
-    (scene_of (g.R.Read.remaining c.args.input.now.inner) (g.W.Write.contents c.args.output.now.inner) c.args.host.now c.args.clock.now c.args.errors.now)
-    (scene_of (g.R.Read.remaining c.do_line.new.input.inner) (g.W.Write.contents c.do_line.new.output.inner) c.do_line.new.host c.do_line.new.clock c.do_line.new.errors)
+    (scene_of (g.R.Read.remaining c.args.input.now.inner)
+    (g.W.Write.contents c.args.output.now.inner) c.args.host.now c.args.clock.now
+    c.args.errors.now)
+    (scene_of (g.R.Read.remaining c.do_line.new.input.inner)
+    (g.W.Write.contents c.do_line.new.output.inner) c.do_line.new.host c.do_line.new.clock
+    c.do_line.new.errors)
     c.do_line.result asks.0 asks.1 c.do_line.ensures.does
 
 pub returns-in-Err-clause-runs : goal.returns-in-Err-clause-runs
@@ -37,6 +41,10 @@ returns-in-Ok-Text-clause-runs g c =
     g.H.Listener.Listener.closed g.H.Listener.Reader.Read.remaining
     g.H.Listener.Writer.Write.contents g.H.Reader.Read.remaining g.H.Writer.Write.contents in
     text-shown (findings_in words) known g.C.Clock.gave g.E.Write.contents
-    (scene_of (g.R.Read.remaining c.args.input.now.inner) (g.W.Write.contents c.args.output.now.inner) c.args.host.now c.args.clock.now c.args.errors.now)
-    (scene_of (g.R.Read.remaining c.args.input.now.inner) (g.W.Write.contents c.print_text.new.output.inner) c.args.host.now c.args.clock.now c.args.errors.now)
+    (scene_of (g.R.Read.remaining c.args.input.now.inner)
+    (g.W.Write.contents c.args.output.now.inner) c.args.host.now c.args.clock.now
+    c.args.errors.now)
+    (scene_of (g.R.Read.remaining c.args.input.now.inner)
+    (g.W.Write.contents c.print_text.new.output.inner) c.args.host.now c.args.clock.now
+    c.args.errors.now)
     c.print_text.result asks (refl, c.print_text.ensures.prints)

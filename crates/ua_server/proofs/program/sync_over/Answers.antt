@@ -8,7 +8,11 @@ returns-in_default-clause-calls g c = inl (inl (search rules, refl), refl, refl)
 
 pub returns-in_default-call-clause-calls : goal.returns-in_default-call-clause-calls
 returns-in_default-call-clause-calls g c =
-    inl (inr (c.in-Ok.address, search rules, rw (← c.in_default-call.is) c.call.ensures), refl, refl)
+    inl (
+      inr (c.in-Ok.address, search rules, rw (← c.in_default-call.is) c.call.ensures),
+      refl,
+      refl,
+    )
 
 pub returns-clause-calls : goal.returns-clause-calls
 returns-clause-calls g c =
@@ -19,9 +23,11 @@ returns-clause-calls g c =
     let ends = c.sync-ending.ensures in
     let over =
     was-synced known c.args.server.now.replica.archive c.sync-ending.new.replica.archive
-    c.in-Some.reader c.in-Some.writer c.new-reader.result c.sync-ending.new.reader c.new-writer.result
+    c.in-Some.reader c.in-Some.writer c.new-reader.result c.sync-ending.new.reader
+    c.new-writer.result
     c.sync-ending.new.writer c.call.new.self c.part.new.self
-    (g.W.Write.contents c.args.output.now.inner) (g.W.Write.contents c.report_synced.new.output.inner)
+    (g.W.Write.contents c.args.output.now.inner)
+    (g.W.Write.contents c.report_synced.new.output.inner)
     c.sync-ending.result c.new-reader.ensures c.new-writer.ensures ends.syncs ends.reads.counts
     ends.writes.counts ends.reads.keeps ends.writes.keeps c.part.ensures in
     inr (

@@ -4,7 +4,11 @@ use Rattle.ua_server.proofs.program.tell.Goals as goal
 
 pub returns-in-Ok-clause-part : goal.returns-in-Ok-clause-part
 returns-in-Ok-clause-part g c =
-    part-after c.send_line.result (g.W.Write.contents c.args.errors.now.inner) (g.W.Write.contents c.send.new.self.inner) (g.W.Write.contents c.send_line.new.self.inner) (codes "uahist: ") (c.args.text.now ++ 10 ∷ []) c.in-Ok.ensures.ok c.send_line.ensures.part
+    part-after c.send_line.result (g.W.Write.contents c.args.errors.now.inner)
+    (g.W.Write.contents c.send.new.self.inner) (g.W.Write.contents c.send_line.new.self.inner)
+    (codes "uahist: ") (c.args.text.now ++ 10 ∷ []) c.in-Ok.ensures.ok c.send_line.ensures.part
 
 pub returns-in-Err-clause-part : goal.returns-in-Err-clause-part
-returns-in-Err-clause-part g c = part-first (g.W.Write.contents c.args.errors.now.inner) (g.W.Write.contents c.send.new.self.inner) (codes "uahist: ") (c.args.text.now ++ 10 ∷ []) c.in-Err.ensures.part
+returns-in-Err-clause-part g c = part-first (g.W.Write.contents c.args.errors.now.inner)
+    (g.W.Write.contents c.send.new.self.inner) (codes "uahist: ")
+    (c.args.text.now ++ 10 ∷ []) c.in-Err.ensures.part

@@ -4,7 +4,8 @@ use Rattle.multiplex.specs.declared.handler.SlotEnd.TheVariants.{IdleTimeout}
 use Rattle.multiplex.proofs.Stepping.{stopped}
 use Rattle.multiplex.proofs.slot.Slot+H+R+W+H+End.stop_if_idle.Goals as goal
 
-pub returns-then-saturating_sub-ge-IDLE_LIMIT-clause-steps : goal.returns-then-saturating_sub-ge-IDLE_LIMIT-clause-steps
+pub returns-then-saturating_sub-ge-IDLE_LIMIT-clause-steps :
+    goal.returns-then-saturating_sub-ge-IDLE_LIMIT-clause-steps
 returns-then-saturating_sub-ge-IDLE_LIMIT-clause-steps g c v room =
     let i = c.self.inside in
     let long : i.active + 120000 ≤ c.args.now = omega (
