@@ -1,5 +1,5 @@
 -- A client alone, step by step: for the law `a_client_alone_is_answered`.
-use Rattle.std.proofs.Common.{◌≡◌, ◌∙◌, ℕ, ℤ, List, [], ◌∷◌, ◌++◌, refl, ap, sym, subst, append_assoc}
+use Rattle.std.proofs.Common.{◌≡◌, ◌∙◌, ◌⊎◌, inl, inr, ℕ, ℤ, ◌≤◌, nat_lt, Bool, true, false, List, [], ◌∷◌, ◌++◌, length, refl, ap, sym, subst, append_assoc, arith, rules}
 use Rattle.std.specs.Prelude.{Option, None, Some}
 use Rattle.std.specs.Option.{option_map}
 use Rattle.std.proofs.lemmas.List.{append-nil}
@@ -16,14 +16,14 @@ use Rattle.multiplex.specs.declared.handler.SlotEnd.TheVariants.{Finished}
 use Rattle.ua_settings.specs.Settings.{SettingsValues}
 use Rattle.ua_connection.specs.Environments.{Environment, before, empty_environment}
 use Rattle.ua_connection.specs.Client.{Ending as ClientEnding, chunks}
-use Rattle.ua_connection.specs.Turns.{ConnectionState, Advances, AnswersBytes}
+use Rattle.ua_connection.specs.Turns.{ConnectionState, new_link, Advances, AnswersBytes}
 use Rattle.ua_connection.proofs.Runs.{answers-more}
 use Rattle.ua_connection.proofs.Turning.{turned-none}
 use Rattle.ua_connection.proofs.Flow.{turned-then}
 use Rattle.conversation.specs.declared.other_end.OtherEnd.{OtherEnd}
-use Rattle.conversation.specs.declared.other_end.OtherEnd.TheVariants.{Client, Over}
+use Rattle.conversation.specs.declared.other_end.OtherEnd.TheVariants.{Unknown, Client, Over}
 use Rattle.conversation.specs.declared.world.World.{World}
-use Rattle.conversation.specs.OtherEnds.{Ending, unless_over}
+use Rattle.conversation.specs.OtherEnds.{Ending, is_peers, known_by, unless_over}
 use Rattle.conversation.specs.Receiving.{Receives}
 use Rattle.conversation.specs.Answering.{Answers, client_ending}
 use Rattle.conversation.specs.Alone.{still_behavior, AreTaken, IsAnswered}
@@ -52,6 +52,24 @@ IsStill v came made w next = (came ≡ []) × (made ≡ []) × (w ≡ v) × (nex
 ends-known : (end : Option Ending) (link : ConnectionState) → unless_over end (Client link) ≡ Over → option_map Finished end ≡ None → ⊥
 ends-known None link over none = cc
 ends-known (Some e) link over none = cc
+
+too-few : (letters : List ℕ) → nat_lt (length letters) 3 ≡ true → 3 ≤ length letters → ⊥
+too-few letters few long = absurd (grind (arith, rules))
+
+-- the first three letters tell whose connection it is, whatever follows
+peers-more : (came more : List ℕ) → nat_lt (length came) 3 ≡ false → is_peers (came ++ more) ≡ is_peers came
+peers-more [] more long = cc
+peers-more (a ∷ []) more long = cc
+peers-more (a ∷ b ∷ []) more long = cc
+peers-more (a ∷ b ∷ c ∷ came) more long = refl
+
+-- who brought these bytes, and more, is no peer: nobody is known yet, or a client
+known : (came more : List ℕ) → is_peers (came ++ more) ≡ false → ((nat_lt (length came) 3 ≡ true) × (known_by came ≡ Unknown came)) ⊎ (known_by came ≡ Client (with_more new_link came))
+known came more client = by (nat_lt (length came) 3) refl
+  where
+    by : (b : Bool) → nat_lt (length came) 3 ≡ b → ((nat_lt (length came) 3 ≡ true) × (known_by came ≡ Unknown came)) ⊎ (known_by came ≡ Client (with_more new_link came))
+    by true e = inl (e, rw e refl)
+    by false e = inr (rw e (rw (sym (peers-more came more e) ∙ client) refl))
 
 module _ {R W A C : Type 0} (input : Input R) (output : Output W) (state : A → Store) (gave : C → List ℤ → C → Type 0) where
   -- the steps behind an end
@@ -152,7 +170,7 @@ module _ {R W A C : Type 0} (input : Input R) (output : Output W) (state : A →
           (subst (λ (o : OtherEnd). IsAnswered state gave u link [] (made ++ []) b o) (sym rest.3) whole)))
 
   module _ (gave_none : (clock : C) → gave clock [] clock) (gave_more : (a b c : C) (xs ys : List ℤ) → gave a xs b → gave b ys c → gave a (xs ++ ys) c) where
-    pub alone : (v w : World A C) (link : ConnectionState) (old new : Slot OtherEnd R W Ending) (steps : List (Step Ending)) → old.handler ≡ Client link → AreTaken steps → AreOwnSteps input output (still_behavior state gave) v old steps w new
+    alone : (v w : World A C) (link : ConnectionState) (old new : Slot OtherEnd R W Ending) (steps : List (Step Ending)) → old.handler ≡ Client link → AreTaken steps → AreOwnSteps input output (still_behavior state gave) v old steps w new
         → IsAnswered state gave v link (bytes_received steps) (bytes_made steps) w new.handler
     alone v w link old new [] is taken own = none-answered gave_none v w link new.handler own.0 (ap (λ (s : Slot OtherEnd R W Ending). s.handler) own.1 ∙ is)
     alone v w link old new (step.Receives bytes made end ∷ steps) is taken own =
@@ -188,3 +206,47 @@ module _ {R W A C : Type 0} (input : Input R) (output : Output W) (state : A →
     alone v w link old new (step.Wakes ∷ steps) is taken own =
         same-answered v own.1 w link (bytes_received steps) (bytes_made steps) new.handler (own.5.0 ∙ own.4)
         (alone own.1 w link own.3 new steps (ap (λ (s : Slot OtherEnd R W Ending). s.handler) own.5.1 ∙ is) taken.1 own.6)
+
+    -- the same from the first letter on
+    pub from-letters : (v w : World A C) (letters : List ℕ) (old new : Slot OtherEnd R W Ending) (steps : List (Step Ending)) → old.handler ≡ Unknown letters → nat_lt (length letters) 3 ≡ true → AreTaken steps
+        → 3 ≤ length (letters ++ bytes_received steps) → is_peers (letters ++ bytes_received steps) ≡ false → AreOwnSteps input output (still_behavior state gave) v old steps w new
+        → IsAnswered state gave v new_link (letters ++ bytes_received steps) (bytes_made steps) w new.handler
+    from-letters v w letters old new [] is few taken long client own = absurd (too-few letters few (subst (λ (came : List ℕ). 3 ≤ length came) (append-nil letters) long))
+    from-letters v w letters old new (step.Receives bytes made end ∷ steps) is few taken long client own =
+        let got = subst (λ (e : Option Ending). Receives (Unknown letters) bytes made e own.3.handler) taken.0 (subst (λ (o : OtherEnd). Receives o bytes made end own.3.handler) is own.5.1.receives) in
+        let rest = bytes_received steps in
+        let same = append_assoc letters bytes rest in
+        let long_so : 3 ≤ length ((letters ++ bytes) ++ rest) = subst (λ (came : List ℕ). 3 ≤ length came) (sym same) long in
+        let client_so : is_peers ((letters ++ bytes) ++ rest) ≡ false = subst (λ (came : List ℕ). is_peers came ≡ false) (sym same) client in
+        let on : IsAnswered state gave own.1 new_link ((letters ++ bytes) ++ rest) (bytes_made steps) w new.handler =
+        elim (known (letters ++ bytes) rest client_so) [
+          | inl more ↦ from-letters own.1 w (letters ++ bytes) own.3 new steps (got.1 ∙ more.1) more.0 taken.1 long_so client_so own.6
+          | inr now ↦ came-answered own.1 w new_link (letters ++ bytes) rest (bytes_made steps) new.handler (alone own.1 w (with_more new_link (letters ++ bytes)) own.3 new steps (got.1 ∙ now) taken.1 own.6)
+        ] in
+        same-answered v own.1 w new_link (letters ++ (bytes ++ rest)) (made ++ bytes_made steps) new.handler (own.5.0 ∙ own.4)
+        (subst (λ (came : List ℕ). IsAnswered state gave own.1 new_link came (made ++ bytes_made steps) w new.handler) same
+        (subst (λ (m : List ℕ). IsAnswered state gave own.1 new_link ((letters ++ bytes) ++ rest) (m ++ bytes_made steps) w new.handler) (sym got.0) on))
+    from-letters v w letters old new (step.Answers made end ∷ steps) is few taken long client own =
+        let said = subst (λ (o : OtherEnd). Answers state gave own.0 o made end own.1 own.3.handler) is own.5.answers in
+        let on = from-letters own.1 w letters own.3 new steps said.3 few taken.1 long client own.6 in
+        same-answered v own.1 w new_link (letters ++ bytes_received steps) (made ++ bytes_made steps) new.handler (said.2 ∙ own.4)
+        (subst (λ (m : List ℕ). IsAnswered state gave own.1 new_link (letters ++ bytes_received steps) (m ++ bytes_made steps) w new.handler) (sym said.0) on)
+    from-letters v w letters old new (step.Lacks ∷ steps) is few taken long client own =
+        let said = subst (λ (o : OtherEnd). Answers state gave own.0 o [] None own.1 own.3.handler) is own.5.answers in
+        same-answered v own.1 w new_link (letters ++ bytes_received steps) (bytes_made steps) new.handler (said.2 ∙ own.4)
+        (from-letters own.1 w letters own.3 new steps said.3 few taken.1 long client own.6)
+    from-letters v w letters old new (step.Writes bytes ∷ steps) is few taken long client own =
+        same-answered v own.1 w new_link (letters ++ bytes_received steps) (bytes_made steps) new.handler (own.5.0 ∙ own.4)
+        (from-letters own.1 w letters own.3 new steps (ap (λ (s : Slot OtherEnd R W Ending). s.handler) own.5.1.others ∙ is) few taken.1 long client own.6)
+    from-letters v w letters old new (step.Stops ending ∷ steps) is few taken long client own =
+        same-answered v own.1 w new_link (letters ++ bytes_received steps) (bytes_made steps) new.handler (own.5.0 ∙ own.4)
+        (from-letters own.1 w letters own.3 new steps (ap (λ (s : Slot OtherEnd R W Ending). s.handler) own.5.1.others ∙ is) few taken.1 long client own.6)
+    from-letters v w letters old new (step.FindsEmpty ∷ steps) is few taken long client own =
+        same-answered v own.1 w new_link (letters ++ bytes_received steps) (bytes_made steps) new.handler (own.5.0 ∙ own.4)
+        (from-letters own.1 w letters own.3 new steps (ap (λ (s : Slot OtherEnd R W Ending). s.handler) own.5.1.others ∙ is) few taken.1 long client own.6)
+    from-letters v w letters old new (step.FindsFull ∷ steps) is few taken long client own =
+        same-answered v own.1 w new_link (letters ++ bytes_received steps) (bytes_made steps) new.handler (own.5.0 ∙ own.4)
+        (from-letters own.1 w letters own.3 new steps (ap (λ (s : Slot OtherEnd R W Ending). s.handler) own.5.1.others ∙ is) few taken.1 long client own.6)
+    from-letters v w letters old new (step.Wakes ∷ steps) is few taken long client own =
+        same-answered v own.1 w new_link (letters ++ bytes_received steps) (bytes_made steps) new.handler (own.5.0 ∙ own.4)
+        (from-letters own.1 w letters own.3 new steps (ap (λ (s : Slot OtherEnd R W Ending). s.handler) own.5.1 ∙ is) few taken.1 long client own.6)

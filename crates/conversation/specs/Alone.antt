@@ -1,5 +1,5 @@
 -- What a client is answered while nobody else changes the world.
-use Rattle.std.specs.Prelude.{◌≡◌, ℕ, ℤ, List, ◌++◌, Option, None}
+use Rattle.std.specs.Prelude.{◌≡◌, ℕ, ℤ, ◌≤◌, false, List, [], ◌++◌, length, Option, None}
 use Rattle.std.specs.List.{AllByRecursion}
 use Rattle.archive.specs.Store.{Store}
 use Rattle.multiplex.specs.Alone.{AreOwnSteps, bytes_received, bytes_made}
@@ -11,11 +11,11 @@ use Rattle.multiplex.specs.Steps.{Step}
 use Rattle.multiplex.specs.Steps as step
 use Rattle.ua_connection.specs.Environments.{Environment}
 use Rattle.ua_connection.specs.Client.{Ending as ClientEnding}
-use Rattle.ua_connection.specs.Turns.{ConnectionState, Advances}
+use Rattle.ua_connection.specs.Turns.{ConnectionState, new_link, Advances}
 use Rattle.conversation.specs.declared.other_end.OtherEnd.{OtherEnd}
-use Rattle.conversation.specs.declared.other_end.OtherEnd.TheVariants.{Client}
+use Rattle.conversation.specs.declared.other_end.OtherEnd.TheVariants.{Unknown, Client}
 use Rattle.conversation.specs.declared.world.World.{World}
-use Rattle.conversation.specs.OtherEnds.{Ending, unless_over}
+use Rattle.conversation.specs.OtherEnds.{Ending, is_peers, unless_over}
 use Rattle.conversation.specs.Answering.{client_ending}
 use Rattle.conversation.specs.Conversing.{behavior_over}
 
@@ -45,11 +45,13 @@ pub record IsAnswered {A C : Type 0} (state : A → Store) (gave : C → List �
       ends later
   pub leaves : next ≡ unless_over (client_ending ends) (Client later)
 
--- while nobody else changes the world a client is answered as on a connection of its own
+-- while nobody else changes the world a client is answered, from its first byte on, as on a
+-- connection of its own
 abbrev pub ClientAloneIsAnswered : {R W A C : Type 0} → Input R → Output W → (A → Store)
     → (C → List ℤ → C → Type 0) → Type 0
 ClientAloneIsAnswered {R} {W} {A} {C} input output state gave =
-    (v w : World A C) (link : ConnectionState) (old new : Slot OtherEnd R W Ending)
-    (steps : List (Step Ending)) → old.handler ≡ Client link → AreTaken steps
+    (v w : World A C) (old new : Slot OtherEnd R W Ending) (steps : List (Step Ending))
+    → old.handler ≡ Unknown [] → AreTaken steps → 3 ≤ length (bytes_received steps)
+    → is_peers (bytes_received steps) ≡ false
     → AreOwnSteps input output (still_behavior state gave) v old steps w new
-    → IsAnswered state gave v link (bytes_received steps) (bytes_made steps) w new.handler
+    → IsAnswered state gave v new_link (bytes_received steps) (bytes_made steps) w new.handler
