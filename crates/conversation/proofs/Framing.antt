@@ -1,5 +1,5 @@
 -- Where no whole frame stands first nothing is said: for the clause `lacks` of `take_frame`.
-use Rattle.std.proofs.Common.{◌≡◌, ◌∙◌, ℕ, List, [], ◌∷◌, ◌++◌, map, Option, None, Some, Result, Ok, Err, refl, ap, sym, subst}
+use Rattle.std.proofs.Common.{◌≡◌, ◌∙◌, ℕ, List, [], ◌∷◌, ◌++◌, map, None, Ok, refl, ap}
 use Rattle.std.specs.List.{flat_map}
 use Rattle.archive.specs.Store.{Store}
 use Rattle.exchange.specs.Frames.{frame_header}

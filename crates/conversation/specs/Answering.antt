@@ -16,7 +16,7 @@ use Rattle.ua_peers.specs.declared.peers.PeerEnded.{PeerEnded}
 use Rattle.conversation.specs.declared.ended.Ended.TheVariants as ended
 use Rattle.conversation.specs.declared.other_end.PeerDialog.{PeerDialog}
 use Rattle.conversation.specs.declared.other_end.OtherEnd.{OtherEnd}
-use Rattle.conversation.specs.declared.other_end.OtherEnd.TheVariants.{Unknown, Client, Peer, Over}
+use Rattle.conversation.specs.declared.other_end.OtherEnd.TheVariants.{Client, Peer}
 use Rattle.conversation.specs.declared.world.World.{World}
 use Rattle.conversation.specs.OtherEnds.{Ending, peer_at, unless_over}
 

@@ -1,5 +1,5 @@
 -- Lemmas: by an answer what is held only grows. A trait's law may name only what stands here.
-use Rattle.std.proofs.Common.{◌≡◌, ◌⊎◌, ℕ, List, [], ◌∷◌, ◌++◌, take, Option, Result, refl, sym, ◌∙◌, subst, inl, inr, false}
+use Rattle.std.proofs.Common.{◌≡◌, ℕ, List, [], ◌∷◌, ◌++◌, take, Option, Result, refl, sym, ◌∙◌, subst, inl, inr}
 use Rattle.records.specs.Lists.{Has}
 use Rattle.records.specs.Contents.{Content, IsWithin, put}
 use Rattle.records.proofs.PutLemmas.{has-put}

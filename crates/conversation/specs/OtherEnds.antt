@@ -1,5 +1,5 @@
 -- Who is at the other end of a connection, by what came.
-use Rattle.std.specs.Prelude.{◌≡◌, ℕ, ◌<◌, nat_lt, nat_le, Bool, true, false, ◌||◌, List, [], ◌++◌, length, codes, Option, None, Some, Result, if◌then◌else◌}
+use Rattle.std.specs.Prelude.{◌≡◌, ℕ, nat_lt, nat_le, Bool, false, ◌||◌, List, ◌++◌, length, codes, Option, None, Some, Result, if◌then◌else◌}
 use Rattle.exchange.specs.Frames.{begins}
 use Rattle.exchange.specs.Dialogs.{DialogState}
 use Rattle.counted_io.specs.declared.fault.ServeFault.{ServeFault}

@@ -1,5 +1,5 @@
 -- What is made of bytes that came.
-use Rattle.std.specs.Prelude.{◌≡◌, ℕ, Bool, true, false, List, [], Option, None, Some, Result, Ok, Err, if◌then◌else◌}
+use Rattle.std.specs.Prelude.{◌≡◌, ℕ, Bool, true, false, List, [], Option, None, Some, Ok, Err, if◌then◌else◌}
 use Rattle.ua_binary.specs.declared.codes.TheConstants.Status.{BAD_OUT_OF_MEMORY}
 use Rattle.uacp.specs.Greeting.{error}
 use Rattle.exchange.specs.declared.fault.ExchangeFault.TheVariants as exchange
@@ -10,7 +10,7 @@ use Rattle.ua_peers.specs.declared.peers.PeerEnded.TheVariants.{Failed}
 use Rattle.conversation.specs.declared.ended.Ended.{Ended}
 use Rattle.conversation.specs.declared.ended.Ended.TheVariants as ended
 use Rattle.conversation.specs.declared.other_end.OtherEnd.{OtherEnd}
-use Rattle.conversation.specs.declared.other_end.OtherEnd.TheVariants.{Unknown, Client, Peer, Over}
+use Rattle.conversation.specs.declared.other_end.OtherEnd.TheVariants.{Peer, Over}
 use Rattle.conversation.specs.OtherEnds.{Ending, with_bytes}
 
 -- it is known to be a peer

@@ -1,4 +1,4 @@
-use Rattle.std.proofs.Common.{refl, ◌∙◌, ap, ◌++◌, List, ℕ}
+use Rattle.std.proofs.Common.{refl}
 use Rattle.ua_peers.proofs.Talking.{end-four}
 use Rattle.conversation.proofs.receiving.tell_starved_peer.Goals as goal
 
