@@ -1,15 +1,14 @@
 //! What stands first in what came, and its answer.
 
-ghost use Rattle.std.specs.Prelude.{◌≡◌, ◌++◌, ◌+◌, ◌≤◌, List, ℕ, [], true, false, nat_le, Some, None, Ok};
+ghost use Rattle.std.specs.Prelude.{◌≡◌, ◌++◌, ◌+◌, ◌≤◌, List, ℕ, [], true, false, None, Ok};
 ghost use Rattle.multiplex.specs.Progress.{end_in};
 ghost use Rattle.multiplex.specs.declared.handler.Progress.TheVariants.{NeedsMore as Lacks};
 ghost use Rattle.exchange.specs.Frames.{frame_header};
-ghost use Rattle.exchange.specs.Dialogs.{DialogState};
 ghost use Rattle.ua_connection.specs.Turns.{NeedsBytes, ending_of};
 ghost use Rattle.ua_connection.specs.declared.turn.Step.TheVariants.{NeedsInput};
-ghost use Rattle.ua_peers.specs.Talking.{ending_of as peer_ending_of, IsReady};
+ghost use Rattle.ua_peers.specs.Talking.{ending_of as peer_ending_of};
 ghost use Rattle.ua_peers.specs.Peers.{Talks};
-ghost use Rattle.conversation.specs.OtherEnds.{peer_at, unless_over, is_established, IsSound};
+ghost use Rattle.conversation.specs.OtherEnds.{unless_over, is_established, IsSound};
 ghost use Rattle.conversation.specs.Answering.{NeedsMore, client_ending, peer_ending, AnswersClient, AnswersPeer, Answers};
 ghost use Rattle.conversation.specs.declared.other_end.OtherEnd.TheVariants.{Client, Peer};
 
