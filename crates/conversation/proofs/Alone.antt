@@ -23,10 +23,10 @@ use Rattle.ua_connection.proofs.Flow.{turned-then}
 use Rattle.conversation.specs.declared.other_end.OtherEnd.{OtherEnd}
 use Rattle.conversation.specs.declared.other_end.OtherEnd.TheVariants.{Unknown, Client, Over}
 use Rattle.conversation.specs.declared.world.World.{World}
-use Rattle.conversation.specs.OtherEnds.{Ending, is_peers, known_by, unless_over}
-use Rattle.conversation.specs.Receiving.{Receives}
-use Rattle.conversation.specs.Answering.{Answers, client_ending}
-use Rattle.conversation.specs.Alone.{still_behavior, AreTaken, IsAnswered}
+use Rattle.conversation.specs.OtherEnds.{ConversationEnding, is_peers, known_by, unless_over}
+use Rattle.conversation.specs.Receiving.{TakesBytes}
+use Rattle.conversation.specs.Answering.{AnswersFirst, client_ending}
+use Rattle.conversation.specs.Alone.{still_behavior, TakesAll, AnswersStretch}
 
 -- this connection, with more bytes that wait
 abbrev with_more : ConnectionState → List ℕ → ConnectionState
@@ -49,7 +49,7 @@ fed settings a b link later used made piece advances =
 abbrev IsStill : {A C : Type 0} → World A C → (came made : List ℕ) → World A C → OtherEnd → Type 0
 IsStill v came made w next = (came ≡ []) × (made ≡ []) × (w ≡ v) × (next ≡ Over)
 
-ends-known : (end : Option Ending) (link : ConnectionState) → unless_over end (Client link) ≡ Over → option_map Finished end ≡ None → ⊥
+ends-known : (end : Option ConversationEnding) (link : ConnectionState) → unless_over end (Client link) ≡ Over → option_map Finished end ≡ None → ⊥
 ends-known None link over none = cc
 ends-known (Some e) link over none = cc
 
@@ -73,38 +73,38 @@ known came more client = by (nat_lt (length came) 3) refl
 
 module _ {R W A C : Type 0} (input : Input R) (output : Output W) (state : A → Store) (gave : C → List ℤ → C → Type 0) where
   -- the steps behind an end
-  still : (v w : World A C) (old new : Slot OtherEnd R W Ending) (steps : List (Step Ending)) → old.handler ≡ Over → (old.ending ≡ None → ⊥) → AreOwnSteps input output (still_behavior state gave) v old steps w new
+  still : (v w : World A C) (old new : Slot OtherEnd R W ConversationEnding) (steps : List (Step ConversationEnding)) → old.handler ≡ Over → (old.ending ≡ None → ⊥) → AreOwnSteps input output (still_behavior state gave) v old steps w new
       → IsStill v (bytes_received steps) (bytes_made steps) w new.handler
-  still v w old new [] over ended own = (refl, refl, own.0, ap (λ (s : Slot OtherEnd R W Ending). s.handler) own.1 ∙ over)
+  still v w old new [] over ended own = (refl, refl, own.0, ap (λ (s : Slot OtherEnd R W ConversationEnding). s.handler) own.1 ∙ over)
   still v w old new (step.Receives bytes made end ∷ steps) over ended own = absurd (ended own.5.1.responsive.0)
   still v w old new (step.Answers made end ∷ steps) over ended own = absurd (ended own.5.responsive.0)
   still v w old new (step.Lacks ∷ steps) over ended own =
-      let said = subst (λ (o : OtherEnd). Answers state gave own.0 o [] None own.1 own.3.handler) over own.5.answers in
-      let on = still own.1 w own.3 new steps said.3 (λ e. ended (sym (ap (λ (s : Slot OtherEnd R W Ending). s.ending) own.5.others) ∙ e)) own.6 in
+      let said = subst (λ (o : OtherEnd). AnswersFirst state gave own.0 o [] None own.1 own.3.handler) over own.5.answers in
+      let on = still own.1 w own.3 new steps said.3 (λ e. ended (sym (ap (λ (s : Slot OtherEnd R W ConversationEnding). s.ending) own.5.others) ∙ e)) own.6 in
       (on.0, on.1, on.2 ∙ said.2 ∙ own.4, on.3)
   still v w old new (step.Writes bytes ∷ steps) over ended own =
-      let on = still own.1 w own.3 new steps (ap (λ (s : Slot OtherEnd R W Ending). s.handler) own.5.1.others ∙ over) (λ e. ended (sym (ap (λ (s : Slot OtherEnd R W Ending). s.ending) own.5.1.others) ∙ e)) own.6 in
+      let on = still own.1 w own.3 new steps (ap (λ (s : Slot OtherEnd R W ConversationEnding). s.handler) own.5.1.others ∙ over) (λ e. ended (sym (ap (λ (s : Slot OtherEnd R W ConversationEnding). s.ending) own.5.1.others) ∙ e)) own.6 in
       (on.0, on.1, on.2 ∙ own.5.0 ∙ own.4, on.3)
   still v w old new (step.Stops ending ∷ steps) over ended own =
-      let on = still own.1 w own.3 new steps (ap (λ (s : Slot OtherEnd R W Ending). s.handler) own.5.1.others ∙ over) (λ e. cc (ap (λ (s : Slot OtherEnd R W Ending). s.ending) own.5.1.others, e)) own.6 in
+      let on = still own.1 w own.3 new steps (ap (λ (s : Slot OtherEnd R W ConversationEnding). s.handler) own.5.1.others ∙ over) (λ e. cc (ap (λ (s : Slot OtherEnd R W ConversationEnding). s.ending) own.5.1.others, e)) own.6 in
       (on.0, on.1, on.2 ∙ own.5.0 ∙ own.4, on.3)
   still v w old new (step.FindsEmpty ∷ steps) over ended own =
-      let on = still own.1 w own.3 new steps (ap (λ (s : Slot OtherEnd R W Ending). s.handler) own.5.1.others ∙ over) (λ e. ended (sym (ap (λ (s : Slot OtherEnd R W Ending). s.ending) own.5.1.others) ∙ e)) own.6 in
+      let on = still own.1 w own.3 new steps (ap (λ (s : Slot OtherEnd R W ConversationEnding). s.handler) own.5.1.others ∙ over) (λ e. ended (sym (ap (λ (s : Slot OtherEnd R W ConversationEnding). s.ending) own.5.1.others) ∙ e)) own.6 in
       (on.0, on.1, on.2 ∙ own.5.0 ∙ own.4, on.3)
   still v w old new (step.FindsFull ∷ steps) over ended own =
-      let on = still own.1 w own.3 new steps (ap (λ (s : Slot OtherEnd R W Ending). s.handler) own.5.1.others ∙ over) (λ e. ended (sym (ap (λ (s : Slot OtherEnd R W Ending). s.ending) own.5.1.others) ∙ e)) own.6 in
+      let on = still own.1 w own.3 new steps (ap (λ (s : Slot OtherEnd R W ConversationEnding). s.handler) own.5.1.others ∙ over) (λ e. ended (sym (ap (λ (s : Slot OtherEnd R W ConversationEnding). s.ending) own.5.1.others) ∙ e)) own.6 in
       (on.0, on.1, on.2 ∙ own.5.0 ∙ own.4, on.3)
   still v w old new (step.Wakes ∷ steps) over ended own =
-      let on = still own.1 w own.3 new steps (ap (λ (s : Slot OtherEnd R W Ending). s.handler) own.5.1 ∙ over) (λ e. ended (sym (ap (λ (s : Slot OtherEnd R W Ending). s.ending) own.5.1) ∙ e)) own.6 in
+      let on = still own.1 w own.3 new steps (ap (λ (s : Slot OtherEnd R W ConversationEnding). s.handler) own.5.1 ∙ over) (λ e. ended (sym (ap (λ (s : Slot OtherEnd R W ConversationEnding). s.ending) own.5.1) ∙ e)) own.6 in
       (on.0, on.1, on.2 ∙ own.5.0 ∙ own.4, on.3)
 
   -- from the same world
-  same-answered : (v u w : World A C) (link : ConnectionState) (came made : List ℕ) (next : OtherEnd) → u ≡ v → IsAnswered state gave u link came made w next → IsAnswered state gave v link came made w next
-  same-answered v u w link came made next e is = subst (λ (x : World A C). IsAnswered state gave x link came made w next) e is
+  same-answered : (v u w : World A C) (link : ConnectionState) (came made : List ℕ) (next : OtherEnd) → u ≡ v → AnswersStretch state gave u link came made w next → AnswersStretch state gave v link came made w next
+  same-answered v u w link came made next e is = subst (λ (x : World A C). AnswersStretch state gave x link came made w next) e is
 
   -- nothing was answered
-  none-answered : ((clock : C) → gave clock [] clock) → (v w : World A C) (link : ConnectionState) (next : OtherEnd) → w ≡ v → next ≡ Client link → IsAnswered state gave v link [] [] w next
-  none-answered gave_none v w link next e is = subst (λ (x : World A C). IsAnswered state gave v link [] [] x next) (sym e) (record {
+  none-answered : ((clock : C) → gave clock [] clock) → (v w : World A C) (link : ConnectionState) (next : OtherEnd) → w ≡ v → next ≡ Client link → AnswersStretch state gave v link [] [] w next
+  none-answered gave_none v w link next e is = subst (λ (x : World A C). AnswersStretch state gave v link [] [] x next) (sym e) (record {
     used = empty_environment;
     ends = None;
     later = with_more link [];
@@ -115,7 +115,7 @@ module _ {R W A C : Type 0} (input : Input R) (output : Output W) (state : A →
   })
 
   -- bytes came, and what came behind them was answered
-  came-answered : (v w : World A C) (link : ConnectionState) (bytes came made : List ℕ) (next : OtherEnd) → IsAnswered state gave v (with_more link bytes) came made w next → IsAnswered state gave v link (bytes ++ came) made w next
+  came-answered : (v w : World A C) (link : ConnectionState) (bytes came made : List ℕ) (next : OtherEnd) → AnswersStretch state gave v (with_more link bytes) came made w next → AnswersStretch state gave v link (bytes ++ came) made w next
   came-answered v w link bytes came made next is = record {
     used = is.used;
     ends = is.ends;
@@ -128,16 +128,16 @@ module _ {R W A C : Type 0} (input : Input R) (output : Output W) (state : A →
   }
 
   -- an answer, and what came behind it
-  first-answered : ((a b c : C) (xs ys : List ℤ) → gave a xs b → gave b ys c → gave a (xs ++ ys) c) → (u b w : World A C) (link : ConnectionState) (made came more : List ℕ) (ending : Option Ending) (next last : OtherEnd)
-      → Answers state gave u (Client link) made ending b next
-      → ((later : ConnectionState) → next ≡ Client later → IsAnswered state gave b later came more w last)
+  first-answered : ((a b c : C) (xs ys : List ℤ) → gave a xs b → gave b ys c → gave a (xs ++ ys) c) → (u b w : World A C) (link : ConnectionState) (made came more : List ℕ) (ending : Option ConversationEnding) (next last : OtherEnd)
+      → AnswersFirst state gave u (Client link) made ending b next
+      → ((later : ConnectionState) → next ≡ Client later → AnswersStretch state gave b later came more w last)
       → (next ≡ Over → IsStill b came more w last)
-      → IsAnswered state gave u link came (made ++ more) w last
+      → AnswersStretch state gave u link came (made ++ more) w last
   first-answered gave_more u b w link made came more ending next last is on over = by is.1.ends is.1.advances is.1.ended_so
     where
-      by : (ends : Option ClientEnding) → Advances u.server.settings (state u.server.replica.archive) (state b.server.replica.archive) link is.1.used made ends is.1.later → ending ≡ client_ending ends → IsAnswered state gave u link came (made ++ more) w last
+      by : (ends : Option ClientEnding) → Advances u.server.settings (state u.server.replica.archive) (state b.server.replica.archive) link is.1.used made ends is.1.later → ending ≡ client_ending ends → AnswersStretch state gave u link came (made ++ more) w last
       by None advances so =
-          let goes : next ≡ Client is.1.later = is.1.leaves ∙ ap (λ (e : Option Ending). unless_over e (Client is.1.later)) so in
+          let goes : next ≡ Client is.1.later = is.1.leaves ∙ ap (λ (e : Option ConversationEnding). unless_over e (Client is.1.later)) so in
           let more_so = on is.1.later goes in
           let first = fed u.server.settings (state u.server.replica.archive) (state b.server.replica.archive) link is.1.later is.1.used made came advances in
           let second = subst (λ (s : SettingsValues). Advances s (state b.server.replica.archive) (state w.server.replica.archive) (with_more is.1.later came) more_so.used more more_so.ends more_so.later) is.0 more_so.advances in
@@ -151,9 +151,9 @@ module _ {R W A C : Type 0} (input : Input R) (output : Output W) (state : A →
             leaves = more_so.leaves;
           }
       by (Some e) advances so =
-          let ended : next ≡ Over = is.1.leaves ∙ ap (λ (x : Option Ending). unless_over x (Client is.1.later)) so in
+          let ended : next ≡ Over = is.1.leaves ∙ ap (λ (x : Option ConversationEnding). unless_over x (Client is.1.later)) so in
           let rest = over ended in
-          let whole : IsAnswered state gave u link [] (made ++ []) b Over = record {
+          let whole : AnswersStretch state gave u link [] (made ++ []) b Over = record {
             used = is.1.used;
             ends = Some e;
             later = is.1.later;
@@ -164,89 +164,89 @@ module _ {R W A C : Type 0} (input : Input R) (output : Output W) (state : A →
                 (subst (λ (m : List ℕ). Advances u.server.settings (state u.server.replica.archive) (state b.server.replica.archive) link is.1.used m (Some e) is.1.later) (sym (append-nil made)) advances);
             leaves = refl;
           } in
-          subst (λ (x : List ℕ). IsAnswered state gave u link x (made ++ more) w last) (sym rest.0)
-          (subst (λ (m : List ℕ). IsAnswered state gave u link [] (made ++ m) w last) (sym rest.1)
-          (subst (λ (x : World A C). IsAnswered state gave u link [] (made ++ []) x last) (sym rest.2)
-          (subst (λ (o : OtherEnd). IsAnswered state gave u link [] (made ++ []) b o) (sym rest.3) whole)))
+          subst (λ (x : List ℕ). AnswersStretch state gave u link x (made ++ more) w last) (sym rest.0)
+          (subst (λ (m : List ℕ). AnswersStretch state gave u link [] (made ++ m) w last) (sym rest.1)
+          (subst (λ (x : World A C). AnswersStretch state gave u link [] (made ++ []) x last) (sym rest.2)
+          (subst (λ (o : OtherEnd). AnswersStretch state gave u link [] (made ++ []) b o) (sym rest.3) whole)))
 
   module _ (gave_none : (clock : C) → gave clock [] clock) (gave_more : (a b c : C) (xs ys : List ℤ) → gave a xs b → gave b ys c → gave a (xs ++ ys) c) where
-    alone : (v w : World A C) (link : ConnectionState) (old new : Slot OtherEnd R W Ending) (steps : List (Step Ending)) → old.handler ≡ Client link → AreTaken steps → AreOwnSteps input output (still_behavior state gave) v old steps w new
-        → IsAnswered state gave v link (bytes_received steps) (bytes_made steps) w new.handler
-    alone v w link old new [] is taken own = none-answered gave_none v w link new.handler own.0 (ap (λ (s : Slot OtherEnd R W Ending). s.handler) own.1 ∙ is)
+    alone : (v w : World A C) (link : ConnectionState) (old new : Slot OtherEnd R W ConversationEnding) (steps : List (Step ConversationEnding)) → old.handler ≡ Client link → TakesAll steps → AreOwnSteps input output (still_behavior state gave) v old steps w new
+        → AnswersStretch state gave v link (bytes_received steps) (bytes_made steps) w new.handler
+    alone v w link old new [] is taken own = none-answered gave_none v w link new.handler own.0 (ap (λ (s : Slot OtherEnd R W ConversationEnding). s.handler) own.1 ∙ is)
     alone v w link old new (step.Receives bytes made end ∷ steps) is taken own =
-        let got = subst (λ (e : Option Ending). Receives (Client link) bytes made e own.3.handler) taken.0 (subst (λ (o : OtherEnd). Receives o bytes made end own.3.handler) is own.5.1.receives) in
+        let got = subst (λ (e : Option ConversationEnding). TakesBytes (Client link) bytes made e own.3.handler) taken.0 (subst (λ (o : OtherEnd). TakesBytes o bytes made end own.3.handler) is own.5.1.receives) in
         let on = alone own.1 w (with_more link bytes) own.3 new steps got.1 taken.1 own.6 in
         let behind = came-answered own.1 w link bytes (bytes_received steps) (bytes_made steps) new.handler on in
         same-answered v own.1 w link (bytes ++ bytes_received steps) (made ++ bytes_made steps) new.handler (own.5.0 ∙ own.4)
-        (subst (λ (m : List ℕ). IsAnswered state gave own.1 link (bytes ++ bytes_received steps) (m ++ bytes_made steps) w new.handler) (sym got.0) behind)
+        (subst (λ (m : List ℕ). AnswersStretch state gave own.1 link (bytes ++ bytes_received steps) (m ++ bytes_made steps) w new.handler) (sym got.0) behind)
     alone v w link old new (step.Answers made end ∷ steps) is taken own =
-        let said = subst (λ (o : OtherEnd). Answers state gave own.0 o made end own.1 own.3.handler) is own.5.answers in
+        let said = subst (λ (o : OtherEnd). AnswersFirst state gave own.0 o made end own.1 own.3.handler) is own.5.answers in
         same-answered v own.0 w link (bytes_received steps) (made ++ bytes_made steps) new.handler own.4
         (first-answered gave_more own.0 own.1 w link made (bytes_received steps) (bytes_made steps) end own.3.handler new.handler said
         (λ later goes. alone own.1 w later own.3 new steps goes taken.1 own.6)
-        (λ over. still own.1 w own.3 new steps over (λ none. ends-known end said.1.later (sym said.1.leaves ∙ over) (sym (ap (λ (s : Slot OtherEnd R W Ending). s.ending) own.5.others) ∙ none)) own.6))
+        (λ over. still own.1 w own.3 new steps over (λ none. ends-known end said.1.later (sym said.1.leaves ∙ over) (sym (ap (λ (s : Slot OtherEnd R W ConversationEnding). s.ending) own.5.others) ∙ none)) own.6))
     alone v w link old new (step.Lacks ∷ steps) is taken own =
-        let said = subst (λ (o : OtherEnd). Answers state gave own.0 o [] None own.1 own.3.handler) is own.5.answers in
+        let said = subst (λ (o : OtherEnd). AnswersFirst state gave own.0 o [] None own.1 own.3.handler) is own.5.answers in
         same-answered v own.0 w link (bytes_received steps) (bytes_made steps) new.handler own.4
         (first-answered gave_more own.0 own.1 w link [] (bytes_received steps) (bytes_made steps) None own.3.handler new.handler said
         (λ later goes. alone own.1 w later own.3 new steps goes taken.1 own.6)
         (λ over. absurd (cc (said.1.leaves, over))))
     alone v w link old new (step.Writes bytes ∷ steps) is taken own =
         same-answered v own.1 w link (bytes_received steps) (bytes_made steps) new.handler (own.5.0 ∙ own.4)
-        (alone own.1 w link own.3 new steps (ap (λ (s : Slot OtherEnd R W Ending). s.handler) own.5.1.others ∙ is) taken.1 own.6)
+        (alone own.1 w link own.3 new steps (ap (λ (s : Slot OtherEnd R W ConversationEnding). s.handler) own.5.1.others ∙ is) taken.1 own.6)
     alone v w link old new (step.Stops ending ∷ steps) is taken own =
         same-answered v own.1 w link (bytes_received steps) (bytes_made steps) new.handler (own.5.0 ∙ own.4)
-        (alone own.1 w link own.3 new steps (ap (λ (s : Slot OtherEnd R W Ending). s.handler) own.5.1.others ∙ is) taken.1 own.6)
+        (alone own.1 w link own.3 new steps (ap (λ (s : Slot OtherEnd R W ConversationEnding). s.handler) own.5.1.others ∙ is) taken.1 own.6)
     alone v w link old new (step.FindsEmpty ∷ steps) is taken own =
         same-answered v own.1 w link (bytes_received steps) (bytes_made steps) new.handler (own.5.0 ∙ own.4)
-        (alone own.1 w link own.3 new steps (ap (λ (s : Slot OtherEnd R W Ending). s.handler) own.5.1.others ∙ is) taken.1 own.6)
+        (alone own.1 w link own.3 new steps (ap (λ (s : Slot OtherEnd R W ConversationEnding). s.handler) own.5.1.others ∙ is) taken.1 own.6)
     alone v w link old new (step.FindsFull ∷ steps) is taken own =
         same-answered v own.1 w link (bytes_received steps) (bytes_made steps) new.handler (own.5.0 ∙ own.4)
-        (alone own.1 w link own.3 new steps (ap (λ (s : Slot OtherEnd R W Ending). s.handler) own.5.1.others ∙ is) taken.1 own.6)
+        (alone own.1 w link own.3 new steps (ap (λ (s : Slot OtherEnd R W ConversationEnding). s.handler) own.5.1.others ∙ is) taken.1 own.6)
     alone v w link old new (step.Wakes ∷ steps) is taken own =
         same-answered v own.1 w link (bytes_received steps) (bytes_made steps) new.handler (own.5.0 ∙ own.4)
-        (alone own.1 w link own.3 new steps (ap (λ (s : Slot OtherEnd R W Ending). s.handler) own.5.1 ∙ is) taken.1 own.6)
+        (alone own.1 w link own.3 new steps (ap (λ (s : Slot OtherEnd R W ConversationEnding). s.handler) own.5.1 ∙ is) taken.1 own.6)
 
     -- the same from the first letter on
-    pub from-letters : (v w : World A C) (letters : List ℕ) (old new : Slot OtherEnd R W Ending) (steps : List (Step Ending)) → old.handler ≡ Unknown letters → nat_lt (length letters) 3 ≡ true → AreTaken steps
+    pub from-letters : (v w : World A C) (letters : List ℕ) (old new : Slot OtherEnd R W ConversationEnding) (steps : List (Step ConversationEnding)) → old.handler ≡ Unknown letters → nat_lt (length letters) 3 ≡ true → TakesAll steps
         → 3 ≤ length (letters ++ bytes_received steps) → is_peers (letters ++ bytes_received steps) ≡ false → AreOwnSteps input output (still_behavior state gave) v old steps w new
-        → IsAnswered state gave v new_link (letters ++ bytes_received steps) (bytes_made steps) w new.handler
+        → AnswersStretch state gave v new_link (letters ++ bytes_received steps) (bytes_made steps) w new.handler
     from-letters v w letters old new [] is few taken long client own = absurd (too-few letters few (subst (λ (came : List ℕ). 3 ≤ length came) (append-nil letters) long))
     from-letters v w letters old new (step.Receives bytes made end ∷ steps) is few taken long client own =
-        let got = subst (λ (e : Option Ending). Receives (Unknown letters) bytes made e own.3.handler) taken.0 (subst (λ (o : OtherEnd). Receives o bytes made end own.3.handler) is own.5.1.receives) in
+        let got = subst (λ (e : Option ConversationEnding). TakesBytes (Unknown letters) bytes made e own.3.handler) taken.0 (subst (λ (o : OtherEnd). TakesBytes o bytes made end own.3.handler) is own.5.1.receives) in
         let rest = bytes_received steps in
         let same = append_assoc letters bytes rest in
         let long_so : 3 ≤ length ((letters ++ bytes) ++ rest) = subst (λ (came : List ℕ). 3 ≤ length came) (sym same) long in
         let client_so : is_peers ((letters ++ bytes) ++ rest) ≡ false = subst (λ (came : List ℕ). is_peers came ≡ false) (sym same) client in
-        let on : IsAnswered state gave own.1 new_link ((letters ++ bytes) ++ rest) (bytes_made steps) w new.handler =
+        let on : AnswersStretch state gave own.1 new_link ((letters ++ bytes) ++ rest) (bytes_made steps) w new.handler =
         elim (known (letters ++ bytes) rest client_so) [
           | inl more ↦ from-letters own.1 w (letters ++ bytes) own.3 new steps (got.1 ∙ more.1) more.0 taken.1 long_so client_so own.6
           | inr now ↦ came-answered own.1 w new_link (letters ++ bytes) rest (bytes_made steps) new.handler (alone own.1 w (with_more new_link (letters ++ bytes)) own.3 new steps (got.1 ∙ now) taken.1 own.6)
         ] in
         same-answered v own.1 w new_link (letters ++ (bytes ++ rest)) (made ++ bytes_made steps) new.handler (own.5.0 ∙ own.4)
-        (subst (λ (came : List ℕ). IsAnswered state gave own.1 new_link came (made ++ bytes_made steps) w new.handler) same
-        (subst (λ (m : List ℕ). IsAnswered state gave own.1 new_link ((letters ++ bytes) ++ rest) (m ++ bytes_made steps) w new.handler) (sym got.0) on))
+        (subst (λ (came : List ℕ). AnswersStretch state gave own.1 new_link came (made ++ bytes_made steps) w new.handler) same
+        (subst (λ (m : List ℕ). AnswersStretch state gave own.1 new_link ((letters ++ bytes) ++ rest) (m ++ bytes_made steps) w new.handler) (sym got.0) on))
     from-letters v w letters old new (step.Answers made end ∷ steps) is few taken long client own =
-        let said = subst (λ (o : OtherEnd). Answers state gave own.0 o made end own.1 own.3.handler) is own.5.answers in
+        let said = subst (λ (o : OtherEnd). AnswersFirst state gave own.0 o made end own.1 own.3.handler) is own.5.answers in
         let on = from-letters own.1 w letters own.3 new steps said.3 few taken.1 long client own.6 in
         same-answered v own.1 w new_link (letters ++ bytes_received steps) (made ++ bytes_made steps) new.handler (said.2 ∙ own.4)
-        (subst (λ (m : List ℕ). IsAnswered state gave own.1 new_link (letters ++ bytes_received steps) (m ++ bytes_made steps) w new.handler) (sym said.0) on)
+        (subst (λ (m : List ℕ). AnswersStretch state gave own.1 new_link (letters ++ bytes_received steps) (m ++ bytes_made steps) w new.handler) (sym said.0) on)
     from-letters v w letters old new (step.Lacks ∷ steps) is few taken long client own =
-        let said = subst (λ (o : OtherEnd). Answers state gave own.0 o [] None own.1 own.3.handler) is own.5.answers in
+        let said = subst (λ (o : OtherEnd). AnswersFirst state gave own.0 o [] None own.1 own.3.handler) is own.5.answers in
         same-answered v own.1 w new_link (letters ++ bytes_received steps) (bytes_made steps) new.handler (said.2 ∙ own.4)
         (from-letters own.1 w letters own.3 new steps said.3 few taken.1 long client own.6)
     from-letters v w letters old new (step.Writes bytes ∷ steps) is few taken long client own =
         same-answered v own.1 w new_link (letters ++ bytes_received steps) (bytes_made steps) new.handler (own.5.0 ∙ own.4)
-        (from-letters own.1 w letters own.3 new steps (ap (λ (s : Slot OtherEnd R W Ending). s.handler) own.5.1.others ∙ is) few taken.1 long client own.6)
+        (from-letters own.1 w letters own.3 new steps (ap (λ (s : Slot OtherEnd R W ConversationEnding). s.handler) own.5.1.others ∙ is) few taken.1 long client own.6)
     from-letters v w letters old new (step.Stops ending ∷ steps) is few taken long client own =
         same-answered v own.1 w new_link (letters ++ bytes_received steps) (bytes_made steps) new.handler (own.5.0 ∙ own.4)
-        (from-letters own.1 w letters own.3 new steps (ap (λ (s : Slot OtherEnd R W Ending). s.handler) own.5.1.others ∙ is) few taken.1 long client own.6)
+        (from-letters own.1 w letters own.3 new steps (ap (λ (s : Slot OtherEnd R W ConversationEnding). s.handler) own.5.1.others ∙ is) few taken.1 long client own.6)
     from-letters v w letters old new (step.FindsEmpty ∷ steps) is few taken long client own =
         same-answered v own.1 w new_link (letters ++ bytes_received steps) (bytes_made steps) new.handler (own.5.0 ∙ own.4)
-        (from-letters own.1 w letters own.3 new steps (ap (λ (s : Slot OtherEnd R W Ending). s.handler) own.5.1.others ∙ is) few taken.1 long client own.6)
+        (from-letters own.1 w letters own.3 new steps (ap (λ (s : Slot OtherEnd R W ConversationEnding). s.handler) own.5.1.others ∙ is) few taken.1 long client own.6)
     from-letters v w letters old new (step.FindsFull ∷ steps) is few taken long client own =
         same-answered v own.1 w new_link (letters ++ bytes_received steps) (bytes_made steps) new.handler (own.5.0 ∙ own.4)
-        (from-letters own.1 w letters own.3 new steps (ap (λ (s : Slot OtherEnd R W Ending). s.handler) own.5.1.others ∙ is) few taken.1 long client own.6)
+        (from-letters own.1 w letters own.3 new steps (ap (λ (s : Slot OtherEnd R W ConversationEnding). s.handler) own.5.1.others ∙ is) few taken.1 long client own.6)
     from-letters v w letters old new (step.Wakes ∷ steps) is few taken long client own =
         same-answered v own.1 w new_link (letters ++ bytes_received steps) (bytes_made steps) new.handler (own.5.0 ∙ own.4)
-        (from-letters own.1 w letters own.3 new steps (ap (λ (s : Slot OtherEnd R W Ending). s.handler) own.5.1 ∙ is) few taken.1 long client own.6)
+        (from-letters own.1 w letters own.3 new steps (ap (λ (s : Slot OtherEnd R W ConversationEnding). s.handler) own.5.1 ∙ is) few taken.1 long client own.6)

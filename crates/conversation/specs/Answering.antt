@@ -18,28 +18,28 @@ use Rattle.conversation.specs.declared.other_end.PeerDialog.{PeerDialog}
 use Rattle.conversation.specs.declared.other_end.OtherEnd.{OtherEnd}
 use Rattle.conversation.specs.declared.other_end.OtherEnd.TheVariants.{Client, Peer}
 use Rattle.conversation.specs.declared.world.World.{World}
-use Rattle.conversation.specs.OtherEnds.{Ending, peer_at, unless_over}
+use Rattle.conversation.specs.OtherEnds.{ConversationEnding, peer_at, unless_over}
 
 -- nothing whole stands first
-abbrev pub NeedsMore : OtherEnd → Type 0
-NeedsMore other = elim other [
+abbrev pub IsIncomplete : OtherEnd → Type 0
+IsIncomplete other = elim other [
   | Client link ↦ NeedsBytes link
   | Peer peer ↦ frame_header peer.frames.waiting ≡ Ok None
   | _ ↦ Unit {0}
 ]
 
 -- how a client's connection ended, as that of any connection
-abbrev pub client_ending : Option ClientEnding → Option Ending
+abbrev pub client_ending : Option ClientEnding → Option ConversationEnding
 client_ending = option_map (result_map_both ended.Client (λ fault. fault))
 
 -- how a peer's dialog ended, as the end of any connection
-abbrev pub peer_ending : Option (Result PeerEnded ServeFault) → Option Ending
+abbrev pub peer_ending : Option (Result PeerEnded ServeFault) → Option ConversationEnding
 peer_ending = option_map (result_map_both ended.Peer (λ fault. fault))
 
 -- what stood first on a client's connection was answered, by one step over an archive
 pub record AnswersClient (settings : SettingsValues) (old new : Store)
-    (gave : List ℤ → Type 0) (link : ConnectionState) (made : List ℕ) (ending : Option Ending)
-    (next : OtherEnd) : Type 0 where
+    (gave : List ℤ → Type 0) (link : ConnectionState) (made : List ℕ)
+    (ending : Option ConversationEnding) (next : OtherEnd) : Type 0 where
   pub used : Environment
   pub ends : Option ClientEnding
   pub later : ConnectionState
@@ -49,15 +49,15 @@ pub record AnswersClient (settings : SettingsValues) (old new : Store)
   pub leaves : next ≡ unless_over ending (Client later)
 
 -- what was said to a peer is written and its dialog goes on or ends; or memory for that is wanting
-abbrev pub Tells : List ℕ → Option (Result PeerEnded ServeFault) → (made : List ℕ) → Option Ending
-    → Type 0
+abbrev pub Tells : List ℕ → Option (Result PeerEnded ServeFault) → (made : List ℕ)
+    → Option ConversationEnding → Type 0
 Tells said ends made ending =
     ((made ≡ said) × (ending ≡ peer_ending ends))
     ⊎ ((made ≡ []) × (ending ≡ Some (Err OutOfMemory)))
 
 -- the frame that stood first in a peer's dialog, if it was whole, was answered over an archive
 pub record AnswersPeer (old new : Store) (peer : PeerDialog) (made : List ℕ)
-    (ending : Option Ending) (next : OtherEnd) : Type 0 where
+    (ending : Option ConversationEnding) (next : OtherEnd) : Type 0 where
   pub said : List ℕ
   pub rest : List ℕ
   pub ends : Option (Result PeerEnded ServeFault)
@@ -68,16 +68,16 @@ pub record AnswersPeer (old new : Store) (peer : PeerDialog) (made : List ℕ)
   pub leaves : next ≡ unless_over ending (Peer (peer_at last rest))
 
 -- what stood first was answered over a world, if it was whole; what the server is set to stays
-abbrev pub Answers : {A C : Type 0} → (A → Store) → (C → List ℤ → C → Type 0) → World A C
-    → OtherEnd → (made : List ℕ) → Option Ending → World A C → OtherEnd → Type 0
-Answers state gave v (Client link) made ending w next =
+abbrev pub AnswersFirst : {A C : Type 0} → (A → Store) → (C → List ℤ → C → Type 0) → World A C
+    → OtherEnd → (made : List ℕ) → Option ConversationEnding → World A C → OtherEnd → Type 0
+AnswersFirst state gave v (Client link) made ending w next =
     (w.server.settings ≡ v.server.settings)
     × AnswersClient v.server.settings (state v.server.replica.archive)
     (state w.server.replica.archive) (λ readings. gave v.clock readings w.clock) link made ending
     next
-Answers state gave v (Peer peer) made ending w next =
+AnswersFirst state gave v (Peer peer) made ending w next =
     (w.server.settings ≡ v.server.settings) × (w.clock ≡ v.clock)
     × AnswersPeer (state v.server.replica.archive) (state w.server.replica.archive) peer made
     ending next
-Answers state gave v other made ending w next =
+AnswersFirst state gave v other made ending w next =
     (made ≡ []) × (ending ≡ None) × (w ≡ v) × (next ≡ other)

@@ -8,8 +8,8 @@ ghost use Rattle.ua_connection.specs.Turns.{NeedsBytes, ending_of};
 ghost use Rattle.ua_connection.specs.declared.turn.Step.TheVariants.{NeedsInput};
 ghost use Rattle.ua_peers.specs.Talking.{ending_of as peer_ending_of};
 ghost use Rattle.ua_peers.specs.Peers.{Talks};
-ghost use Rattle.conversation.specs.OtherEnds.{unless_over, is_established, IsSound};
-ghost use Rattle.conversation.specs.Answering.{NeedsMore, client_ending, peer_ending, AnswersClient, AnswersPeer, Answers};
+ghost use Rattle.conversation.specs.OtherEnds.{unless_over, is_established, IsUsable};
+ghost use Rattle.conversation.specs.Answering.{IsIncomplete, client_ending, peer_ending, AnswersClient, AnswersPeer, AnswersFirst};
 ghost use Rattle.conversation.specs.declared.other_end.OtherEnd.TheVariants.{Client, Peer};
 
 use crate::ended::Ended;
@@ -90,7 +90,7 @@ fn take_frame<A: Archive>(
     peer: &mut PeerDialog,
     said: &mut Vec<u8>,
 ) -> Progress<Result<Ended, ServeFault>>
-    requires sound { IsSound (Peer peer.old) }
+    requires sound { IsUsable (Peer peer.old) }
     requires empty { said.old.items ≡ [] }
     ensures talks { (ends : _) × (end_in result ≡ peer_ending ends)
         × Talks peer.old.dialog (A.state server.old.replica.archive)
@@ -98,7 +98,7 @@ fn take_frame<A: Archive>(
         peer.new.frames.waiting ends peer.new.dialog }
     ensures settings { server.new.settings ≡ server.old.settings }
     ensures goes { end_in result ≡ None
-        → IsSound (Peer peer.new) × (peer.new.dialog.taken ≤ peer.old.dialog.taken + 1) }
+        → IsUsable (Peer peer.new) × (peer.new.dialog.taken ≤ peer.old.dialog.taken + 1) }
     ensures lacks { result ≡ Lacks
         → (said.new.items ≡ []) × (frame_header peer.new.frames.waiting ≡ Ok None) }
 {
@@ -136,12 +136,12 @@ fn answer_peer<A: Archive>(
     peer: &mut PeerDialog,
     out: &mut Vec<u8>,
 ) -> Progress<Result<Ended, ServeFault>>
-    requires { IsSound (Peer peer.old) }
+    requires { IsUsable (Peer peer.old) }
     ensures answers { (made : List ℕ) × (out.new.items ≡ out.old.items ++ made)
         × AnswersPeer (A.state server.old.replica.archive) (A.state server.new.replica.archive)
         peer.old made (end_in result) (unless_over (end_in result) (Peer peer.new)) }
     ensures settings { server.new.settings ≡ server.old.settings }
-    ensures sound { end_in result ≡ None → IsSound (Peer peer.new) }
+    ensures sound { end_in result ≡ None → IsUsable (Peer peer.new) }
     ensures lacks { result ≡ Lacks
         → (out.new.items ≡ out.old.items) × (frame_header peer.new.frames.waiting ≡ Ok None) }
 {
@@ -176,11 +176,11 @@ pub(crate) fn answer_first<A: Archive, C: Clock>(
     other: &mut OtherEnd,
     out: &mut Vec<u8>,
 ) -> Progress<Result<Ended, ServeFault>>
-    requires { IsSound other.old }
+    requires { IsUsable other.old }
     ensures answers { (made : List ℕ) × (out.new.items ≡ out.old.items ++ made)
-        × Answers A.state C.gave world.old other.old made (end_in result) world.new other.new }
-    ensures sound { IsSound other.new }
-    ensures lacks { result ≡ Lacks → (out.new.items ≡ out.old.items) × NeedsMore other.new }
+        × AnswersFirst A.state C.gave world.old other.old made (end_in result) world.new other.new }
+    ensures sound { IsUsable other.new }
+    ensures lacks { result ≡ Lacks → (out.new.items ≡ out.old.items) × IsIncomplete other.new }
 {
     match other {
         OtherEnd::Client(connection) => {
