@@ -133,35 +133,35 @@ module _ {R W A C : Type 0} (input : Input R) (output : Output W) (state : A →
       → ((later : ConnectionState) → next ≡ Client later → AnswersStretch state gave b later came more w last)
       → (next ≡ Over → IsStill b came more w last)
       → AnswersStretch state gave u link came (made ++ more) w last
-  first-answered gave_more u b w link made came more ending next last is on over = by is.1.ends is.1.advances is.1.ended_so
+  first-answered gave_more u b w link made came more ending next last is on over = by is.ends is.advances is.ended_so
     where
-      by : (ends : Option ClientEnding) → Advances u.server.settings (state u.server.replica.archive) (state b.server.replica.archive) link is.1.used made ends is.1.later → ending ≡ client_ending ends → AnswersStretch state gave u link came (made ++ more) w last
+      by : (ends : Option ClientEnding) → Advances u.server.settings (state u.server.replica.archive) (state b.server.replica.archive) link is.used made ends is.later → ending ≡ client_ending ends → AnswersStretch state gave u link came (made ++ more) w last
       by None advances so =
-          let goes : next ≡ Client is.1.later = is.1.leaves ∙ ap (λ (e : Option ConversationEnding). unless_over e (Client is.1.later)) so in
-          let more_so = on is.1.later goes in
-          let first = fed u.server.settings (state u.server.replica.archive) (state b.server.replica.archive) link is.1.later is.1.used made came advances in
-          let second = subst (λ (s : SettingsValues). Advances s (state b.server.replica.archive) (state w.server.replica.archive) (with_more is.1.later came) more_so.used more more_so.ends more_so.later) is.0 more_so.advances in
+          let goes : next ≡ Client is.later = is.leaves ∙ ap (λ (e : Option ConversationEnding). unless_over e (Client is.later)) so in
+          let more_so = on is.later goes in
+          let first = fed u.server.settings (state u.server.replica.archive) (state b.server.replica.archive) link is.later is.used made came advances in
+          let second = subst (λ (s : SettingsValues). Advances s (state b.server.replica.archive) (state w.server.replica.archive) (with_more is.later came) more_so.used more more_so.ends more_so.later) is.settings more_so.advances in
           record {
-            used = before is.1.used more_so.used;
+            used = before is.used more_so.used;
             ends = more_so.ends;
             later = more_so.later;
-            settings = more_so.settings ∙ is.0;
-            clock = gave_more u.clock b.clock w.clock is.1.used.readings more_so.used.readings is.1.clock more_so.clock;
-            advances = turned-then u.server.settings (state u.server.replica.archive) (state b.server.replica.archive) (state w.server.replica.archive) (with_more link came) (with_more is.1.later came) more_so.later is.1.used more_so.used made more more_so.ends first second;
+            settings = more_so.settings ∙ is.settings;
+            clock = gave_more u.clock b.clock w.clock is.used.readings more_so.used.readings is.clock more_so.clock;
+            advances = turned-then u.server.settings (state u.server.replica.archive) (state b.server.replica.archive) (state w.server.replica.archive) (with_more link came) (with_more is.later came) more_so.later is.used more_so.used made more more_so.ends first second;
             leaves = more_so.leaves;
           }
       by (Some e) advances so =
-          let ended : next ≡ Over = is.1.leaves ∙ ap (λ (x : Option ConversationEnding). unless_over x (Client is.1.later)) so in
+          let ended : next ≡ Over = is.leaves ∙ ap (λ (x : Option ConversationEnding). unless_over x (Client is.later)) so in
           let rest = over ended in
           let whole : AnswersStretch state gave u link [] (made ++ []) b Over = record {
-            used = is.1.used;
+            used = is.used;
             ends = Some e;
-            later = is.1.later;
-            settings = is.0;
-            clock = is.1.clock;
-            advances = subst (λ (l : ConnectionState). Advances u.server.settings (state u.server.replica.archive) (state b.server.replica.archive) l is.1.used (made ++ []) (Some e) is.1.later)
+            later = is.later;
+            settings = is.settings;
+            clock = is.clock;
+            advances = subst (λ (l : ConnectionState). Advances u.server.settings (state u.server.replica.archive) (state b.server.replica.archive) l is.used (made ++ []) (Some e) is.later)
                 (ap (λ (waiting : List ℕ). record link { waiting = waiting }) (sym (append-nil link.waiting)))
-                (subst (λ (m : List ℕ). Advances u.server.settings (state u.server.replica.archive) (state b.server.replica.archive) link is.1.used m (Some e) is.1.later) (sym (append-nil made)) advances);
+                (subst (λ (m : List ℕ). Advances u.server.settings (state u.server.replica.archive) (state b.server.replica.archive) link is.used m (Some e) is.later) (sym (append-nil made)) advances);
             leaves = refl;
           } in
           subst (λ (x : List ℕ). AnswersStretch state gave u link x (made ++ more) w last) (sym rest.0)
@@ -184,13 +184,13 @@ module _ {R W A C : Type 0} (input : Input R) (output : Output W) (state : A →
         same-answered v own.0 w link (bytes_received steps) (made ++ bytes_made steps) new.handler own.4
         (first-answered gave_more own.0 own.1 w link made (bytes_received steps) (bytes_made steps) end own.3.handler new.handler said
         (λ later goes. alone own.1 w later own.3 new steps goes taken.1 own.6)
-        (λ over. still own.1 w own.3 new steps over (λ none. ends-known end said.1.later (sym said.1.leaves ∙ over) (sym (ap (λ (s : Slot OtherEnd R W ConversationEnding). s.ending) own.5.others) ∙ none)) own.6))
+        (λ over. still own.1 w own.3 new steps over (λ none. ends-known end said.later (sym said.leaves ∙ over) (sym (ap (λ (s : Slot OtherEnd R W ConversationEnding). s.ending) own.5.others) ∙ none)) own.6))
     alone v w link old new (step.Lacks ∷ steps) is taken own =
         let said = subst (λ (o : OtherEnd). AnswersFirst state gave own.0 o [] None own.1 own.3.handler) is own.5.answers in
         same-answered v own.0 w link (bytes_received steps) (bytes_made steps) new.handler own.4
         (first-answered gave_more own.0 own.1 w link [] (bytes_received steps) (bytes_made steps) None own.3.handler new.handler said
         (λ later goes. alone own.1 w later own.3 new steps goes taken.1 own.6)
-        (λ over. absurd (cc (said.1.leaves, over))))
+        (λ over. absurd (cc (said.leaves, over))))
     alone v w link old new (step.Writes bytes ∷ steps) is taken own =
         same-answered v own.1 w link (bytes_received steps) (bytes_made steps) new.handler (own.5.0 ∙ own.4)
         (alone own.1 w link own.3 new steps (ap (λ (s : Slot OtherEnd R W ConversationEnding). s.handler) own.5.1.others ∙ is) taken.1 own.6)

@@ -31,9 +31,9 @@ module _ {A C : Type 0} (state : A → Store) where
   answer_moves gave v w (Unknown letters) new made ending a = same_moves v w a.2
   answer_moves gave v w Over new made ending a = same_moves v w a.2
   answer_moves gave v w (Client link) new made ending a =
-      (a.0, transitions_grow _ _ _ _ a.1.advances)
+      (a.settings, transitions_grow _ _ _ _ a.advances)
   answer_moves gave v w (Peer peer) new made ending a =
-      (a.0, talks_grow _ _ _ _ _ _ _ _ a.2.talks)
+      (a.settings, talks_grow _ _ _ _ _ _ _ _ a.talks)
 
   -- what answers do are moves, and moves add up
   pub moves_over : (gave : C → List ℤ → C → Type 0) → MovesAddUp (behavior_over state gave)

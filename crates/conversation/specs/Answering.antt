@@ -5,7 +5,6 @@ use Rattle.std.specs.Result.{result_map_both}
 use Rattle.archive.specs.Store.{Store}
 use Rattle.exchange.specs.Dialogs.{DialogState}
 use Rattle.exchange.specs.Frames.{frame_header}
-use Rattle.ua_settings.specs.Settings.{SettingsValues}
 use Rattle.counted_io.specs.declared.fault.ServeFault.{ServeFault}
 use Rattle.counted_io.specs.declared.fault.ServeFault.TheVariants.{OutOfMemory}
 use Rattle.ua_connection.specs.Environments.{Environment}
@@ -36,15 +35,18 @@ client_ending = option_map (result_map_both ended.Client (λ fault. fault))
 abbrev pub peer_ending : Option (Result PeerEnded ServeFault) → Option ConversationEnding
 peer_ending = option_map (result_map_both ended.Peer (λ fault. fault))
 
--- what stood first on a client's connection was answered, by one step over an archive
-pub record AnswersClient (settings : SettingsValues) (old new : Store)
-    (gave : List ℤ → Type 0) (link : ConnectionState) (made : List ℕ)
-    (ending : Option ConversationEnding) (next : OtherEnd) : Type 0 where
+-- what stood first on a client's connection was answered, by one step over an archive; what the
+-- server is set to stays
+pub record AnswersClient {A C : Type 0} (state : A → Store) (gave : C → List ℤ → C → Type 0)
+    (v : World A C) (link : ConnectionState) (made : List ℕ) (ending : Option ConversationEnding)
+    (w : World A C) (next : OtherEnd) : Type 0 where
   pub used : Environment
   pub ends : Option ClientEnding
   pub later : ConnectionState
-  pub clock : gave used.readings
-  pub advances : Advances settings old new link used made ends later
+  pub settings : w.server.settings ≡ v.server.settings
+  pub clock : gave v.clock used.readings w.clock
+  pub advances : Advances v.server.settings (state v.server.replica.archive)
+      (state w.server.replica.archive) link used made ends later
   pub ended_so : ending ≡ client_ending ends
   pub leaves : next ≡ unless_over ending (Client later)
 
@@ -55,29 +57,29 @@ Tells said ends made ending =
     ((made ≡ said) × (ending ≡ peer_ending ends))
     ⊎ ((made ≡ []) × (ending ≡ Some (Err OutOfMemory)))
 
--- the frame that stood first in a peer's dialog, if it was whole, was answered over an archive
-pub record AnswersPeer (old new : Store) (peer : PeerDialog) (made : List ℕ)
-    (ending : Option ConversationEnding) (next : OtherEnd) : Type 0 where
+-- the frame that stood first in a peer's dialog, if it was whole, was answered over an archive; what
+-- the server is set to stays, and the time isn't asked for
+pub record AnswersPeer {A C : Type 0} (state : A → Store) (v : World A C) (peer : PeerDialog)
+    (made : List ℕ) (ending : Option ConversationEnding) (w : World A C)
+    (next : OtherEnd) : Type 0 where
   pub said : List ℕ
   pub rest : List ℕ
   pub ends : Option (Result PeerEnded ServeFault)
   pub last : DialogState
-  pub talks : Talks peer.dialog old new peer.frames.waiting said rest ends last
+  pub settings : w.server.settings ≡ v.server.settings
+  pub clock : w.clock ≡ v.clock
+  pub talks : Talks peer.dialog (state v.server.replica.archive) (state w.server.replica.archive)
+      peer.frames.waiting said rest ends last
   pub one : ends ≡ None → last.taken ≤ peer.dialog.taken + 1
   pub tells : Tells said ends made ending
   pub leaves : next ≡ unless_over ending (Peer (peer_at last rest))
 
--- what stood first was answered over a world, if it was whole; what the server is set to stays
+-- what stood first was answered over a world, if it was whole; where nobody is known nothing is
 abbrev pub AnswersFirst : {A C : Type 0} → (A → Store) → (C → List ℤ → C → Type 0) → World A C
     → OtherEnd → (made : List ℕ) → Option ConversationEnding → World A C → OtherEnd → Type 0
-AnswersFirst state gave v (Client link) made ending w next =
-    (w.server.settings ≡ v.server.settings)
-    × AnswersClient v.server.settings (state v.server.replica.archive)
-    (state w.server.replica.archive) (λ readings. gave v.clock readings w.clock) link made ending
-    next
-AnswersFirst state gave v (Peer peer) made ending w next =
-    (w.server.settings ≡ v.server.settings) × (w.clock ≡ v.clock)
-    × AnswersPeer (state v.server.replica.archive) (state w.server.replica.archive) peer made
-    ending next
-AnswersFirst state gave v other made ending w next =
-    (made ≡ []) × (ending ≡ None) × (w ≡ v) × (next ≡ other)
+AnswersFirst state gave v (Client link) made ending w new =
+    AnswersClient state gave v link made ending w new
+AnswersFirst state gave v (Peer peer) made ending w new =
+    AnswersPeer state v peer made ending w new
+AnswersFirst state gave v other made ending w new =
+    (made ≡ []) × (ending ≡ None) × (w ≡ v) × (new ≡ other)

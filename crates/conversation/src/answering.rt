@@ -44,11 +44,8 @@ fn answer_client<A: Archive, C: Clock>(
     out: &mut Vec<u8>,
 ) -> Progress<Result<Ended, ServeFault>>
     ensures answers { (made : List ℕ) × (out.new.items ≡ out.old.items ++ made)
-        × AnswersClient world.old.server.settings
-        (A.state world.old.server.replica.archive) (A.state world.new.server.replica.archive)
-        (λ readings. C.gave world.old.clock readings world.new.clock) connection.old made
-        (end_in result) (unless_over (end_in result) (Client connection.new)) }
-    ensures settings { world.new.server.settings ≡ world.old.server.settings }
+        × AnswersClient A.state C.gave world.old connection.old made (end_in result) world.new
+        (unless_over (end_in result) (Client connection.new)) }
     ensures lacks { result ≡ Lacks
         → (out.new.items ≡ out.old.items) × NeedsBytes connection.new }
 {
@@ -131,22 +128,21 @@ fn append(bytes: Vec<u8>, out: &mut Vec<u8>) -> bool
 }
 
 /// Answers the frame that stands first in a peer's dialog, if it is whole.
-fn answer_peer<A: Archive>(
-    server: &mut Server<A>,
+fn answer_peer<A: Archive, C>(
+    world: &mut World<A, C>,
     peer: &mut PeerDialog,
     out: &mut Vec<u8>,
 ) -> Progress<Result<Ended, ServeFault>>
     requires { IsUsable (Peer peer.old) }
     ensures answers { (made : List ℕ) × (out.new.items ≡ out.old.items ++ made)
-        × AnswersPeer (A.state server.old.replica.archive) (A.state server.new.replica.archive)
-        peer.old made (end_in result) (unless_over (end_in result) (Peer peer.new)) }
-    ensures settings { server.new.settings ≡ server.old.settings }
+        × AnswersPeer A.state world.old peer.old made (end_in result) world.new
+        (unless_over (end_in result) (Peer peer.new)) }
     ensures sound { end_in result ≡ None → IsUsable (Peer peer.new) }
     ensures lacks { result ≡ Lacks
         → (out.new.items ≡ out.old.items) × (frame_header peer.new.frames.waiting ≡ Ok None) }
 {
-    let mut said = Vec::new(server.alloc);
-    let progress = take_frame(server, peer, &mut said);
+    let mut said = Vec::new(world.server.alloc);
+    let progress = take_frame(&mut world.server, peer, &mut said);
     if append(said, out) {
         progress
     } else {
@@ -188,7 +184,7 @@ pub(crate) fn answer_first<A: Archive, C: Clock>(
             leave_at_end(other, progress)
         }
         OtherEnd::Peer(peer) => {
-            let progress = answer_peer(&mut world.server, peer, out);
+            let progress = answer_peer(world, peer, out);
             leave_at_end(other, progress)
         }
         OtherEnd::Unknown(_) | OtherEnd::Over => Progress::NeedsMore,
