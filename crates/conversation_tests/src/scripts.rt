@@ -14,7 +14,7 @@ use std::test::Fail;
 use ua_connection::ConstantClock;
 
 /// Who calls, and what it writes.
-#[derive(Clone, Copy, Debug)]
+#[derive(Clone, Copy)]
 pub struct Caller<'a> {
     pub text: &'a [u8],
     /// A read or a write moves so many bytes at most.
