@@ -5,8 +5,8 @@ use Rattle.multiplex.specs.Behavior.{MovesAddUp}
 use Rattle.conversation.specs.declared.world.World.{World}
 use Rattle.conversation.specs.declared.other_end.OtherEnd.{OtherEnd}
 use Rattle.conversation.specs.declared.other_end.OtherEnd.TheVariants.{Unknown, Client, Peer, Over}
-use Rattle.conversation.specs.OtherEnds.{Ending}
-use Rattle.conversation.specs.Answering.{Answers}
+use Rattle.conversation.specs.OtherEnds.{ConversationEnding}
+use Rattle.conversation.specs.Answering.{AnswersFirst}
 use Rattle.conversation.specs.Moves.{Moves}
 use Rattle.conversation.specs.Conversing.{behavior_over}
 use Rattle.conversation.specs.Growing.{transitions_grow, talks_grow, grows_none, grows_more}
@@ -26,14 +26,14 @@ module _ {A C : Type 0} (state : A → Store) where
 
   -- an answer
   answer_moves : (gave : C → List ℤ → C → Type 0) (v w : World A C) (old new : OtherEnd)
-      (made : List ℕ) (ending : Option Ending) → Answers state gave v old made ending w new
-      → Moves state v w
+      (made : List ℕ) (ending : Option ConversationEnding)
+      → AnswersFirst state gave v old made ending w new → Moves state v w
   answer_moves gave v w (Unknown letters) new made ending a = same_moves v w a.2
   answer_moves gave v w Over new made ending a = same_moves v w a.2
   answer_moves gave v w (Client link) new made ending a =
-      (a.0, transitions_grow _ _ _ _ a.1.advances)
+      (a.settings, transitions_grow _ _ _ _ a.advances)
   answer_moves gave v w (Peer peer) new made ending a =
-      (a.0, talks_grow _ _ _ _ _ _ _ _ a.2.talks)
+      (a.settings, talks_grow _ _ _ _ _ _ _ _ a.talks)
 
   -- what answers do are moves, and moves add up
   pub moves_over : (gave : C → List ℤ → C → Type 0) → MovesAddUp (behavior_over state gave)

@@ -5,7 +5,6 @@ use Rattle.std.specs.Result.{result_map_both}
 use Rattle.archive.specs.Store.{Store}
 use Rattle.exchange.specs.Dialogs.{DialogState}
 use Rattle.exchange.specs.Frames.{frame_header}
-use Rattle.ua_settings.specs.Settings.{SettingsValues}
 use Rattle.counted_io.specs.declared.fault.ServeFault.{ServeFault}
 use Rattle.counted_io.specs.declared.fault.ServeFault.TheVariants.{OutOfMemory}
 use Rattle.ua_connection.specs.Environments.{Environment}
@@ -18,66 +17,69 @@ use Rattle.conversation.specs.declared.other_end.PeerDialog.{PeerDialog}
 use Rattle.conversation.specs.declared.other_end.OtherEnd.{OtherEnd}
 use Rattle.conversation.specs.declared.other_end.OtherEnd.TheVariants.{Client, Peer}
 use Rattle.conversation.specs.declared.world.World.{World}
-use Rattle.conversation.specs.OtherEnds.{Ending, peer_at, unless_over}
+use Rattle.conversation.specs.OtherEnds.{ConversationEnding, peer_at, unless_over}
 
 -- nothing whole stands first
-abbrev pub NeedsMore : OtherEnd → Type 0
-NeedsMore other = elim other [
+abbrev pub IsIncomplete : OtherEnd → Type 0
+IsIncomplete other = elim other [
   | Client link ↦ NeedsBytes link
   | Peer peer ↦ frame_header peer.frames.waiting ≡ Ok None
   | _ ↦ Unit {0}
 ]
 
 -- how a client's connection ended, as that of any connection
-abbrev pub client_ending : Option ClientEnding → Option Ending
+abbrev pub client_ending : Option ClientEnding → Option ConversationEnding
 client_ending = option_map (result_map_both ended.Client (λ fault. fault))
 
 -- how a peer's dialog ended, as the end of any connection
-abbrev pub peer_ending : Option (Result PeerEnded ServeFault) → Option Ending
+abbrev pub peer_ending : Option (Result PeerEnded ServeFault) → Option ConversationEnding
 peer_ending = option_map (result_map_both ended.Peer (λ fault. fault))
 
--- what stood first on a client's connection was answered, by one step over an archive
-pub record AnswersClient (settings : SettingsValues) (old new : Store)
-    (gave : List ℤ → Type 0) (link : ConnectionState) (made : List ℕ) (ending : Option Ending)
-    (next : OtherEnd) : Type 0 where
+-- what stood first on a client's connection was answered, by one step over an archive; what the
+-- server is set to stays
+pub record AnswersClient {A C : Type 0} (state : A → Store) (gave : C → List ℤ → C → Type 0)
+    (v : World A C) (link : ConnectionState) (made : List ℕ) (ending : Option ConversationEnding)
+    (w : World A C) (next : OtherEnd) : Type 0 where
   pub used : Environment
   pub ends : Option ClientEnding
   pub later : ConnectionState
-  pub clock : gave used.readings
-  pub advances : Advances settings old new link used made ends later
+  pub settings : w.server.settings ≡ v.server.settings
+  pub clock : gave v.clock used.readings w.clock
+  pub advances : Advances v.server.settings (state v.server.replica.archive)
+      (state w.server.replica.archive) link used made ends later
   pub ended_so : ending ≡ client_ending ends
   pub leaves : next ≡ unless_over ending (Client later)
 
 -- what was said to a peer is written and its dialog goes on or ends; or memory for that is wanting
-abbrev pub Tells : List ℕ → Option (Result PeerEnded ServeFault) → (made : List ℕ) → Option Ending
-    → Type 0
+abbrev pub Tells : List ℕ → Option (Result PeerEnded ServeFault) → (made : List ℕ)
+    → Option ConversationEnding → Type 0
 Tells said ends made ending =
     ((made ≡ said) × (ending ≡ peer_ending ends))
     ⊎ ((made ≡ []) × (ending ≡ Some (Err OutOfMemory)))
 
--- the frame that stood first in a peer's dialog, if it was whole, was answered over an archive
-pub record AnswersPeer (old new : Store) (peer : PeerDialog) (made : List ℕ)
-    (ending : Option Ending) (next : OtherEnd) : Type 0 where
+-- the frame that stood first in a peer's dialog, if it was whole, was answered over an archive; what
+-- the server is set to stays, and the time isn't asked for
+pub record AnswersPeer {A C : Type 0} (state : A → Store) (v : World A C) (peer : PeerDialog)
+    (made : List ℕ) (ending : Option ConversationEnding) (w : World A C)
+    (next : OtherEnd) : Type 0 where
   pub said : List ℕ
   pub rest : List ℕ
   pub ends : Option (Result PeerEnded ServeFault)
   pub last : DialogState
-  pub talks : Talks peer.dialog old new peer.frames.waiting said rest ends last
+  pub settings : w.server.settings ≡ v.server.settings
+  pub clock : w.clock ≡ v.clock
+  pub talks : Talks peer.dialog (state v.server.replica.archive) (state w.server.replica.archive)
+      peer.frames.waiting said rest ends last
   pub one : ends ≡ None → last.taken ≤ peer.dialog.taken + 1
   pub tells : Tells said ends made ending
   pub leaves : next ≡ unless_over ending (Peer (peer_at last rest))
 
--- what stood first was answered over a world, if it was whole; what the server is set to stays
-abbrev pub Answers : {A C : Type 0} → (A → Store) → (C → List ℤ → C → Type 0) → World A C
-    → OtherEnd → (made : List ℕ) → Option Ending → World A C → OtherEnd → Type 0
-Answers state gave v (Client link) made ending w next =
-    (w.server.settings ≡ v.server.settings)
-    × AnswersClient v.server.settings (state v.server.replica.archive)
-    (state w.server.replica.archive) (λ readings. gave v.clock readings w.clock) link made ending
-    next
-Answers state gave v (Peer peer) made ending w next =
-    (w.server.settings ≡ v.server.settings) × (w.clock ≡ v.clock)
-    × AnswersPeer (state v.server.replica.archive) (state w.server.replica.archive) peer made
-    ending next
-Answers state gave v other made ending w next =
-    (made ≡ []) × (ending ≡ None) × (w ≡ v) × (next ≡ other)
+-- what stood first was answered over a world, if it was whole; where nobody is known nothing is
+abbrev pub AnswersFirst : {A C : Type 0} → (A → Store) → (C → List ℤ → C → Type 0) → World A C
+    → OtherEnd → (made : List ℕ) → Option ConversationEnding → World A C → OtherEnd → Type 0
+AnswersFirst state gave v (Client link) made ending w new =
+    AnswersClient state gave v link made ending w new
+AnswersFirst state gave v (Peer peer) made ending w new =
+    AnswersPeer state v peer made ending w new
+AnswersFirst state gave v other made ending w new =
+    (made ≡ []) × (ending ≡ None) × (w ≡ v) × (new ≡ other)

@@ -5,20 +5,20 @@ use Rattle.multiplex.specs.Behavior.{Behavior}
 use Rattle.conversation.specs.declared.other_end.OtherEnd.{OtherEnd}
 use Rattle.conversation.specs.declared.other_end.OtherEnd.TheVariants.{Unknown}
 use Rattle.conversation.specs.declared.world.World.{World}
-use Rattle.conversation.specs.OtherEnds.{Ending, is_established}
-use Rattle.conversation.specs.Receiving.{Receives}
-use Rattle.conversation.specs.Answering.{NeedsMore, Answers}
+use Rattle.conversation.specs.OtherEnds.{ConversationEnding, is_established}
+use Rattle.conversation.specs.Receiving.{TakesBytes}
+use Rattle.conversation.specs.Answering.{IsIncomplete, AnswersFirst}
 use Rattle.conversation.specs.Moves.{Moves}
 
 -- a connection begins with nobody known at its other end, at any listener; none is called yet
 abbrev pub behavior_over : {A C : Type 0} → (A → Store) → (C → List ℤ → C → Type 0)
-    → Behavior OtherEnd (World A C) Ending
+    → Behavior OtherEnd (World A C) ConversationEnding
 behavior_over state gave = record {
   begins = λ listener other. other ≡ Unknown [];
   calls = λ v made other w. (made ≡ []) × (other ≡ None) × (w ≡ v);
-  receives = Receives;
-  answers = Answers state gave;
-  needs_more = NeedsMore;
+  receives = TakesBytes;
+  answers = AnswersFirst state gave;
+  needs_more = IsIncomplete;
   is_established = is_established;
   moves = Moves state;
 }

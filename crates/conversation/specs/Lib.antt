@@ -5,3 +5,4 @@ pub mod Moves
 pub mod Conversing
 pub mod Growing
 pub mod Adding
+pub mod Alone

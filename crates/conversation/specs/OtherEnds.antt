@@ -12,8 +12,8 @@ use Rattle.conversation.specs.declared.other_end.OtherEnd.{OtherEnd}
 use Rattle.conversation.specs.declared.other_end.OtherEnd.TheVariants.{Unknown, Client, Peer, Over}
 
 -- how a connection ended, or the fault that ended it
-abbrev pub Ending : Type 0
-Ending = Result Ended ServeFault
+abbrev pub ConversationEnding : Type 0
+ConversationEnding = Result Ended ServeFault
 
 -- a peer's connection begins with the letters of a frame that asks or brings
 abbrev pub is_peers : List ℕ → Bool
@@ -46,7 +46,7 @@ with_bytes other bytes = elim other [
 ]
 
 -- the other end behind an answer, which may have ended the connection
-abbrev pub unless_over : Option Ending → OtherEnd → OtherEnd
+abbrev pub unless_over : Option ConversationEnding → OtherEnd → OtherEnd
 unless_over ending other = elim ending [ None ↦ other | Some end ↦ Over ]
 
 -- its channel is open, or a whole frame of it came
@@ -58,8 +58,8 @@ is_established other = elim other [
 ]
 
 -- a peer's dialog takes frames, and no fault stopped it
-abbrev pub IsSound : OtherEnd → Type 0
-IsSound other = elim other [
+abbrev pub IsUsable : OtherEnd → Type 0
+IsUsable other = elim other [
   | Peer peer ↦ IsReady peer.dialog × (peer ≡ peer_at peer.dialog peer.frames.waiting)
   | _ ↦ Unit {0}
 ]

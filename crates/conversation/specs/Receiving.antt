@@ -11,7 +11,7 @@ use Rattle.conversation.specs.declared.ended.Ended.{Ended}
 use Rattle.conversation.specs.declared.ended.Ended.TheVariants as ended
 use Rattle.conversation.specs.declared.other_end.OtherEnd.{OtherEnd}
 use Rattle.conversation.specs.declared.other_end.OtherEnd.TheVariants.{Peer, Over}
-use Rattle.conversation.specs.OtherEnds.{Ending, with_bytes}
+use Rattle.conversation.specs.OtherEnds.{ConversationEnding, with_bytes}
 
 -- it is known to be a peer
 abbrev pub is_peer : OtherEnd → Bool
@@ -28,11 +28,12 @@ starved_end other =
     else ended.Client (Refused BAD_OUT_OF_MEMORY)
 
 -- it was told that memory is wanting; or memory for that was wanting too, and nothing was
-abbrev pub TellsStarved : OtherEnd → (made : List ℕ) → Ending → Type 0
+abbrev pub TellsStarved : OtherEnd → (made : List ℕ) → ConversationEnding → Type 0
 TellsStarved other made (Ok end) = (made ≡ starved_message other) × (end ≡ starved_end other)
 TellsStarved other made (Err fault) = (made ≡ []) × (fault ≡ OutOfMemory)
 
 -- bytes were taken; or memory for them was wanting, which ends the connection
-abbrev pub Receives : OtherEnd → List ℕ → (made : List ℕ) → Option Ending → OtherEnd → Type 0
-Receives old bytes made None new = (made ≡ []) × (new ≡ with_bytes old bytes)
-Receives old bytes made (Some ending) new = TellsStarved old made ending × (new ≡ Over)
+abbrev pub TakesBytes : OtherEnd → List ℕ → (made : List ℕ) → Option ConversationEnding
+    → OtherEnd → Type 0
+TakesBytes old bytes made None new = (made ≡ []) × (new ≡ with_bytes old bytes)
+TakesBytes old bytes made (Some ending) new = TellsStarved old made ending × (new ≡ Over)

@@ -1,16 +1,15 @@
 //! What stands first in what came, and its answer.
 
-ghost use Rattle.std.specs.Prelude.{◌≡◌, ◌++◌, ◌+◌, ◌≤◌, List, ℕ, [], true, false, nat_le, Some, None, Ok};
+ghost use Rattle.std.specs.Prelude.{◌≡◌, ◌++◌, ◌+◌, ◌≤◌, List, ℕ, [], true, false, None, Ok};
 ghost use Rattle.multiplex.specs.Progress.{end_in};
 ghost use Rattle.multiplex.specs.declared.handler.Progress.TheVariants.{NeedsMore as Lacks};
 ghost use Rattle.exchange.specs.Frames.{frame_header};
-ghost use Rattle.exchange.specs.Dialogs.{DialogState};
 ghost use Rattle.ua_connection.specs.Turns.{NeedsBytes, ending_of};
 ghost use Rattle.ua_connection.specs.declared.turn.Step.TheVariants.{NeedsInput};
-ghost use Rattle.ua_peers.specs.Talking.{ending_of as peer_ending_of, IsReady};
+ghost use Rattle.ua_peers.specs.Talking.{ending_of as peer_ending_of};
 ghost use Rattle.ua_peers.specs.Peers.{Talks};
-ghost use Rattle.conversation.specs.OtherEnds.{peer_at, unless_over, is_established, IsSound};
-ghost use Rattle.conversation.specs.Answering.{NeedsMore, client_ending, peer_ending, AnswersClient, AnswersPeer, Answers};
+ghost use Rattle.conversation.specs.OtherEnds.{unless_over, is_established, IsUsable};
+ghost use Rattle.conversation.specs.Answering.{IsIncomplete, client_ending, peer_ending, AnswersClient, AnswersPeer, AnswersFirst};
 ghost use Rattle.conversation.specs.declared.other_end.OtherEnd.TheVariants.{Client, Peer};
 
 use crate::ended::Ended;
@@ -45,11 +44,8 @@ fn answer_client<A: Archive, C: Clock>(
     out: &mut Vec<u8>,
 ) -> Progress<Result<Ended, ServeFault>>
     ensures answers { (made : List ℕ) × (out.new.items ≡ out.old.items ++ made)
-        × AnswersClient world.old.server.settings
-        (A.state world.old.server.replica.archive) (A.state world.new.server.replica.archive)
-        (λ readings. C.gave world.old.clock readings world.new.clock) connection.old made
-        (end_in result) (unless_over (end_in result) (Client connection.new)) }
-    ensures settings { world.new.server.settings ≡ world.old.server.settings }
+        × AnswersClient A.state C.gave world.old connection.old made (end_in result) world.new
+        (unless_over (end_in result) (Client connection.new)) }
     ensures lacks { result ≡ Lacks
         → (out.new.items ≡ out.old.items) × NeedsBytes connection.new }
 {
@@ -91,7 +87,7 @@ fn take_frame<A: Archive>(
     peer: &mut PeerDialog,
     said: &mut Vec<u8>,
 ) -> Progress<Result<Ended, ServeFault>>
-    requires sound { IsSound (Peer peer.old) }
+    requires sound { IsUsable (Peer peer.old) }
     requires empty { said.old.items ≡ [] }
     ensures talks { (ends : _) × (end_in result ≡ peer_ending ends)
         × Talks peer.old.dialog (A.state server.old.replica.archive)
@@ -99,7 +95,7 @@ fn take_frame<A: Archive>(
         peer.new.frames.waiting ends peer.new.dialog }
     ensures settings { server.new.settings ≡ server.old.settings }
     ensures goes { end_in result ≡ None
-        → IsSound (Peer peer.new) × (peer.new.dialog.taken ≤ peer.old.dialog.taken + 1) }
+        → IsUsable (Peer peer.new) × (peer.new.dialog.taken ≤ peer.old.dialog.taken + 1) }
     ensures lacks { result ≡ Lacks
         → (said.new.items ≡ []) × (frame_header peer.new.frames.waiting ≡ Ok None) }
 {
@@ -132,22 +128,21 @@ fn append(bytes: Vec<u8>, out: &mut Vec<u8>) -> bool
 }
 
 /// Answers the frame that stands first in a peer's dialog, if it is whole.
-fn answer_peer<A: Archive>(
-    server: &mut Server<A>,
+fn answer_peer<A: Archive, C>(
+    world: &mut World<A, C>,
     peer: &mut PeerDialog,
     out: &mut Vec<u8>,
 ) -> Progress<Result<Ended, ServeFault>>
-    requires { IsSound (Peer peer.old) }
+    requires { IsUsable (Peer peer.old) }
     ensures answers { (made : List ℕ) × (out.new.items ≡ out.old.items ++ made)
-        × AnswersPeer (A.state server.old.replica.archive) (A.state server.new.replica.archive)
-        peer.old made (end_in result) (unless_over (end_in result) (Peer peer.new)) }
-    ensures settings { server.new.settings ≡ server.old.settings }
-    ensures sound { end_in result ≡ None → IsSound (Peer peer.new) }
+        × AnswersPeer A.state world.old peer.old made (end_in result) world.new
+        (unless_over (end_in result) (Peer peer.new)) }
+    ensures sound { end_in result ≡ None → IsUsable (Peer peer.new) }
     ensures lacks { result ≡ Lacks
         → (out.new.items ≡ out.old.items) × (frame_header peer.new.frames.waiting ≡ Ok None) }
 {
-    let mut said = Vec::new(server.alloc);
-    let progress = take_frame(server, peer, &mut said);
+    let mut said = Vec::new(world.server.alloc);
+    let progress = take_frame(&mut world.server, peer, &mut said);
     if append(said, out) {
         progress
     } else {
@@ -177,11 +172,11 @@ pub(crate) fn answer_first<A: Archive, C: Clock>(
     other: &mut OtherEnd,
     out: &mut Vec<u8>,
 ) -> Progress<Result<Ended, ServeFault>>
-    requires { IsSound other.old }
+    requires { IsUsable other.old }
     ensures answers { (made : List ℕ) × (out.new.items ≡ out.old.items ++ made)
-        × Answers A.state C.gave world.old other.old made (end_in result) world.new other.new }
-    ensures sound { IsSound other.new }
-    ensures lacks { result ≡ Lacks → (out.new.items ≡ out.old.items) × NeedsMore other.new }
+        × AnswersFirst A.state C.gave world.old other.old made (end_in result) world.new other.new }
+    ensures sound { IsUsable other.new }
+    ensures lacks { result ≡ Lacks → (out.new.items ≡ out.old.items) × IsIncomplete other.new }
 {
     match other {
         OtherEnd::Client(connection) => {
@@ -189,7 +184,7 @@ pub(crate) fn answer_first<A: Archive, C: Clock>(
             leave_at_end(other, progress)
         }
         OtherEnd::Peer(peer) => {
-            let progress = answer_peer(&mut world.server, peer, out);
+            let progress = answer_peer(world, peer, out);
             leave_at_end(other, progress)
         }
         OtherEnd::Unknown(_) | OtherEnd::Over => Progress::NeedsMore,

@@ -25,13 +25,13 @@ pub struct Conversation<A, C> {
 
 impl<A, C> Model for Conversation<A, C> {
     ghost use Rattle.conversation.specs.declared.other_end.OtherEnd.{OtherEnd};
-    ghost use Rattle.conversation.specs.OtherEnds.{IsSound};
+    ghost use Rattle.conversation.specs.OtherEnds.{IsUsable};
 
     ghost Value = { OtherEnd };
 
     ghost view = { λ c. c.other };
 
-    ghost invariant = { λ c. IsSound c.other };
+    ghost invariant = { λ c. IsUsable c.other };
 }
 
 impl<A: Archive, C: Clock> Handler for Conversation<A, C> {

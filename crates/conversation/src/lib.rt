@@ -4,10 +4,12 @@
 mod answering;
 mod conversation;
 mod ended;
+mod laws;
 mod other_end;
 mod receiving;
 mod world;
 
 pub use conversation::Conversation;
 pub use ended::Ended;
+pub use laws::a_client_alone_is_answered;
 pub use world::World;

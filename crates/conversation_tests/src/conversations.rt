@@ -1,0 +1,106 @@
+//! Clients and peers at once, each of whom is told what it would be told alone.
+
+use crate::scripts::{Caller, heard_by};
+use server_rows::streams::{ACK, ANSWER, BEGIN, BEGUN, HELLO, OPEN, OPENED, REQUEST, bytes_of};
+use std::alloc::Global;
+use std::test::Fail;
+
+/// The first frame of replica 2 of the archive, which holds nothing.
+const ASKED: &str = "52585646 1B000000 02 00000000000000000000000000000000 02 00";
+
+/// What replica 1 answers, which holds nothing either.
+const NOTHING: &str = "52584446 1F000000 02 00000000000000000000000000000000 01 00 00000000";
+
+/// The frame that ends a dialog.
+const END: &str = "52584546 0C000000 00000000";
+
+/// A frame that is none, and what the peer is told of it.
+const NO_FRAME: &str = "52585646 0B000000";
+
+const ILL: &str = "52584546 0C000000 01000000";
+
+/// A Hello of 31 bytes, and what a client is told of it.
+const SHORT_HELLO: &str = "48454C46 1F000000";
+
+const REFUSED: &str = "45525246 10000000 00000780 FFFFFFFF";
+
+/// A second Hello is none.
+const SECOND_HELLO: &str = "45525246 10000000 00007E80 FFFFFFFF";
+
+/// What callers write, and what each of them is told.
+static CALLERS: [(&[&str], &[&str]); 7] = [
+    (&[HELLO, OPEN, REQUEST], &[ACK, OPENED, ANSWER]),
+    (&[ASKED, ASKED, END], &[NOTHING, NOTHING]),
+    (&[SHORT_HELLO, HELLO], &[REFUSED]),
+    (&[ASKED, NO_FRAME, ASKED], &[NOTHING, ILL]),
+    (
+        &[HELLO, OPEN, REQUEST, HELLO],
+        &[ACK, OPENED, ANSWER, SECOND_HELLO],
+    ),
+    (&["5258"], &[]),
+    (&[HELLO], &[ACK]),
+];
+
+/// What each of them writes, and behind them one that begins a session.
+fn written(alloc: Global) -> Result<Vec<Vec<u8>>, Fail> {
+    let mut all = Vec::new(alloc);
+    for (text, _) in &CALLERS {
+        all.push(bytes_of(alloc, text)?)?;
+    }
+    all.push(bytes_of(alloc, &[HELLO, OPEN, BEGIN[0], BEGIN[1]])?)?;
+    Ok(all)
+}
+
+/// What each of these is told.
+fn told(alloc: Global) -> Result<Vec<Vec<u8>>, Fail> {
+    let mut all = Vec::new(alloc);
+    for (_, text) in &CALLERS {
+        all.push(bytes_of(alloc, text)?)?;
+    }
+    all.push(bytes_of(alloc, &[ACK, OPENED, BEGUN[0], BEGUN[1]])?)?;
+    Ok(all)
+}
+
+/// Whether the caller of a number read this, and its connection was closed.
+fn has_heard(heard: &[(usize, Vec<u8>)], number: usize, text: &[u8]) -> bool {
+    for (other, read) in heard {
+        if *other == number {
+            return read.as_slice() == text;
+        }
+    }
+    false
+}
+
+/// Whether all are told so at once, where each reads and writes so many bytes at a time, and a later one waits longer.
+fn are_told(alloc: Global, each: usize, pace: usize) -> Result<bool, Fail> {
+    let texts = written(alloc)?;
+    let mut callers = Vec::new(alloc);
+    for (number, text) in texts.iter().enumerate() {
+        callers.push(Caller {
+            text: text.as_slice(),
+            each,
+            pace: number.saturating_mul(pace).saturating_add(1),
+        })?;
+    }
+    let heard = heard_by(alloc, callers.as_slice())?;
+    let wanted = told(alloc)?;
+    for (number, text) in wanted.iter().enumerate() {
+        if !has_heard(heard.as_slice(), number, text.as_slice()) {
+            return Ok(false);
+        }
+    }
+    Ok(true)
+}
+
+#[test]
+fn each_is_told_as_alone(rt: HostRuntime) -> Result<(), Fail> {
+    for each in [1, 2, 7, 64, 1000] {
+        for pace in 0..4 {
+            assert!(rt;
+                are_told(rt.alloc(), each, pace)?,
+                "{each} bytes at pace {pace}"
+            );
+        }
+    }
+    Ok(())
+}

@@ -1,0 +1,7 @@
+//! Tests: clients and peers of a script, interleaved over one server.
+#![tactic(auto)]
+
+#[cfg(test)]
+mod conversations;
+#[cfg(test)]
+mod scripts;
