@@ -17,12 +17,20 @@ returns-clause-lacks g c lacks =
     let a = g.A.Archive.state c.args.server.now.replica.archive in
     let b = g.A.Archive.state new.replica.archive in
     let none = c.peer_progress.ensures.lacks lacks in
-    let leaves = subst (λ (o : Option (Result State ExchangeFault)). LeavesOne peer.frames new.frames peer.dialog new.dialog o) none c.take_first-first.ensures.leaves in
-    let talks = subst (λ (o : Option (Result State ExchangeFault)). Talks peer.dialog a b peer.frames.waiting new.out.items new.frames.waiting (ending_of new.dialog.code (is_silent new.out.items) o) new.dialog) none c.take_first-first.ensures.talks in
+    let leaves = subst (λ (o : Option (Result State ExchangeFault)).
+    LeavesOne peer.frames new.frames peer.dialog new.dialog o) none
+    c.take_first-first.ensures.leaves in
+    let talks = subst (λ (o : Option (Result State ExchangeFault)).
+    Talks peer.dialog a b peer.frames.waiting new.out.items new.frames.waiting
+    (ending_of new.dialog.code (is_silent new.out.items) o) new.dialog) none
+    c.take_first-first.ensures.talks in
     let short = ap (λ (f : ReceivedFrames). frame_header f.waiting) leaves.1 ∙ leaves.0 in (
-      nothing_said a b peer.dialog new.dialog peer.frames.waiting new.out.items new.frames.waiting talks leaves.0,
+      nothing_said a b peer.dialog new.dialog peer.frames.waiting new.out.items new.frames.waiting
+          talks leaves.0,
       elim c.if-is_some.branch [
-        | then-is_some w ↦ subst (λ (p : PeerDialog). frame_header p.frames.waiting ≡ Ok None) (sym w.peer-is) short
-        | else-is_some w ↦ subst (λ (p : PeerDialog). frame_header p.frames.waiting ≡ Ok None) (sym w.peer-is) short
+        | then-is_some w ↦ subst (λ (p : PeerDialog). frame_header p.frames.waiting ≡ Ok None)
+            (sym w.peer-is) short
+        | else-is_some w ↦ subst (λ (p : PeerDialog). frame_header p.frames.waiting ≡ Ok None)
+            (sym w.peer-is) short
       ],
     )
