@@ -58,8 +58,7 @@ Tells said ends made ending =
     ⊎ ((made ≡ []) × (ending ≡ Some (Err OutOfMemory)))
 
 -- the frame that stood first in a peer's dialog, if it was whole, was answered over an archive;
--- what
--- the server is set to stays, and the time isn't asked for
+-- what the server is set to stays, and the time isn't asked for
 pub record AnswersPeer {A C : Type 0} (state : A → Store) (v : World A C) (peer : PeerDialog)
     (made : List ℕ) (ending : Option ConversationEnding) (w : World A C)
     (next : OtherEnd) : Type 0 where
