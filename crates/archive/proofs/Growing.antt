@@ -20,7 +20,8 @@ grows-then own R S T first later = by first.0 R first.1
     by (r ∷ rs) Q h = let more = by rs (put r Q) h.1 in (r ∷ more.0, (h.0, more.1))
 
 -- a record that is learned, where it is an update's if it is added
-pub grows-learned : (own : ℕ) (R : Content) (r : Record) → (finding R r ≡ Adds → IsUpdateOf own R r) → Grows own R (unwrap_or (learned R r) R)
+pub grows-learned : (own : ℕ) (R : Content) (r : Record) → (finding R r ≡ Adds → IsUpdateOf own R r)
+    → Grows own R (unwrap_or (learned R r) R)
 grows-learned own R r is = by (finding R r) refl
   where
     by : (f : Finding) → finding R r ≡ f → Grows own R (unwrap_or (after_finding R r f) R)

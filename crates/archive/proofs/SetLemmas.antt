@@ -23,14 +23,23 @@ module _ {X : Type 0} (cmp : X → X → Ordering) (total : IsTotalOrder cmp) wh
   abbrev AtMost : X → X → Type 0
   AtMost a b = is_gt (cmp a b) ≡ false
 
-  pairwise-insert_sorted : (new : X) (xs : List X) → IsPairwise AtMost xs → IsPairwise AtMost (insert_sorted cmp new xs)
+  pairwise-insert_sorted : (new : X) (xs : List X) → IsPairwise AtMost xs
+      → IsPairwise AtMost (insert_sorted cmp new xs)
   pairwise-insert_sorted new [] up = (tt, tt)
   pairwise-insert_sorted new (x ∷ xs) up = go (cmp new x) refl (pairwise-insert_sorted new xs up.1)
     where
       below : AtMost new x → IsPairwise AtMost (new ∷ x ∷ xs)
-      below first = ((first, all_weaker (AtMost x) (AtMost new) (λ z. upto total new x z first) xs up.0), up)
+      below first = (
+        (
+          first,
+          all_weaker (AtMost x) (AtMost new)
+              (λ z. upto total new x z first) xs up.0,
+        ),
+        up,
+      )
 
-      go : (o : Ordering) → cmp new x ≡ o → IsPairwise AtMost (insert_sorted cmp new xs) → IsPairwise AtMost (cond (is_gt o) (x ∷ insert_sorted cmp new xs) (new ∷ x ∷ xs))
+      go : (o : Ordering) → cmp new x ≡ o → IsPairwise AtMost (insert_sorted cmp new xs)
+          → IsPairwise AtMost (cond (is_gt o) (x ∷ insert_sorted cmp new xs) (new ∷ x ∷ xs))
       go Less e more = below (ap is_gt e)
       go Equal e more = below (ap is_gt e)
       go Greater e more = (
@@ -53,10 +62,14 @@ module _ {X : Type 0} (cmp : X → X → Ordering) (total : IsTotalOrder cmp) wh
   sorted_from_pairwise : (xs : List X) → IsPairwise AtMost xs → IsSorted cmp xs
   sorted_from_pairwise [] up k d low high = absurd (omega (arith, high))
   sorted_from_pairwise (x ∷ []) up k d low high = absurd (omega (arith, high))
-  sorted_from_pairwise (x ∷ y ∷ ys) up zero d low high = ap is_lt (total.antisymm y x) ∙ turned (cmp x y) up.0.0
-  sorted_from_pairwise (x ∷ y ∷ ys) up (suc k) d low high = rw add-one (rw add-one at (sorted_from_pairwise (y ∷ ys) up.1 k d (omega arith) (omega (arith, high))))
+  sorted_from_pairwise (x ∷ y ∷ ys) up zero d low high =
+      ap is_lt (total.antisymm y x) ∙ turned (cmp x y) up.0.0
+  sorted_from_pairwise (x ∷ y ∷ ys) up (suc k) d low high =
+      rw add-one (rw add-one at (sorted_from_pairwise (y ∷ ys) up.1 k d (omega arith)
+      (omega (arith, high))))
 
-rises_from_strict : {X : Type 0} (cmp : X → X → Ordering) (xs : List X) → IsStrictlySortedBy cmp xs → Rises cmp xs
+rises_from_strict : {X : Type 0} (cmp : X → X → Ordering) (xs : List X) → IsStrictlySortedBy cmp xs
+    → Rises cmp xs
 unfolding IsStrictlySortedBy
 rises_from_strict cmp [] up = tt
 rises_from_strict cmp (x ∷ xs) up = (up.0, rises_from_strict cmp xs up.1)
@@ -70,16 +83,20 @@ pub exact_test : (x y : ℤ) → int_eq x y ≡ true → x ≡ y
 exact_test x y e = grind (arith, nat_tests, ints)
 
 rises-dedup : (xs : List ℤ) → IsSorted int_cmp xs → Rises int_cmp (dedup int_eq xs)
-rises-dedup xs sorted = rises_from_strict int_cmp _ (IsStrictlySortedBy-dedup int_cmp_total same_test xs sorted)
+rises-dedup xs sorted = rises_from_strict int_cmp _
+    (IsStrictlySortedBy-dedup int_cmp_total same_test xs sorted)
 
 has-dedup : (xs : List ℤ) (z : ℤ) → Has xs z → Has (dedup int_eq xs) z
-has-dedup xs z h = has_from_contains _ z (Contains-dedup int_eq_equiv exact_test xs z (contains_from_has xs z h))
+has-dedup xs z h = has_from_contains _ z (Contains-dedup int_eq_equiv exact_test xs z
+    (contains_from_has xs z h))
 
 has_from_dedup : (xs : List ℤ) (z : ℤ) → Has (dedup int_eq xs) z → Has xs z
-has_from_dedup xs z h = has_from_contains xs z (Contains-from_dedup int_eq xs z (contains_from_has _ z h))
+has_from_dedup xs z h = has_from_contains xs z (Contains-from_dedup int_eq xs z
+    (contains_from_has _ z h))
 
 pub rises-once : (xs : List ℤ) → Rises int_cmp (dedup int_eq (sort_by int_cmp xs))
-rises-once xs = rises-dedup _ (sorted_from_pairwise int_cmp int_cmp_total _ (pairwise-sort_by int_cmp int_cmp_total xs))
+rises-once xs = rises-dedup _ (sorted_from_pairwise int_cmp int_cmp_total _
+    (pairwise-sort_by int_cmp int_cmp_total xs))
 
 pub has-once : (xs : List ℤ) (z : ℤ) → Has xs z → Has (dedup int_eq (sort_by int_cmp xs)) z
 has-once xs z h = has-dedup _ z (has-sort_by int_cmp int_cmp_total xs z h)
@@ -88,8 +105,12 @@ pub has_from_once : (xs : List ℤ) (z : ℤ) → Has (dedup int_eq (sort_by int
 has_from_once xs z h = has_from_sort_by int_cmp int_cmp_total xs z (has_from_dedup _ z h)
 
 -- what a sort and a `dedup` leave of times
-pub times_set : (xs ys zs : List ℤ) → IsPermutation xs ys → IsSorted int_cmp ys → IsFiltered (DiffersFromLast int_eq) [] ys zs → zs ≡ dedup int_eq (sort_by int_cmp xs)
+pub times_set : (xs ys zs : List ℤ) → IsPermutation xs ys → IsSorted int_cmp ys
+    → IsFiltered (DiffersFromLast int_eq) [] ys zs → zs ≡ dedup int_eq (sort_by int_cmp xs)
 times_set xs ys zs same sorted filtered =
-    dedup_is int_eq ys zs filtered ∙ same_members int_cmp int_cmp_total (dedup int_eq ys) (dedup int_eq (sort_by int_cmp xs)) (rises-dedup ys sorted) (rises-once xs)
-    (λ z h. has-once xs z (has-permutation ys xs z (IsPermutation-sym xs ys same) (has_from_dedup ys z h)))
+    dedup_is int_eq ys zs filtered
+    ∙ same_members int_cmp int_cmp_total (dedup int_eq ys) (dedup int_eq (sort_by int_cmp xs))
+    (rises-dedup ys sorted) (rises-once xs)
+    (λ z h. has-once xs z (has-permutation ys xs z (IsPermutation-sym xs ys same)
+    (has_from_dedup ys z h)))
     (λ z h. has-dedup ys z (has-permutation xs ys z same (has_from_once xs z h)))

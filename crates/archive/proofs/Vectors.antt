@@ -22,20 +22,29 @@ pub numbers_are : (R : Content) → IsLawfulContent R → (o : ℕ) → number_o
 unfolding numbers_of
 numbers_are R lawful zero = sym (none_beyond R 0 lawful (λ is. absurd (omega (arith, is.0))))
 numbers_are R lawful (suc o) = elim (cases_Bool (nat_lt o 64)) [
-  | inl t ↦ number_at (numbers_of R) o (suc o) (omega arith) ∙ get_or-map-range_with_len (vec R) 1 64 o (suc o) 0 (ltb-true _ _ t) (omega arith)
+  | inl t ↦ number_at (numbers_of R) o (suc o) (omega arith)
+      ∙ get_or-map-range_with_len (vec R) 1 64 o (suc o) 0 (ltb-true _ _ t) (omega arith)
   | inr f ↦
-      let past : length (numbers_of R) ≤ o = omega (arith, length-map-range_with_len (vec R) 1 64, ltb-false _ _ f) in
-      number_at (numbers_of R) o (suc o) (omega arith) ∙ (get_or-eq_default (numbers_of R) 0 past ∙ sym (none_beyond R (suc o) lawful (λ is. absurd (omega (arith, is.1, ltb-false _ _ f)))))
+      let past : length (numbers_of R) ≤ o =
+      omega (arith, length-map-range_with_len (vec R) 1 64, ltb-false _ _ f) in
+      number_at (numbers_of R) o (suc o) (omega arith)
+      ∙ (get_or-eq_default (numbers_of R) 0 past
+      ∙ sym (none_beyond R (suc o) lawful (λ is.
+      absurd (omega (arith, is.1, ltb-false _ _ f)))))
 ]
 
 pub numbers_vector : (R : Content) → IsLawfulContent R → IsVector (numbers_of R)
 unfolding numbers_of
 numbers_vector R lawful = record {
   whole = length-map-range_with_len (vec R) 1 64;
-  within = λ o. let e = numbers_are R lawful o in let h = numbers_small R o lawful.closed in omega (arith, e, h);
+  within = λ o. let e = numbers_are R lawful o in let h = numbers_small R o lawful.closed in
+      omega (arith, e, h);
 }
 
 -- what an archive told as its vector is that
-pub told_is : (R : Content) (v : List ℕ) → IsLawfulContent R → IsVector v → ((o : ℕ) → number_of v o ≡ vec R o) → v ≡ numbers_of R
+pub told_is : (R : Content) (v : List ℕ) → IsLawfulContent R → IsVector v
+    → ((o : ℕ) → number_of v o ≡ vec R o) → v ≡ numbers_of R
 unfolding numbers_of
-told_is R v lawful is told = same_numbers v (numbers_of R) (is.whole ∙ sym (length-map-range_with_len (vec R) 1 64)) (λ o. told o ∙ sym (numbers_are R lawful o))
+told_is R v lawful is told = same_numbers v (numbers_of R)
+    (is.whole ∙ sym (length-map-range_with_len (vec R) 1 64))
+    (λ o. told o ∙ sym (numbers_are R lawful o))

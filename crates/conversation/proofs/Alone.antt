@@ -150,7 +150,8 @@ module _ {R W A C : Type 0} (input : Input R) (output : Output W) (state : A →
         later = with_more link [];
         settings = refl;
         clock = gave_none v.clock;
-        advances = turned-none v.server.settings (state v.server.replica.archive) (with_more link []);
+        advances = turned-none v.server.settings (state v.server.replica.archive)
+            (with_more link []);
         leaves = is ∙ ap (λ (waiting : List ℕ). Client (record link { waiting = waiting }))
             (sym (append-nil link.waiting));
       })
@@ -266,7 +267,8 @@ module _ {R W A C : Type 0} (input : Input R) (output : Output W) (state : A →
           (bytes_made steps) new.handler on in
           same-answered v own.1 w link (bytes ++ bytes_received steps)
           (made ++ bytes_made steps) new.handler (own.5.0 ∙ own.4)
-          (subst (λ (m : List ℕ). AnswersStretch state gave own.1 link (bytes ++ bytes_received steps)
+          (subst (λ (m : List ℕ). AnswersStretch state gave own.1 link
+          (bytes ++ bytes_received steps)
           (m ++ bytes_made steps) w new.handler) (sym got.0) behind)
       alone v w link old new (step.Answers made end ∷ steps) is taken own =
           let said = subst (λ (o : OtherEnd).
@@ -358,7 +360,8 @@ module _ {R W A C : Type 0} (input : Input R) (output : Output W) (state : A →
           same
           (subst (λ (m : List ℕ). AnswersStretch state gave own.1 new_link
           ((letters ++ bytes) ++ rest) (m ++ bytes_made steps) w new.handler) (sym got.0) on))
-      from-letters v w letters old new (step.Answers made end ∷ steps) is few taken long client own =
+      from-letters v w letters old new
+          (step.Answers made end ∷ steps) is few taken long client own =
           let said = subst (λ (o : OtherEnd).
           AnswersFirst state gave own.0 o made end own.1 own.3.handler) is own.5.answers in
           let on = from-letters own.1 w letters own.3 new steps said.3 few taken.1 long client own.6

@@ -9,7 +9,7 @@ use Rattle.archive.specs.Growth.{GrowsBy}
 use Rattle.archive.specs.Store.{Store, StepResult, IsLeft}
 use Rattle.archive.specs.Steps.{Transitions}
 use Rattle.archive.proofs.Calls.{passes-none, passes-then}
-use Rattle.exchange.specs.Named.{Party}
+use Rattle.exchange.specs.declared.message.Party.{Party}
 use Rattle.exchange.specs.Dialogs.{DialogState, received, records_read, learned_at, party_of}
 use Rattle.exchange.proofs.HandleLemmas.{unbroken_before}
 use Rattle.exchange.proofs.LeftLemmas.{answered_left}

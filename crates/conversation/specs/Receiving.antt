@@ -3,7 +3,7 @@ use Rattle.std.specs.Prelude.{◌≡◌, ℕ, Bool, true, false, List, [], Optio
 use Rattle.ua_binary.specs.declared.codes.TheConstants.Status.{BAD_OUT_OF_MEMORY}
 use Rattle.uacp.specs.Greeting.{error}
 use Rattle.exchange.specs.declared.fault.ExchangeFault.TheVariants as exchange
-use Rattle.exchange.specs.Named.{end_frame}
+use Rattle.exchange.specs.Frames.{end_frame}
 use Rattle.counted_io.specs.declared.fault.ServeFault.TheVariants.{OutOfMemory}
 use Rattle.ua_connection.specs.declared.outcome.Served.TheVariants.{Refused}
 use Rattle.ua_peers.specs.declared.peers.PeerEnded.TheVariants.{Failed}

@@ -19,7 +19,11 @@ use Rattle.exchange.specs.Dialogs.{Turn, failing, learning, pushing, title_by}
 
 -- the initiator pulls until nothing comes, and then pushes
 abbrev pub pulled : Party → Content → Title → List Record → Turn
-pulled p R t list = elim list [ [] ↦ pushing p R (batch_of R (number_of t.vector)) | r ∷ rs ↦ learning p Pulling R (r ∷ rs) ]
+pulled p R t list = elim list [
+  | [] ↦ pushing p R (batch_of R (number_of t.vector))
+  | r ∷ rs ↦
+      learning p Pulling R (r ∷ rs)
+]
 
 abbrev pub taken_after : Option ExchangeFault → ℕ → ℕ
 taken_after given n = elim given [ None ↦ n + 1 | Some fault ↦ n ]
@@ -29,7 +33,13 @@ bytes_of message = option_map_or frame_of message []
 
 -- the own vector goes out
 abbrev pub asking : Party → State → Content → Turn
-asking p state R = record { result = Ok state; reply = Some (Asks (title_by p R)); content = R; code = None }
+asking p state R = record {
+  result = Ok state;
+  reply = Some (Asks (title_by p R));
+  content =
+      R;
+  code = None;
+}
 
 abbrev pub learnt : Party → State → Content → Option ExchangeFault → Turn
 learnt p state R given = elim given [ None ↦ asking p state R | Some fault ↦ failing R fault ]

@@ -34,6 +34,10 @@ use Rattle.exchange.specs.Frames.{message_at, frame_of, HasFrame}
 abbrev pub title_by : Party → Content → Title
 title_by p R = record { id = p.id; sender = p.own; vector = numbers_of R }
 
+-- the frame that asks for what the sender lacks, and says what it holds
+abbrev pub asking_frame : Party → Content → List ℕ
+asking_frame p R = frame_of (Asks (title_by p R))
+
 -- ---- what a frame comes to
 
 -- what is answered to the caller and to the peer, the content after it, and the number that the

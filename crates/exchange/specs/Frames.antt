@@ -25,12 +25,12 @@ use Rattle.exchange.specs.Batches.{most, longest_frame, frame_length}
 -- ---- bodies
 
 -- whatever is wrong with an encoding, it is one fault
-abbrev pub ill : {E A : Type 0} → Format E A → Format ExchangeFault A
-ill f = raised (λ _. Frame) f
+abbrev pub with_frame_fault : {E A : Type 0} → Format E A → Format ExchangeFault A
+with_frame_fault f = raised (λ _. Frame) f
 
 -- the number of a replica, 1 to 64
 abbrev pub sender : Format ExchangeFault ℕ
-sender = passing (λ n. nat_le 1 n && nat_le n 64) Frame (ill byte)
+sender = passing (λ n. nat_le 1 n && nat_le n 64) Frame (with_frame_fault byte)
 
 -- the title has a spelling
 pub record IsTitle (t : Title) : Type 0 where
@@ -45,24 +45,25 @@ title =
     (standing_for
     (λ (format, (id, (sender, vector))). record { id = id; sender = sender; vector = vector })
     (λ t. (2, (t.id, (t.sender, t.vector))))
-    (passing (λ n. n == 2) Frame (passing (λ n. not (n == 1)) PeerFormat (ill byte))
-    ▸ ill (block 16) ▸ sender ▸ ill vector))
+    (passing (λ n. n == 2) Frame (passing (λ n. not (n == 1)) PeerFormat (with_frame_fault byte))
+    ▸ with_frame_fault (block 16) ▸ sender ▸ with_frame_fault vector))
 
 -- how many records follow
 abbrev pub count : Format ExchangeFault ℕ
-count = passing (λ n. nat_le n most) Frame (ill (unsigned w32))
+count = passing (λ n. nat_le n most) Frame (with_frame_fault (unsigned w32))
 
 -- some bytes behind their number
 abbrev pub length_prefixed : Format ExchangeFault (List ℕ)
-length_prefixed = headed length (ill (unsigned w32)) (λ n. ill (block n))
+length_prefixed = headed length (with_frame_fault (unsigned w32)) (λ n. with_frame_fault (block n))
 
 -- one record behind its length, as a frame has several
 unfoldable pub length_prefixed_record : Format ExchangeFault Record
-length_prefixed_record = fitting IsRecord (inside Frame length_prefixed (ill record_form))
+length_prefixed_record = fitting IsRecord (inside Frame length_prefixed
+    (with_frame_fault record_form))
 
 -- the number that ends a dialog
 abbrev pub code : Format ExchangeFault ℕ
-code = ill (unsigned w32)
+code = with_frame_fault (unsigned w32)
 
 -- ---- what a body says
 
@@ -106,6 +107,10 @@ abbrev pub frame_of : Message → List ℕ
 frame_of m =
     frame_letters (kind_of m)
     ++ ((unsigned w32).canon (8 + length (frame_body_of m)) ++ frame_body_of m)
+
+-- the frame that ends a dialog by this number
+abbrev pub end_frame : ℕ → List ℕ
+end_frame n = frame_of (Ends n)
 
 -- the bytes begin with this word
 abbrev pub begins : List ℕ → List ℕ → Bool

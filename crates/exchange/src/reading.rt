@@ -9,7 +9,7 @@ ghost use Rattle.stamp.specs.Vector.{vector};
 ghost use Rattle.records.specs.Spelling.{GivesUnless, IsRecord, record_form};
 ghost use Rattle.exchange.specs.declared.fault.ExchangeFault.TheVariants as fault;
 ghost use Rattle.exchange.specs.declared.message.Party.{Party as Reader};
-ghost use Rattle.exchange.specs.Frames.{ill, title, count, length_prefixed, length_prefixed_record, code, checked_sender, message_at, IsLearnable};
+ghost use Rattle.exchange.specs.Frames.{with_frame_fault, title, count, length_prefixed, length_prefixed_record, code, checked_sender, message_at, IsLearnable};
 
 use crate::fault::ExchangeFault;
 use crate::message::{FrameKind, Message, Party, Title};
@@ -23,7 +23,7 @@ use uuid::Uuid;
 const MOST: u32 = 1000;
 
 fn read_byte(cursor: &mut Cursor<'_>) -> Result<u8, ExchangeFault>
-    ensures { Reads (λ x. x) result cursor.old cursor.new (ill byte).read }
+    ensures { Reads (λ x. x) result cursor.old cursor.new (with_frame_fault byte).read }
 {
     match cursor.u8() {
         Ok(found) => Ok(found),
@@ -32,7 +32,7 @@ fn read_byte(cursor: &mut Cursor<'_>) -> Result<u8, ExchangeFault>
 }
 
 fn read_number(cursor: &mut Cursor<'_>) -> Result<u32, ExchangeFault>
-    ensures { Reads (λ x. x) result cursor.old cursor.new (ill (unsigned w32)).read }
+    ensures { Reads (λ x. x) result cursor.old cursor.new (with_frame_fault (unsigned w32)).read }
 {
     match cursor.u32() {
         Ok(found) => Ok(found),
@@ -41,7 +41,7 @@ fn read_number(cursor: &mut Cursor<'_>) -> Result<u32, ExchangeFault>
 }
 
 fn read_block<'a>(cursor: &mut Cursor<'a>, len: usize) -> Result<&'a [u8], ExchangeFault>
-    ensures { Reads (λ x. x.now) result cursor.old cursor.new (ill (block len)).read }
+    ensures { Reads (λ x. x.now) result cursor.old cursor.new (with_frame_fault (block len)).read }
 {
     match cursor.block(len) {
         Ok(found) => Ok(found),
@@ -50,7 +50,7 @@ fn read_block<'a>(cursor: &mut Cursor<'a>, len: usize) -> Result<&'a [u8], Excha
 }
 
 fn read_vector(cursor: &mut Cursor<'_>) -> Result<Vector, ExchangeFault>
-    ensures { Reads (λ x. x) result cursor.old cursor.new (ill vector).read }
+    ensures { Reads (λ x. x) result cursor.old cursor.new (with_frame_fault vector).read }
 {
     match Vector::read(cursor) {
         Ok(found) => Ok(found),
@@ -60,7 +60,7 @@ fn read_vector(cursor: &mut Cursor<'_>) -> Result<Vector, ExchangeFault>
 
 /// An archive's id.
 fn read_id(cursor: &mut Cursor<'_>) -> Result<Uuid, ExchangeFault>
-    ensures { Reads (λ v. v) result cursor.old cursor.new (ill (block 16)).read }
+    ensures { Reads (λ v. v) result cursor.old cursor.new (with_frame_fault (block 16)).read }
 {
     let mut next = cursor.fork();
     let Ok(id) = Uuid::from_slice(read_block(&mut next, 16)?) else {
@@ -120,7 +120,7 @@ fn read_sized<'a>(cursor: &mut Cursor<'a>) -> Result<&'a [u8], ExchangeFault>
 #[tactic(auto, using(crate::proofs::FrameLemmas::record_whole))]
 fn record_in(alloc: Global, bytes: &[u8]) -> Result<Record, ExchangeFault>
     ensures gives { GivesUnless fault.OutOfMemory result
-        (whole fault.Frame (ill record_form) bytes.now) }
+        (whole fault.Frame (with_frame_fault record_form) bytes.now) }
     ensures lawful { IfOk result IsRecord }
 {
     match read_record(alloc, bytes) {

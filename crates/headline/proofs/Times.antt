@@ -85,7 +85,8 @@ lawful_step w (Operates i request op) sound lawful is = go (slice_get w.replicas
     go : (o : Option ReplicaState) → slice_get w.replicas i ≡ o
         → AreLawful (record {
           replicas =
-              option_map_or (λ s. slice_set w.replicas i (record s { content = operated request op s })) o
+              option_map_or (λ s. slice_set w.replicas i
+              (record s { content = operated request op s })) o
               w.replicas;
           pool = w.pool;
         })

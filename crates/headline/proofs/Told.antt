@@ -420,63 +420,69 @@ module _ (may : Bool) (own : ℕ) (space : Layout) (user : List ℕ) (now : Tick
 
 abbrev AllHeld : (may : Bool) → ServerConfig → Ticks → NodeId → List Details → SessionsState
     → Content → List HistoryUpdateResult → Content → Type 0
-AllHeld may site now token ds sessions R results S =
+AllHeld may config now token ds sessions R results S =
     (user : List ℕ) × (user_at sessions token ≡ Ok user)
     × ((i : ℕ) (d : Details) (result : HistoryUpdateResult) → slice_get ds i ≡ Some d
     → slice_get results i ≡ Some result
-    → (T : Content) × IsWithin R T × IsHeldFor site.own site.settings.space user now T d result S)
-    × AddsAll may site.own site.settings.space user now ds results R S
+    → (T : Content) × IsWithin R T
+    × IsHeldFor config.own config.settings.space user now T d result S)
+    × AddsAll may config.own config.settings.space user now ds results R S
 
-session_held : (may : Bool) (site : ServerConfig) (now : Ticks) (token : NodeId) (ds : List Details)
+session_held : (may : Bool) (config : ServerConfig) (now : Ticks) (token : NodeId)
+    (ds : List Details)
     (sessions : SessionsState) (R : Content) (marks : List StepResult)
     (results : List HistoryUpdateResult) (user : Result (List ℕ) SessionFault)
     → user_at sessions token ≡ user
-    → (in_session sessions user (λ user. update_history site.own site.settings.space user now ds R)
+    → (in_session sessions user (λ user.
+    update_history config.own config.settings.space user now ds R)
     R marks).0.0.0 ≡ Ok (answer.Updated results)
     → MayStandBehindBreak may marks
-    → AllHeld may site now token ds sessions R results
-    (in_session sessions user (λ user. update_history site.own site.settings.space user now ds R) R
+    → AllHeld may config now token ds sessions R results
+    (in_session sessions user (λ user.
+    update_history config.own config.settings.space user now ds R) R
     marks).0.1
-session_held may site now token ds sessions R marks results (Err fault) e f allowed = absurd (cc)
-session_held may site now token ds sessions R marks results (Ok user) e f allowed = (
+session_held may config now token ds sessions R marks results (Err fault) e f allowed = absurd (cc)
+session_held may config now token ds sessions R marks results (Ok user) e f allowed = (
   user,
   e,
-  history_held may site.own site.settings.space user now ds R
+  history_held may config.own config.settings.space user now ds R
       (list_refusal 100 (length ds)) marks results f,
-  history_added may site.own site.settings.space user now ds R
+  history_added may config.own config.settings.space user now ds R
       (list_refusal 100 (length ds)) marks results f allowed,
 )
 
-pub good_held : (may : Bool) (site : ServerConfig) (now : Ticks) (message : List ℕ) (token : NodeId)
+pub good_held : (may : Bool) (config : ServerConfig) (now : Ticks) (message : List ℕ)
+    (token : NodeId)
     (ds : List Details) (sessions : SessionsState) (R : Content) (marks : List StepResult)
     (results : List HistoryUpdateResult)
     → request.request_in message ≡ Ok (token, Some (request.HistoryUpdate ds))
-    → (answered site now message sessions R marks).0.0.0 ≡ Ok (answer.Updated results)
+    → (answered config now message sessions R marks).0.0.0 ≡ Ok (answer.Updated results)
     → MayStandBehindBreak may marks
-    → AllHeld may site now token ds sessions R results
-    (answered site now message sessions R marks).0.1
-good_held may site now message token ds sessions R marks results e =
+    → AllHeld may config now token ds sessions R results
+    (answered config now message sessions R marks).0.1
+good_held may config now message token ds sessions R marks results e =
     subst (λ (r : Result request.Request Status).
-    (answered_request site now r sessions R marks).0.0.0 ≡ Ok (answer.Updated results)
+    (answered_request config now r sessions R marks).0.0.0 ≡ Ok (answer.Updated results)
     → MayStandBehindBreak may marks
-    → AllHeld may site now token ds sessions R results
-    (answered_request site now r sessions R marks).0.1) (sym e)
+    → AllHeld may config now token ds sessions R results
+    (answered_request config now r sessions R marks).0.1) (sym e)
     (by marks)
   where
-    by : (ms : List StepResult) → (answered_request site now
+    by : (ms : List StepResult) → (answered_request config now
         (Ok (token, Some (request.HistoryUpdate ds))) sessions R ms).0.0.0
         ≡ Ok (answer.Updated results)
         → MayStandBehindBreak may ms
-        → AllHeld may site now token ds sessions R results
-        (answered_request site now (Ok (token, Some (request.HistoryUpdate ds))) sessions R ms).0.1
-    by [] f allowed = session_held may site now token ds sessions R [] results
+        → AllHeld may config now token ds sessions R results
+        (answered_request config now
+        (Ok (token, Some (request.HistoryUpdate ds))) sessions R ms).0.1
+    by [] f allowed = session_held may config now token ds sessions R [] results
         (user_at sessions token) refl f tt
-    by (Done ∷ ms) f allowed = session_held may site now token ds sessions R ms results
+    by (Done ∷ ms) f allowed = session_held may config now token ds sessions R ms results
         (user_at sessions token) refl f allowed.1
     by (NoMemory ∷ ms) f allowed = absurd (cc)
     by (RecordStands ∷ ms) f allowed =
-        session_held may site now token ds sessions R ms results
+        session_held may config now token ds sessions R ms results
         (user_at sessions token) refl f allowed.1
     by (StoreFailed fault ∷ ms) f allowed =
-        session_held may site now token ds sessions R ms results
+        session_held may config now token ds sessions R ms results
         (user_at sessions token) refl f allowed.1

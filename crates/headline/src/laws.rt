@@ -100,7 +100,8 @@ pub fn replicas_converge()
     ensures messages { (p : Execution) (s t : ReplicaState) (here there : Server) (now then : Time)
         (message other : List ℕ) (asked : HistoryAsked) (sessions others : Sessions)
         (marks more : List StepResult)
-        → IsExecution p → IsReachable p s → IsReachable p t → HaveLearnedSameNames s t → IsServerOf here s
+        → IsExecution p → IsReachable p s → IsReachable p t → HaveLearnedSameNames s t
+        → IsServerOf here s
         → IsServerOf there t → HaveSameNodes here there
         → AsksHistory message asked sessions → AsksHistory other asked others
         → AreAlike (response_of here now message sessions s.content marks)
@@ -110,7 +111,8 @@ pub fn replicas_converge()
         → AreFree others → bytes_of results ≡ bytes_of others }
     ensures clear { (p : Execution) (s t : ReplicaState) (here there : Server) (now then : Time)
         (message other : List ℕ) (asked : HistoryAsked) (sessions others : Sessions)
-        → IsExecution p → IsReachable p s → IsReachable p t → HaveLearnedSameNames s t → IsServerOf here s
+        → IsExecution p → IsReachable p s → IsReachable p t → HaveLearnedSameNames s t
+        → IsServerOf here s
         → IsServerOf there t → HaveSameNodes here there
         → AsksHistory message asked sessions → AsksHistory other asked others
         → response_of here now message sessions s.content [] ≡ response_of there
@@ -307,18 +309,18 @@ pub fn machines_simulate_an_execution<A: Archive>()
 /// one for each such operation, in order; but where an operation broke the store its record may stand too, if `may` says that one may.
 #[tactic(auto, using(crate::proofs::Told::good_held))]
 pub fn good_answers_are_stored()
-    ensures { (may : Bool) (site : Server) (now : Time) (message : List ℕ) (token : NodeId)
+    ensures { (may : Bool) (config : Server) (now : Time) (message : List ℕ) (token : NodeId)
         (details : List Details) (sessions : Sessions) (R : Content) (marks : List StepResult)
         (results : List HistoryUpdateResult)
         → request_in message ≡ Ok (token, Some (HistoryUpdate details))
-        → (answered site now message sessions R marks).0.0.0 ≡ Ok (Updated results)
+        → (answered config now message sessions R marks).0.0.0 ≡ Ok (Updated results)
         → MayStandBehindBreak may marks
         → (user : List ℕ) × (user_at sessions token ≡ Ok user)
         × ((i : ℕ) (d : Details) (result : HistoryUpdateResult) → slice_get details i ≡ Some d
         → slice_get results i ≡ Some result
         → (S : Content) × IsWithin R S
-        × IsHeldFor site.own site.settings.space user now S d result
-        (answered site now message sessions R marks).0.1)
-        × AddsAll may site.own site.settings.space user now details results R
-        (answered site now message sessions R marks).0.1 }
+        × IsHeldFor config.own config.settings.space user now S d result
+        (answered config now message sessions R marks).0.1)
+        × AddsAll may config.own config.settings.space user now details results R
+        (answered config now message sessions R marks).0.1 }
 {}

@@ -18,7 +18,8 @@ use Rattle.hist_read.specs.Node.{Behind, page_from, refused_read}
 
 -- the point is one of this archive, of this node, and of what is asked
 abbrev pub agrees : List ℕ → NodeId → Details → Point → Bool
-agrees id node q p = pointwise nat_eq p.archive id && (same_node p.node node && is_same details.the_row.coded p.details q)
+agrees id node q p = pointwise nat_eq p.archive id
+    && (same_node p.node node && is_same details.the_row.coded p.details q)
 
 -- the answer, or what came in the way of the read
 abbrev pub told : HistoryReadResult → StepResult → HistoryReadResult
@@ -28,5 +29,14 @@ told answer mark = option_map_or refused_read (status_told mark) answer
 abbrev pub covers : Content → List ℕ → Bool
 covers R v = pointwise nat_le v (numbers_of R)
 
-abbrev pub read_from : List ℕ → NodeId → Query → Content → Result (Option Behind) Status → Fallible (HistoryReadResult × Content)
-read_from id node query R result = elim result [ Err status ↦ give (refused_read status, R) | Ok behind ↦ step (λ mark. (option_map_or refused_read (status_told mark) (page_from R id node query behind), R)) ]
+abbrev pub read_from : List ℕ → NodeId → Query → Content → Result (Option Behind) Status
+    → Fallible (HistoryReadResult × Content)
+read_from id node query R result = elim result [
+  | Err status ↦
+      give (refused_read status, R)
+  | Ok behind ↦
+      step (λ mark. (
+        option_map_or refused_read (status_told mark) (page_from R id node query behind),
+        R,
+      ))
+]

@@ -12,7 +12,8 @@ use Rattle.hist_read.specs.Reads.{far, is_near_alone, is_spent, near, page_size}
 
 -- the far bound, behind items of which the last has this time
 abbrev pub far_part : Content → NodeId → Details → ℤ → List Item
-far_part R node q before = if q.return_bounds && not (is_near_alone q) then far R node q before ∷ [] else []
+far_part R node q before = if q.return_bounds && not (is_near_alone q) then far R node q before
+    ∷ [] else []
 
 abbrev pub lives_in : Content → NodeId → Details → List Held
 lives_in R node q = in_direction (direction q) (lives R node)
@@ -23,4 +24,8 @@ goes_on q p items = nat_lt (page_size q p) (length items) && not (is_spent q p)
 
 -- the near bound, where it wasn't given yet
 abbrev pub near_part : Content → NodeId → Details → Option Position → List Item
-near_part R node q given = elim given [ None ↦ if q.return_bounds then near R node q ∷ [] else [] | Some p ↦ [] ]
+near_part R node q given = elim given [
+  | None ↦
+      if q.return_bounds then near R node q ∷ [] else []
+  | Some p ↦ []
+]

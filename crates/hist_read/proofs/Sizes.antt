@@ -9,7 +9,9 @@ use Rattle.hist_read.specs.declared.point.Position.{Position}
 pub page_most : (q : Details) (p : Option Position) → page_size q p ≤ most_items q
 page_most q p = go (q.num_values_per_node == 0) (has_both q) q.num_values_per_node (given_before p)
   where
-    go : (none both : Bool) (count given : ℕ) → cond none 1000 (min 1000 (cond both count (count - given))) ≤ cond none 1000 (min 1000 count)
+    go : (none both : Bool) (count given : ℕ)
+        → cond none 1000 (min 1000 (cond both count (count - given)))
+        ≤ cond none 1000 (min 1000 count)
     go true both count given = omega arith
     go false true count given = omega arith
     go false false count given = omega arith

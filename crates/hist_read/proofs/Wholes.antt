@@ -52,43 +52,66 @@ between_from : (o l t : ℤ) → is_between o l t ≡ true → is_from Forward o
 between_from o l t e = grind (arith, ints, nat_tests, e)
 
 -- a time of the body is at the origin or beyond it
-body_from : (q : Details) (t : ℤ) → in_body q t ≡ true → is_from (direction q) (origin_time q) t ≡ true
+body_from : (q : Details) (t : ℤ) → in_body q t ≡ true
+    → is_from (direction q) (origin_time q) t ≡ true
 body_from q t e = go (has_both q) refl e
   where
-    forward : has_both q ≡ true → int_eq (origin_time q) (moment q.end_time.0 0) ≡ true → direction q ≡ Forward
+    forward : has_both q ≡ true → int_eq (origin_time q) (moment q.end_time.0 0) ≡ true
+        → direction q ≡ Forward
     forward both same =
         let parts = and_parts (is_given q.start_time.0) (is_given q.end_time.0) both in
-        let start : int_eq (moment q.start_time.0 0) (moment q.end_time.0 0) ≡ true = subst (λ b. int_eq (moment (cond b q.start_time.0 q.end_time.0) 0) (moment q.end_time.0 0) ≡ true) parts.0 same in
-        let late : int_lt q.end_time.0 q.start_time.0 ≡ false = grind (arith, ints, nat_tests, start) in
-        ap (λ b. cond (b && not (is_given q.end_time.0 && int_lt q.end_time.0 q.start_time.0)) Forward Backward) parts.0
-        ∙ (ap (λ b. cond (not (b && int_lt q.end_time.0 q.start_time.0)) Forward Backward) parts.1 ∙ ap (λ b. cond (not b) Forward Backward) late)
+        let start : int_eq (moment q.start_time.0 0) (moment q.end_time.0 0) ≡ true =
+        subst (λ b. int_eq (moment (cond b q.start_time.0 q.end_time.0) 0)
+        (moment q.end_time.0 0) ≡ true) parts.0 same in
+        let late : int_lt q.end_time.0 q.start_time.0 ≡ false =
+        grind (arith, ints, nat_tests, start) in
+        ap (λ b. cond (b && not (is_given q.end_time.0 && int_lt q.end_time.0 q.start_time.0))
+        Forward Backward) parts.0
+        ∙ (ap (λ b. cond (not (b && int_lt q.end_time.0 q.start_time.0)) Forward Backward) parts.1
+        ∙ ap (λ b. cond (not b) Forward Backward) late)
 
-    go : (b : Bool) → has_both q ≡ b → in_body_of (direction q) (origin_time q) (cond b (Some (moment q.end_time.0 0)) None) t ≡ true → is_from (direction q) (origin_time q) t ≡ true
+    go : (b : Bool) → has_both q ≡ b
+        → in_body_of (direction q) (origin_time q) (cond b (Some (moment q.end_time.0 0)) None) t
+        ≡ true → is_from (direction q) (origin_time q) t ≡ true
     go false f e = e
     go true f e = at (int_eq (origin_time q) (moment q.end_time.0 0)) refl e
       where
         at : (c : Bool) → int_eq (origin_time q) (moment q.end_time.0 0) ≡ c
-            → cond c (is_between (origin_time q) (last_within (origin_time q)) t) (is_from (direction q) (origin_time q) t && is_past (direction q) t (moment q.end_time.0 0)) ≡ true → is_from (direction q) (origin_time q) t ≡ true
-        at true same e = subst (λ d. is_from d (origin_time q) t ≡ true) (sym (forward f same)) (between_from (origin_time q) (last_within (origin_time q)) t e)
-        at false same e = (and_parts (is_from (direction q) (origin_time q) t) (is_past (direction q) t (moment q.end_time.0 0)) e).0
+            → cond c (is_between (origin_time q) (last_within (origin_time q)) t)
+            (is_from (direction q) (origin_time q) t
+            && is_past (direction q) t (moment q.end_time.0 0)) ≡ true
+            → is_from (direction q) (origin_time q) t ≡ true
+        at true same e = subst (λ d. is_from d (origin_time q) t ≡ true) (sym (forward f same))
+            (between_from (origin_time q) (last_within (origin_time q)) t e)
+        at false same e = (and_parts (is_from (direction q) (origin_time q) t)
+            (is_past (direction q) t (moment q.end_time.0 0)) e).0
 
 module _ (R : Content) (node : NodeId) (q : Details) where
   abbrev past_origin : List Held
   past_origin = filter (λ h. is_past (direction q) (origin_time q) h.time) (values_inside R node q)
 
   past_is : past_origin ≡ behind_origin R node q
-  past_is = filter_same (λ h. is_past (direction q) (origin_time q) h.time) (λ h. not (int_eq h.time (origin_time q))) (values_inside R node q)
-      (λ h k. from_is_past (direction q) (origin_time q) h.time (body_from q h.time (has_from_filter (λ (x : Held). in_body q x.time) (lives_in R node q) h k).1))
+  past_is = filter_same (λ h. is_past (direction q) (origin_time q) h.time)
+      (λ h. not (int_eq h.time (origin_time q))) (values_inside R node q)
+      (λ h k. from_is_past (direction q) (origin_time q) h.time
+      (body_from q h.time (has_from_filter (λ (x : Held). in_body q x.time)
+      (lives_in R node q) h k).1))
 
   -- both, by whether bounds are asked for, and whether the count is 1
   abbrev front : (b c : Bool) → List Item
-  front b c = cond b (near R node q ∷ []) [] ++ value_items (cond (b && c) [] (filter (λ h. is_past_any (direction q) (cond b (Some (origin_time q)) None) h.time) (values_inside R node q)))
+  front b c = cond b (near R node q ∷ []) []
+      ++ value_items (cond (b && c) [] (filter
+      (λ h. is_past_any (direction q) (cond b (Some (origin_time q)) None) h.time)
+      (values_inside R node q)))
 
   abbrev raw_by : (b c : Bool) → List Item
-  raw_by b c = front b c ++ cond (b && not (b && c)) (far R node q (last_time (origin_time q) (front b c)) ∷ []) []
+  raw_by b c = front b c ++ cond (b && not (b && c))
+      (far R node q (last_time (origin_time q) (front b c)) ∷ []) []
 
   abbrev whole_by : (b c : Bool) → List Item
-  whole_by b c = cond (not b) (value_items (values_inside R node q)) (cond c (near R node q ∷ []) (with_far R node q (near R node q ∷ value_items (behind_origin R node q))))
+  whole_by b c = cond (not b) (value_items (values_inside R node q))
+      (cond c (near R node q ∷ []) (with_far R node q
+      (near R node q ∷ value_items (behind_origin R node q))))
 
   same_by : (b c : Bool) → raw_by b c ≡ whole_by b c
   same_by false c = append-nil _ ∙ ap value_items (filter_all (values_inside R node q))
@@ -103,26 +126,36 @@ module _ (R : Content) (node : NodeId) (q : Details) where
 
 -- ---- what is asked
 
-guards : {A : Type 0} (a b : Bool) (e f : Status) (x y : Result A Status) (z : A) → cond a (Err e) (cond b (Err f) x) ≡ Ok z → (a ≡ false) × (b ≡ false)
+guards : {A : Type 0} (a b : Bool) (e f : Status) (x y : Result A Status) (z : A)
+    → cond a (Err e) (cond b (Err f) x) ≡ Ok z → (a ≡ false) × (b ≡ false)
 guards true b e f x y z h = absurd cc
 guards false true e f x y z h = absurd cc
 guards false false e f x y z h = (refl, refl)
 
 module _ (id : List ℕ) (node : NodeId) (q : Details) where
-  guards_of : checked_read id node q None ≡ Ok None → ((q.is_read_modified && q.return_bounds) ≡ false) × (not (is_enough q) ≡ false)
-  guards_of e = guards (q.is_read_modified && q.return_bounds) (not (is_enough q)) BAD_INVALID_ARGUMENT BAD_HISTORY_OPERATION_INVALID (Ok None) (Ok None) None e
+  guards_of : checked_read id node q None ≡ Ok None
+      → ((q.is_read_modified && q.return_bounds) ≡ false) × (not (is_enough q) ≡ false)
+  guards_of e = guards (q.is_read_modified && q.return_bounds)
+      (not (is_enough q)) BAD_INVALID_ARGUMENT BAD_HISTORY_OPERATION_INVALID (Ok None)
+      (Ok None) None e
 
   -- what isn't refused without a point goes on where a point says
-  pub judged_is : checked_read id node q None ≡ Ok None → (continuation : Option (List ℕ)) → checked_read id node q continuation ≡ resume_place id node q continuation
+  pub judged_is : checked_read id node q None ≡ Ok None → (continuation : Option (List ℕ))
+      → checked_read id node q continuation ≡ resume_place id node q continuation
   judged_is e continuation =
       let g = guards_of e in
-      ap (λ a. cond a (Err BAD_INVALID_ARGUMENT) (cond (not (is_enough q)) (Err BAD_HISTORY_OPERATION_INVALID) (resume_place id node q continuation))) g.0
-      ∙ ap (λ b. cond b (Err BAD_HISTORY_OPERATION_INVALID) (resume_place id node q continuation)) g.1
+      ap (λ a. cond a (Err BAD_INVALID_ARGUMENT) (cond (not (is_enough q))
+      (Err BAD_HISTORY_OPERATION_INVALID) (resume_place id node q continuation))) g.0
+      ∙ ap (λ b. cond b (Err BAD_HISTORY_OPERATION_INVALID) (resume_place id node q continuation))
+      g.1
 
-  pub enough_is : checked_read id node q None ≡ Ok None → has_both q ≡ false → 0 < q.num_values_per_node
+  pub enough_is : checked_read id node q None ≡ Ok None → has_both q ≡ false
+      → 0 < q.num_values_per_node
   enough_is e open_end =
       let g = guards_of e in
-      let some : not (q.num_values_per_node == 0) ≡ true = go (is_given q.start_time.0) (is_given q.end_time.0) (not (q.num_values_per_node == 0)) g.1 open_end in
+      let some : not (q.num_values_per_node == 0) ≡ true =
+      go (is_given q.start_time.0) (is_given q.end_time.0)
+      (not (q.num_values_per_node == 0)) g.1 open_end in
       grind (arith, nat_tests, some)
     where
       go : (s t n : Bool) → not (cond s (t || n) (t && n)) ≡ false → (s && t) ≡ false → n ≡ true
@@ -138,16 +171,21 @@ module _ (id : List ℕ) (node : NodeId) (q : Details) where
 abbrev pub IsPlace : Details → Position → Type 0
 IsPlace q p = IsPosition p × (suits q p ≡ true)
 
-pub place_is : (q : Details) (p : Position) → IsDetails q → IsNext q p → p.time ≤ℤ greatest_time → IsPlace q p
+pub place_is : (q : Details) (p : Position) → IsDetails q → IsNext q p → p.time ≤ℤ greatest_time
+    → IsPlace q p
 place_is q p details next high =
     let few = pico_within p.time in
-    let fits : FitsSigned w64 (ticks_of p.time) = omega (arith, ints, next.0, high, few, whole_again p.time) in
+    let fits : FitsSigned w64 (ticks_of p.time) =
+    omega (arith, ints, next.0, high, few, whole_again p.time) in
     ((next.0, fits, next.1, small), next.2)
   where
     small : p.given < 2 ^ 32
-    small = go (has_both q) (and_parts (is_stamp_for q p.stamp) (is_given_for q p.given) (and_parts (is_phase_for q p.phase) (is_stamp_for q p.stamp && is_given_for q p.given) next.2).1).1
+    small = go (has_both q) (and_parts (is_stamp_for q p.stamp) (is_given_for q p.given)
+        (and_parts (is_phase_for q p.phase)
+        (is_stamp_for q p.stamp && is_given_for q p.given) next.2).1).1
       where
-        go : (b : Bool) → cond b (p.given == 0) (nat_lt 0 p.given && nat_lt p.given q.num_values_per_node) ≡ true → p.given < 2 ^ 32
+        go : (b : Bool) → cond b (p.given == 0) (nat_lt 0 p.given
+            && nat_lt p.given q.num_values_per_node) ≡ true → p.given < 2 ^ 32
         go true e = let none : p.given ≡ 0 = grind (arith, nat_tests, e) in omega (arith, none)
         go false e =
             let parts = and_parts (nat_lt 0 p.given) (nat_lt p.given q.num_values_per_node) e in
@@ -155,36 +193,64 @@ place_is q p details next high =
             let most = details.2 in
             omega (arith, below, most)
 
-module _ (id : List ℕ) (node : NodeId) (q : Details) (v : List ℕ) (asked : IsAsked id node q) (vector : IsVector v) where
+module _ (id : List ℕ) (node : NodeId) (q : Details) (v : List ℕ) (asked : IsAsked id node q)
+    (vector : IsVector v) where
   abbrev at : Position → Point
   at p = record { archive = id; node = node; details = q; position = p; vector = v }
 
   -- a point that was written tells its place again
-  pub point_told : (p : Position) → IsPlace q p → resume_place id node q (Some (point_at id node q v p)) ≡ Ok (Some (p, v))
+  pub point_told : (p : Position) → IsPlace q p
+      → resume_place id node q (Some (point_at id node q v p)) ≡ Ok (Some (p, v))
   unfolding point
   point_told p good =
-      let is : IsPoint (at p) = record { archive = asked.sixteen; node = asked.spelled; details = asked.details; position = good.0; suits = good.1; vector = vector } in
-      ap (λ o. place_told id node q (result_ok o)) (whole_only BadEncodingByte point_lawful (point.canon (at p)) (at p) (point_lawful.written (at p) is)) ∙ told_agreed id node q (at p) (refl, refl, refl)
+      let is : IsPoint (at p) = record {
+        archive = asked.sixteen;
+        node = asked.spelled;
+        details =
+            asked.details;
+        position = good.0;
+        suits = good.1;
+        vector = vector;
+      } in
+      ap (λ o. place_told id node q (result_ok o))
+      (whole_only BadEncodingByte point_lawful (point.canon (at p)) (at p)
+      (point_lawful.written (at p) is)) ∙ told_agreed id node q (at p) (refl, refl, refl)
 
 -- ---- reads
 
 module _ (id : List ℕ) (node : NodeId) (query : Query) where
-  pub read_is : (continuation : Option (List ℕ)) (behind : Option Behind) (first : Page) → checked_read id node query.details continuation ≡ Ok behind → IsRead id node query continuation first → first.result ≡ page_from first.content id node query behind
+  pub read_is : (continuation : Option (List ℕ)) (behind : Option Behind) (first : Page)
+      → checked_read id node query.details continuation ≡ Ok behind
+      → IsRead id node query continuation first
+      → first.result ≡ page_from first.content id node query behind
   read_is continuation behind first told read =
-      ap (λ (x : (HistoryReadResult × Content) × List _). x.0.0) (sym (read.does []) ∙ ap (λ j. read_from id node query first.content j (Done ∷ [])) told)
+      ap (λ (x : (HistoryReadResult × Content) × List _). x.0.0)
+      (sym (read.does []) ∙ ap (λ j. read_from id node query first.content j (Done ∷ [])) told)
 
-  pub is_read : (continuation : Option (List ℕ)) (behind : Option Behind) (C : Content) (result : HistoryReadResult) → checked_read id node query.details continuation ≡ Ok behind → page_from C id node query behind ≡ result
+  pub is_read : (continuation : Option (List ℕ)) (behind : Option Behind) (C : Content)
+      (result : HistoryReadResult) → checked_read id node query.details continuation ≡ Ok behind
+      → page_from C id node query behind ≡ result
       → IsRead id node query continuation (record { content = C; result = result })
   is_read continuation behind C result told is = record {
-    does = λ later. ap (λ j. read_from id node query C j (Done ∷ later)) told ∙ ap (λ x. ((x, C), later)) is;
+    does = λ later. ap (λ j. read_from id node query C j (Done ∷ later)) told
+        ∙ ap (λ x. ((x, C), later)) is;
   }
 
   -- the vector of a first page covers of a later content what was held then
-  pub later_is : (R C : Content) (p : Position) → IsLawfulContent R → IsLater R C → page_from C id node query (Some (p, numbers_of R)) ≡ page_result R (numbers_of R) id node query (Some p)
+  pub later_is : (R C : Content) (p : Position) → IsLawfulContent R → IsLater R C
+      → page_from C id node query (Some (p, numbers_of R))
+      ≡ page_result R (numbers_of R) id node query (Some p)
   later_is R C p lawful later =
       let v = numbers_of R in
-      let test : covers C v ≡ true = vectors_above v (numbers_of C) (numbers_vector R lawful) (numbers_vector C later.lawful) (λ o. let a = numbers_are R lawful o in let b = numbers_are C later.lawful o in let le = later.covers o in omega (arith, a, b, le)) in
+      let test : covers C v ≡ true =
+      vectors_above v (numbers_of C) (numbers_vector R lawful) (numbers_vector C later.lawful)
+      (λ o. let a = numbers_are R lawful o in let b = numbers_are C later.lawful o in let le =
+      later.covers o in omega (arith, a, b, le)) in
       let same : cut C (number_of v) ≡ R =
-      sym (cut_same R C (number_of v) lawful.closed later.lawful.closed later.compatible (λ o. let a = numbers_are R lawful o in omega (arith, a)) (λ o. let a = numbers_are R lawful o in let le = later.covers o in omega (arith, a, le)))
+      sym (cut_same R C (number_of v) lawful.closed later.lawful.closed later.compatible
+      (λ o. let a = numbers_are R lawful o in omega (arith, a))
+      (λ o. let a = numbers_are R lawful o in let le = later.covers o in omega (arith, a, le)))
       ∙ cut_own R lawful in
-      ap (λ t. cond t (page_result (cut C (number_of v)) v id node query (Some p)) (refused_read BAD_CONTINUATION_POINT_INVALID)) test ∙ ap (λ S. page_result S v id node query (Some p)) same
+      ap (λ t. cond t (page_result (cut C (number_of v)) v id node query (Some p))
+      (refused_read BAD_CONTINUATION_POINT_INVALID)) test
+      ∙ ap (λ S. page_result S v id node query (Some p)) same

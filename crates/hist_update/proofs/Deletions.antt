@@ -30,7 +30,8 @@ node_few : (v : NodeId) → IsNodeId v → id_length v ≤ 256 → length (node_
 unfolding node_id unsigned
 node_few (Numeric ns id) i h = go (ns == 0 && nat_lt id 256) (nat_lt ns 256 && nat_lt id 65536)
   where
-    go : (x y : Bool) → length ((if x then 0 else if y then 1 else 2) ∷ (node_form (if x then 0 else if y then 1 else 2)).canon (Numeric ns id)) ≤ 300
+    go : (x y : Bool) → length ((if x then 0 else if y then 1 else 2)
+        ∷ (node_form (if x then 0 else if y then 1 else 2)).canon (Numeric ns id)) ≤ 300
     go true y = omega (arith, form_0 ns id)
     go false true = omega (arith, form_1 ns id)
     go false false = omega (arith, form_2 ns id)
@@ -42,6 +43,13 @@ empty_length : length (data_value.canon empty) ≤ 10
 unfolding data_value
 empty_length = omega arith
 
-pub deletion_short : (request : Request) (own : ℕ) (time : ℤ) → IsNodeId request.node → IsRequest request → is_too_long request own (deletion time) ≡ false
+pub deletion_short : (request : Request) (own : ℕ) (time : ℤ) → IsNodeId request.node
+    → IsRequest request → is_too_long request own (deletion time) ≡ false
 deletion_short request own time spelled lawful =
-    le-ltb _ _ (omega (arith, fields_length (record_by request own 1 (pos 1) (deletion time)), node_few request.node spelled lawful.node, lawful.user, empty_length))
+    le-ltb _ _ (omega (
+      arith,
+      fields_length (record_by request own 1 (pos 1) (deletion time)),
+      node_few request.node spelled lawful.node,
+      lawful.user,
+      empty_length,
+    ))

@@ -21,9 +21,22 @@ short_node (Named ns name) h = omega (arith, h)
 short_node (Global ns id) h = tt
 short_node (Opaque ns id) h = omega (arith, h)
 
-pub draft_lawful : (r : Record) → IsReplica r.origin → FitsSigned w64 (ticks_of r.time) → (IsShortNode r.node → IsNodeId r.node) → is_utf8 r.user ≡ true
+pub draft_lawful : (r : Record) → IsReplica r.origin → FitsSigned w64 (ticks_of r.time)
+    → (IsShortNode r.node → IsNodeId r.node) → is_utf8 r.user ≡ true
     → (IsShortData r.value → IsDataValue r.value) → IsDraft r → is_long r ≡ false → IsLawfulRecord r
-draft_lawful r origin fits spelled text written d e = record { origin = origin; number = d.number; node = spelled (short_node r.node d.node); time = (d.time, fits); user = (d.user, text); value = written d.value; suits = d.suits; size = ltb-false _ _ e }
+draft_lawful r origin fits spelled text written d e =
+    record {
+      origin = origin;
+      number = d.number;
+      node = spelled (short_node r.node d.node);
+      time =
+          (d.time, fits);
+      user = (d.user, text);
+      value = written d.value;
+      suits = d.suits;
+      size =
+          ltb-false _ _ e;
+    }
 
 pub lawful_short : (r : Record) → IsLawfulRecord r → is_long r ≡ false
 lawful_short r l = le-ltb _ _ l.size

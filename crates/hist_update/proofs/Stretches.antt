@@ -44,12 +44,14 @@ same_test n = grind (arith, nat_tests)
 judged_by_first : (xs : List ℤ) → listing_refusal (take 1001 xs) ≡ listing_refusal xs
 judged_by_first [] = refl
 judged_by_first (x ∷ xs) =
-    ap (λ (many : Bool). if many then Some BAD_TOO_MANY_OPERATIONS else None) (ap (λ n. nat_lt 1000 (suc n)) (length-take 1000 xs) ∙ same_test (length xs))
+    ap (λ (many : Bool). if many then Some BAD_TOO_MANY_OPERATIONS else None)
+    (ap (λ n. nat_lt 1000 (suc n)) (length-take 1000 xs) ∙ same_test (length xs))
 
 few : (x : ℤ) (xs : List ℤ) → listing_refusal (x ∷ xs) ≡ None → length (x ∷ xs) ≤ 1000
 few x xs e = go (nat_lt 1000 (length (x ∷ xs))) refl e
   where
-    go : (many : Bool) → nat_lt 1000 (length (x ∷ xs)) ≡ many → (if many then Some BAD_TOO_MANY_OPERATIONS else None) ≡ None → length (x ∷ xs) ≤ 1000
+    go : (many : Bool) → nat_lt 1000 (length (x ∷ xs)) ≡ many
+        → (if many then Some BAD_TOO_MANY_OPERATIONS else None) ≡ None → length (x ∷ xs) ≤ 1000
     go true p h = absurd (none-some _ (sym h))
     go false p h = ltb-false _ _ p
 
@@ -58,13 +60,18 @@ all_listed : (xs : List ℤ) → listing_refusal xs ≡ None → take 1001 xs �
 all_listed [] e = refl
 all_listed (x ∷ xs) e = take_all 1001 (x ∷ xs) (omega (arith, few x xs e))
 
-pub listed-by-first : (own : ℕ) (request : Request) (xs : List ℤ) (R : Content) → delete_listed own request (take 1001 xs) R ≡ delete_listed own request xs R
+pub listed-by-first : (own : ℕ) (request : Request) (xs : List ℤ) (R : Content)
+    → delete_listed own request (take 1001 xs) R ≡ delete_listed own request xs R
 listed-by-first own request xs R = go (listing_refusal xs) refl
   where
-    go : (o : Option Status) → listing_refusal xs ≡ o → delete_listed own request (take 1001 xs) R ≡ delete_listed own request xs R
+    go : (o : Option Status) → listing_refusal xs ≡ o
+        → delete_listed own request (take 1001 xs) R ≡ delete_listed own request xs R
     go (Some code) e =
-        ap (λ (o : Option Status). unless o R (begin own request first_other (map DeleteAt (take 1001 xs)) R)) (judged_by_first xs ∙ e)
-        ∙ ap (λ (o : Option Status). unless o R (begin own request first_other (map DeleteAt xs) R)) (sym e)
+        ap (λ (o : Option Status).
+        unless o R (begin own request first_other (map DeleteAt (take 1001 xs)) R))
+        (judged_by_first xs ∙ e)
+        ∙ ap (λ (o : Option Status). unless o R (begin own request first_other (map DeleteAt xs) R))
+        (sym e)
     go None e = ap (λ l. delete_listed own request l R) (all_listed xs e)
 
 -- ---- the listing
@@ -74,51 +81,71 @@ cut_as [] v w same = refl
 cut_as (r ∷ R) v w same =
     let more = cut_as R v w same in
     let here : is_beyond v r ≡ is_beyond w r = ap (λ n. nat_lt n r.number) (same r.origin) in
-    ap (λ (x : Bool). if not x then r ∷ cut R v else cut R v) here ∙ ap (λ (S : Content). if not (is_beyond w r) then r ∷ S else S) more
+    ap (λ (x : Bool). if not x then r ∷ cut R v else cut R v) here
+    ∙ ap (λ (S : Content). if not (is_beyond w r) then r ∷ S else S) more
 
 -- a range over all that the archive told of itself
-pub listed : (a b c : Store) (v : List ℕ) (node : NodeId) (from to : ℤ) {B : Type 0} (items : B → List Held) (result : Result B StoreFault)
+pub listed : (a b c : Store) (v : List ℕ) (node : NodeId) (from to : ℤ) {B : Type 0}
+    (items : B → List Held) (result : Result B StoreFault)
     → Asks a b (Ok v) (λ w. (replica : ℕ) → number_of w replica ≡ vec a.content replica)
-    → Asks b c result (λ w. items w ≡ take 1001 (range_of (cut b.content (number_of v)) node from to Forward))
+    → Asks b c result (λ w. items w
+    ≡ take 1001 (range_of (cut b.content (number_of v)) node from to Forward))
     → Asks a c result (λ w. items w ≡ take 1001 (range_of a.content node from to Forward))
 listed a b c v node from to {B} items result p q =
-    asks-then a b c v result (λ w. (replica : ℕ) → number_of w replica ≡ vec a.content replica) (λ w. items w ≡ take 1001 (range_of (cut b.content (number_of v)) node from to Forward))
-    (λ w. items w ≡ take 1001 (range_of a.content node from to Forward)) p q (λ h same is told. shown result (whole h same is) told)
+    asks-then a b c v result (λ w. (replica : ℕ) → number_of w replica ≡ vec a.content replica)
+    (λ w. items w ≡ take 1001 (range_of (cut b.content (number_of v)) node from to Forward))
+    (λ w. items w ≡ take 1001 (range_of a.content node from to Forward)) p q
+    (λ h same is told. shown result (whole h same is) told)
   where
-    whole : c.honest → b.content ≡ a.content → ((replica : ℕ) → number_of v replica ≡ vec a.content replica) → cut b.content (number_of v) ≡ a.content
+    whole : c.honest → b.content ≡ a.content → ((replica : ℕ)
+        → number_of v replica ≡ vec a.content replica) → cut b.content (number_of v) ≡ a.content
     whole h same is =
-        let settled = p.leaves.before (p.leaves.passes.honest (q.leaves.passes.honest h)) (in_use a b p.leaves) in
-        ap (λ S. cut S (number_of v)) same ∙ (cut_as a.content (number_of v) (vec a.content) is ∙ cut_whole a.content settled.lawful.closed)
+        let settled = p.leaves.before (p.leaves.passes.honest (q.leaves.passes.honest h))
+        (in_use a b p.leaves) in
+        ap (λ S. cut S (number_of v)) same ∙ (cut_as a.content (number_of v) (vec a.content) is
+        ∙ cut_whole a.content settled.lawful.closed)
 
-    shown : (r : Result B StoreFault) → cut b.content (number_of v) ≡ a.content → IfOk r (λ w. items w ≡ take 1001 (range_of (cut b.content (number_of v)) node from to Forward))
+    shown : (r : Result B StoreFault) → cut b.content (number_of v) ≡ a.content
+        → IfOk r (λ w. items w ≡ take 1001 (range_of
+        (cut b.content (number_of v)) node from to Forward))
         → IfOk r (λ w. items w ≡ take 1001 (range_of a.content node from to Forward))
     shown (Ok w) e told = told ∙ ap (λ S. take 1001 (range_of S node from to Forward)) e
     shown (Err fault) e told = tt
 
 -- ---- the deletes of a listing
 
-both_maps : (lives : List Held) → map (λ (h : Held). DeleteAt h.time) lives ≡ map DeleteAt (map (λ (h : Held). h.time) lives)
+both_maps : (lives : List Held) → map (λ (h : Held). DeleteAt h.time) lives
+    ≡ map DeleteAt (map (λ (h : Held). h.time) lives)
 both_maps [] = refl
 both_maps (h ∷ lives) = ap (λ ops. DeleteAt h.time ∷ ops) (both_maps lives)
 
 -- it is refused
-pub listed-refused : (a : Store) (request : Request) (times : List ℤ) (code : Status) (result : HistoryUpdateResult) → listing_refusal times ≡ Some code → result ≡ refused_update code → BeginsListed a a request times result
-listed-refused a request times code result e is = subst (λ r. BeginsListed a a request times r) (sym is) (record {
-  used = [];
-  acts = acts-refused a (listing_refusal times) code (begin a.own request first_other (map DeleteAt times)) e;
-  ended = none-ended a.broken (needs_of a.own request (map DeleteAt times));
-  none = subst (λ o. IfSome o (λ c. ◌≡◌ {A = List StepResult} [] [])) (sym e) refl;
-})
+pub listed-refused : (a : Store) (request : Request) (times : List ℤ) (code : Status)
+    (result : HistoryUpdateResult) → listing_refusal times ≡ Some code
+    → result ≡ refused_update code → BeginsListed a a request times result
+listed-refused a request times code result e is =
+    subst (λ r. BeginsListed a a request times r) (sym is) (record {
+      used = [];
+      acts = acts-refused a (listing_refusal times) code
+          (begin a.own request first_other (map DeleteAt times)) e;
+      ended = none-ended a.broken (needs_of a.own request (map DeleteAt times));
+      none = subst (λ o. IfSome o (λ c. ◌≡◌ {A = List StepResult} [] [])) (sym e) refl;
+    })
 
 -- it isn't
-pub listed-begun : (a b : Store) (request : Request) (lives : List Held) (result : HistoryUpdateResult) → listing_refusal (map (λ (h : Held). h.time) lives) ≡ None
-    → Begins a b request first_other (map (λ (h : Held). DeleteAt h.time) lives) result → BeginsListed a b request (map (λ (h : Held). h.time) lives) result
+pub listed-begun : (a b : Store) (request : Request) (lives : List Held)
+    (result : HistoryUpdateResult) → listing_refusal (map (λ (h : Held). h.time) lives) ≡ None
+    → Begins a b request first_other (map (λ (h : Held). DeleteAt h.time) lives) result
+    → BeginsListed a b request (map (λ (h : Held). h.time) lives) result
 listed-begun a b request lives result e u =
     let times = map (λ (h : Held). h.time) lives in
-    let v : Begins a b request first_other (map DeleteAt (map (λ (h : Held). h.time) lives)) result = subst (λ ops. Begins a b request first_other ops result) (both_maps lives) u in
+    let v : Begins a b request first_other
+    (map DeleteAt (map (λ (h : Held). h.time) lives)) result =
+    subst (λ ops. Begins a b request first_other ops result) (both_maps lives) u in
     record {
       used = v.used;
-      acts = acts-free a b v.used (listing_refusal times) (begin a.own request first_other (map DeleteAt times)) result e v.acts;
+      acts = acts-free a b v.used (listing_refusal times)
+          (begin a.own request first_other (map DeleteAt times)) result e v.acts;
       ended = v.ended;
       none = subst (λ o. IfSome o (λ c. v.used ≡ [])) (sym e) tt;
     }
@@ -127,41 +154,69 @@ listed-begun a b request lives result e u =
 
 abbrev pub AnswersPast : Store → Store → Request → ℤ → ℤ → HistoryUpdateResult → Type 0
 AnswersPast a c request start end_ result =
-    (used : List StepResult) × Refines a c used (λ R. past (step status_told) R (delete_listed a.own request (live_times_in R request.node start end_) R)) result
-    × (c.honest → (R : Content) → IsLeft a R → AreEnded a.broken (true ∷ needs_of a.own request (map DeleteAt (live_times_in R request.node start end_))) used)
+    (used : List StepResult) × Refines a c used (λ R.
+    past (step status_told) R (delete_listed a.own request
+    (live_times_in R request.node start end_) R)) result
+    × (c.honest → (R : Content) → IsLeft a R
+    → AreEnded a.broken (true ∷ needs_of a.own request
+    (map DeleteAt (live_times_in R request.node start end_))) used)
 
 fine-met : {X : Type 0} (fault : StoreFault) → StoreFailed fault ≡ Done → X
 fine-met fault e = absurd (true≢false (sym (ap (λ m. elim m [ Done ↦ true | _ ↦ false ]) e)))
 
 -- the listing met a fault
-pub stretch-failed : {B : Type 0} (a c : Store) (fault : StoreFault) (P : B → Type 0) (request : Request) (start end_ : ℤ) (result : HistoryUpdateResult)
-    → Asks {A = B} a c (Err fault) P → result ≡ refused_update (store_fault_status fault) → AnswersPast a c request start end_ result
+pub stretch-failed : {B : Type 0} (a c : Store) (fault : StoreFault) (P : B → Type 0)
+    (request : Request) (start end_ : ℤ) (result : HistoryUpdateResult)
+    → Asks {A = B} a c (Err fault) P → result ≡ refused_update (store_fault_status fault)
+    → AnswersPast a c request start end_ result
 stretch-failed a c fault P request start end_ result p is =
-    let f : Content → Fallible Updated = λ R. delete_listed a.own request (live_times_in R request.node start end_) R in (
+    let f : Content → Fallible Updated =
+    λ R. delete_listed a.own request (live_times_in R request.node start end_) R in (
       StoreFailed fault ∷ [],
-      subst (λ r. Refines a c (StoreFailed fault ∷ []) (λ R. past (step status_told) R (f R)) r) (sym is) (acts-hindered a c (StoreFailed fault) (store_fault_status fault) (step status_told) f p.leaves.passes p.stays (there-behind a c (Some fault) p.leaves) (λ later. refl)),
+      subst (λ r. Refines a c (StoreFailed fault ∷ []) (λ R. past (step status_told) R (f R)) r)
+          (sym is) (acts-hindered a c (StoreFailed fault) (store_fault_status fault)
+          (step status_told) f p.leaves.passes p.stays (there-behind a c (Some fault) p.leaves)
+          (λ later. refl)),
       λ honest R h. (λ e m. fine-met fault m, tt),
     )
 
 -- the listing was answered
-pub stretch-listed : {B : Type 0} (a b c : Store) (lives : B) (items : B → List Held) (times : List ℤ) (request : Request) (start end_ from to : ℤ) (result : HistoryUpdateResult)
-    → Asks a b (Ok lives) (λ w. items w ≡ take 1001 (range_of a.content request.node from to Forward)) → from ≡ moment start 0 → to ≡ last_moment_of_range start end_ → times ≡ map (λ (h : Held). h.time) (items lives)
+pub stretch-listed : {B : Type 0} (a b c : Store) (lives : B) (items : B → List Held)
+    (times : List ℤ) (request : Request) (start end_ from to : ℤ) (result : HistoryUpdateResult)
+    → Asks a b (Ok lives) (λ w. items w
+    ≡ take 1001 (range_of a.content request.node from to Forward)) → from ≡ moment start 0
+    → to ≡ last_moment_of_range start end_ → times ≡ map (λ (h : Held). h.time) (items lives)
     → BeginsListed b c request times result → AnswersPast a c request start end_ result
 stretch-listed {B} a b c lives items times request start end_ from to result p first final is u = (
   Done ∷ u.used,
-  moves-behind a b c lives (λ (w : B). items w ≡ take 1001 (range_of a.content request.node from to Forward)) (Done ∷ u.used) (λ marks R S. Yields (past (step status_told) R (delete_listed a.own request (live_times_in R request.node start end_) R)) marks (result, S)) p u.acts.passes u.acts.there
+  moves-behind a b c lives (λ (w : B). items w
+      ≡ take 1001 (range_of a.content request.node from to Forward)) (Done ∷ u.used)
+      (λ marks R S. Yields (past (step status_told) R
+      (delete_listed a.own request (live_times_in R request.node start end_) R)) marks (result, S))
+      p u.acts.passes u.acts.there
       (λ honest told same S h.
       let (marks, so, R, was, does, grows) = u.acts.acts honest S h in
-      let from_there : R ≡ a.content = left-alone b R p.leaves.after (u.acts.passes.honest honest) (left_in_use a b p.leaves) was ∙ same in (
+      let from_there : R ≡ a.content =
+      left-alone b R p.leaves.after (u.acts.passes.honest honest) (left_in_use a b p.leaves) was
+      ∙ same in (
         Done ∷ marks,
-        (inl refl, subst (λ (x : Bool). MayBeMarksAfterRecovery x u.used marks) (left_in_use a b p.leaves) so),
-        step_past marks S told (subst (λ (Q : Content). Yields {A = Updated} (delete_listed b.own request times Q) marks (result, S)) from_there does),
-        subst (λ (Q : Content). Grows a.own Q S) from_there (subst (λ (own : ℕ). Grows own R S) p.leaves.passes.own grows),
+        (
+          inl refl,
+          subst (λ (x : Bool). MayBeMarksAfterRecovery x u.used marks)
+              (left_in_use a b p.leaves) so,
+        ),
+        step_past marks S told (subst
+            (λ (Q : Content). Yields {A = Updated} (delete_listed b.own request times Q) marks
+            (result, S)) from_there does),
+        subst (λ (Q : Content). Grows a.own Q S) from_there
+            (subst (λ (own : ℕ). Grows own R S) p.leaves.passes.own grows),
       )),
   λ honest R h.
       let same : a.content ≡ R = left-before a b R p.leaves (u.acts.passes.honest honest) h in
       let told = p.answer (u.acts.passes.honest honest) in
-      subst (λ (S : Content). AreEnded a.broken (true ∷ needs_of a.own request (map DeleteAt (live_times_in S request.node start end_))) (Done ∷ u.used)) same
+      subst (λ (S : Content). AreEnded a.broken (true
+      ∷ needs_of a.own request (map DeleteAt (live_times_in S request.node start end_)))
+      (Done ∷ u.used)) same
       (λ e m. absurd (true≢false (sym e ∙ used)), all_ended told),
 )
   where
@@ -171,49 +226,87 @@ stretch-listed {B} a b c lives items times request start end_ from to result p f
     own : b.own ≡ a.own
     own = p.leaves.passes.own
 
-    found : items lives ≡ take 1001 (range_of a.content request.node from to Forward) → times ≡ take 1001 (live_times_in a.content request.node start end_)
-    found told = is ∙ (ap (map (λ (h : Held). h.time)) (told ∙ (ap (λ t. take 1001 (range_of a.content request.node t to Forward)) first ∙ ap (λ t. take 1001 (range_of a.content request.node (moment start 0) t Forward)) final)) ∙ sym (take-map (λ (h : Held). h.time) 1001 (range_of a.content request.node (moment start 0) (last_moment_of_range start end_) Forward)))
+    found : items lives ≡ take 1001 (range_of a.content request.node from to Forward)
+        → times ≡ take 1001 (live_times_in a.content request.node start end_)
+    found told = is ∙ (ap (map (λ (h : Held). h.time))
+        (told ∙ (ap (λ t. take 1001 (range_of a.content request.node t to Forward)) first
+        ∙ ap (λ t. take 1001 (range_of a.content request.node (moment start 0) t Forward)) final))
+        ∙ sym (take-map (λ (h : Held). h.time) 1001
+        (range_of a.content request.node (moment start 0)
+        (last_moment_of_range start end_) Forward)))
 
-    step_past : (marks : List StepResult) (S : Content) → items lives ≡ take 1001 (range_of a.content request.node from to Forward)
+    step_past : (marks : List StepResult) (S : Content)
+        → items lives ≡ take 1001 (range_of a.content request.node from to Forward)
         → Yields {A = Updated} (delete_listed b.own request times a.content) marks (result, S)
-        → Yields {A = Updated} (past (step status_told) a.content (delete_listed a.own request (live_times_in a.content request.node start end_) a.content)) (Done ∷ marks) (result, S)
+        → Yields {A = Updated} (past (step status_told) a.content
+        (delete_listed a.own request (live_times_in a.content request.node start end_) a.content))
+        (Done ∷ marks) (result, S)
     step_past marks S told d =
-        let e : Yields {A = Updated} (delete_listed a.own request (live_times_in a.content request.node start end_) a.content) marks (result, S) =
-        subst (λ m. Yields {A = Updated} m marks (result, S)) (listed-by-first a.own request (live_times_in a.content request.node start end_) a.content)
-        (subst (λ l. Yields {A = Updated} (delete_listed a.own request l a.content) marks (result, S)) (found told)
-        (subst (λ n. Yields {A = Updated} (delete_listed n request times a.content) marks (result, S)) own d)) in
+        let e : Yields {A = Updated} (delete_listed a.own request
+        (live_times_in a.content request.node start end_) a.content) marks (result, S) =
+        subst (λ m. Yields {A = Updated} m marks (result, S))
+        (listed-by-first a.own request
+        (live_times_in a.content request.node start end_) a.content)
+        (subst (λ l. Yields {A = Updated} (delete_listed a.own request l a.content) marks
+        (result, S)) (found told)
+        (subst (λ n. Yields {A = Updated} (delete_listed n request times a.content) marks
+        (result, S)) own d)) in
         record { does = e.does }
 
     all_ended : items lives ≡ take 1001 (range_of a.content request.node from to Forward)
-        → AreEnded (a.broken || breaks Done) (needs_of a.own request (map DeleteAt (live_times_in a.content request.node start end_))) u.used
+        → AreEnded (a.broken || breaks Done) (needs_of a.own request
+        (map DeleteAt (live_times_in a.content request.node start end_))) u.used
     all_ended told = go (listing_refusal times) refl u.none
       where
-        go : (o : Option Status) → listing_refusal times ≡ o → IfSome o (λ code. u.used ≡ []) → AreEnded (a.broken || breaks Done) (needs_of a.own request (map DeleteAt (live_times_in a.content request.node start end_))) u.used
+        go : (o : Option Status) → listing_refusal times ≡ o → IfSome o (λ code. u.used ≡ [])
+            → AreEnded (a.broken || breaks Done) (needs_of a.own request
+            (map DeleteAt (live_times_in a.content request.node start end_))) u.used
         go (Some code) e none =
-            subst (λ l. AreEnded (a.broken || breaks Done) (needs_of a.own request (map DeleteAt (live_times_in a.content request.node start end_))) l) (sym none)
-            (none-ended (a.broken || breaks Done) (needs_of a.own request (map DeleteAt (live_times_in a.content request.node start end_))))
+            subst (λ l. AreEnded (a.broken || breaks Done)
+            (needs_of a.own request (map DeleteAt
+            (live_times_in a.content request.node start end_))) l) (sym none)
+            (none-ended (a.broken || breaks Done) (needs_of a.own request
+            (map DeleteAt (live_times_in a.content request.node start end_))))
         go None e none =
             let all : times ≡ live_times_in a.content request.node start end_ =
-            found told ∙ all_listed (live_times_in a.content request.node start end_) (sym (judged_by_first (live_times_in a.content request.node start end_)) ∙ (sym (ap listing_refusal (found told)) ∙ e)) in
-            subst (λ l. AreEnded (a.broken || breaks Done) (needs_of a.own request (map DeleteAt l)) u.used) all
-            (subst (λ n. AreEnded (a.broken || breaks Done) (needs_of n request (map DeleteAt times)) u.used) own
-            (subst (λ x. AreEnded x (needs_of b.own request (map DeleteAt times)) u.used) (left_in_use a b p.leaves ∙ (sym used ∙ sym (or-false a.broken))) u.ended))
+            found told ∙ all_listed (live_times_in a.content request.node start end_)
+            (sym (judged_by_first (live_times_in a.content request.node start end_))
+            ∙ (sym (ap listing_refusal (found told)) ∙ e)) in
+            subst (λ l. AreEnded (a.broken || breaks Done)
+            (needs_of a.own request (map DeleteAt l)) u.used) all
+            (subst (λ n. AreEnded (a.broken || breaks Done)
+            (needs_of n request (map DeleteAt times)) u.used) own
+            (subst (λ x. AreEnded x (needs_of b.own request (map DeleteAt times)) u.used)
+            (left_in_use a b p.leaves ∙ (sym used ∙ sym (or-false a.broken))) u.ended))
 
 -- it isn't refused by what it says itself
-pub stretch-free : (a c : Store) (request : Request) (modified : Bool) (start end_ : Ticks) (result : HistoryUpdateResult) → stretch_refusal modified start.0 end_.0 ≡ None
+pub stretch-free : (a c : Store) (request : Request) (modified : Bool) (start end_ : Ticks)
+    (result : HistoryUpdateResult) → stretch_refusal modified start.0 end_.0 ≡ None
     → AnswersPast a c request start.0 end_.0 result
-    → (used : List StepResult) × Refines a c used (delete_raw a.own request modified start end_) result × (c.honest → (R : Content) → IsLeft a R → AreEnded a.broken (needs_of_stretch a.own request start end_ R) used)
+    → (used : List StepResult) × Refines a c used
+    (delete_raw a.own request modified start end_) result
+    × (c.honest → (R : Content) → IsLeft a R
+    → AreEnded a.broken (needs_of_stretch a.own request start end_ R) used)
 stretch-free a c request modified start end_ result e u = (
   u.0,
-  acts-free a c u.0 (stretch_refusal modified start.0 end_.0) (λ R. past (step status_told) R (delete_listed a.own request (live_times_in R request.node start.0 end_.0) R)) result e u.1,
+  acts-free a c u.0 (stretch_refusal modified start.0 end_.0)
+      (λ R. past (step status_told) R (delete_listed a.own request
+      (live_times_in R request.node start.0 end_.0) R)) result e u.1,
   u.2,
 )
 
-pub stretch-refused : (a : Store) (request : Request) (modified : Bool) (start end_ : Ticks) (code : Status) (result : HistoryUpdateResult) → stretch_refusal modified start.0 end_.0 ≡ Some code → result ≡ refused_update code
-    → (used : List StepResult) × Refines a a used (delete_raw a.own request modified start end_) result × (a.honest → (R : Content) → IsLeft a R → AreEnded a.broken (needs_of_stretch a.own request start end_ R) used)
+pub stretch-refused : (a : Store) (request : Request) (modified : Bool) (start end_ : Ticks)
+    (code : Status) (result : HistoryUpdateResult)
+    → stretch_refusal modified start.0 end_.0 ≡ Some code → result ≡ refused_update code
+    → (used : List StepResult) × Refines a a used
+    (delete_raw a.own request modified start end_) result
+    × (a.honest → (R : Content) → IsLeft a R
+    → AreEnded a.broken (needs_of_stretch a.own request start end_ R) used)
 stretch-refused a request modified start end_ code result e is = (
   [],
   subst (λ r. Refines a a [] (delete_raw a.own request modified start end_) r) (sym is)
-      (acts-refused a (stretch_refusal modified start.0 end_.0) code (λ R. past (step status_told) R (delete_listed a.own request (live_times_in R request.node start.0 end_.0) R)) e),
+      (acts-refused a (stretch_refusal modified start.0 end_.0) code
+      (λ R. past (step status_told) R (delete_listed a.own request
+      (live_times_in R request.node start.0 end_.0) R)) e),
   λ honest R h. none-ended a.broken (needs_of_stretch a.own request start end_ R),
 )

@@ -14,7 +14,8 @@ told status codes = record { status = status codes; operation_results = codes }
 
 -- the operations of an update, whose status goes by their codes
 abbrev pub run : ℕ → Request → (List Status → Status) → List Operation → Content → Fallible Updated
-run own request status operations R = and_then (update_all own request operations R) (λ p. give (told status p.0, p.1))
+run own request status operations R =
+    and_then (update_all own request operations R) (λ p. give (told status p.0, p.1))
 
 abbrev pub all_good : List Status → Status
 all_good codes = GOOD

@@ -179,7 +179,8 @@ acts-made {X} {Y} a b g f make x y (used, acts) is made = (
       (λ marks R S. Yields (f R) marks (y, S)) (λ ms R S d. record {
         does = λ later.
             is R (ms ++ later)
-            ∙ (ap (λ (r : (X × Content) × List StepResult). let z : (Y × Content) × List StepResult =
+            ∙ (ap (λ (r : (X × Content) × List StepResult). let z : (Y × Content)
+            × List StepResult =
             ((make r.0.0, r.0.1), r.1) in z) (d.does later)
             ∙ ap (λ (w : Y). let z : (Y × Content) × List StepResult = ((w, S), later) in z)
             (sym made));

@@ -22,71 +22,72 @@ use Rattle.historian.specs.Services.{ServerConfig, MessageOutcome, called, in_se
 use Rattle.historian.specs.Telling.{Asks, service_answer, ReportsAnswer, Comes, Performs, PerformsHere, Written, Responds}
 
 -- a call that was read is served
-pub does-read : (site : ServerConfig) (now : Ticks) (token : NodeId) (o : Option Call) (call : Call)
+pub does-read : (config : ServerConfig) (now : Ticks) (token : NodeId) (o : Option Call)
+    (call : Call)
     (sessions : SessionsState) (R : Content) (used : List StepResult) (outcome : MessageOutcome)
     → o ≡ Some call
-    → Yields (served site now token call sessions R) used outcome
-    → Yields (answered_call site now token o sessions R) (Done ∷ used) outcome
-does-read site now token o call sessions R used outcome is does =
-    subst (λ o. Yields (answered_call site now token o sessions R) (Done ∷ used) outcome) (sym is)
+    → Yields (served config now token call sessions R) used outcome
+    → Yields (answered_call config now token o sessions R) (Done ∷ used) outcome
+does-read config now token o call sessions R used outcome is does =
+    subst (λ o. Yields (answered_call config now token o sessions R) (Done ∷ used) outcome) (sym is)
     (record { does = λ later. does.does later })
 
 -- none fills the bytes
-pub does-unread : (site : ServerConfig) (now : Ticks) (token : NodeId) (o : Option Call)
+pub does-unread : (config : ServerConfig) (now : Ticks) (token : NodeId) (o : Option Call)
     (sessions : SessionsState) (R : Content) → o ≡ None
-    → Yields (answered_call site now token o sessions R) (Done ∷ [])
+    → Yields (answered_call config now token o sessions R) (Done ∷ [])
     ((Err BAD_DECODING_ERROR, sessions), R)
-does-unread site now token o sessions R is =
-    subst (λ o. Yields (answered_call site now token o sessions R) (Done ∷ [])
+does-unread config now token o sessions R is =
+    subst (λ o. Yields (answered_call config now token o sessions R) (Done ∷ [])
     ((Err BAD_DECODING_ERROR, sessions), R)) (sym is) (record { does = λ later. refl })
 
 -- memory for reading is wanting
-pub does-starved : (site : ServerConfig) (now : Ticks) (token : NodeId) (o : Option Call)
+pub does-starved : (config : ServerConfig) (now : Ticks) (token : NodeId) (o : Option Call)
     (sessions : SessionsState) (R : Content)
-    → Yields (answered_call site now token o sessions R) (NoMemory ∷ [])
+    → Yields (answered_call config now token o sessions R) (NoMemory ∷ [])
     ((Err BAD_OUT_OF_MEMORY, sessions), R)
-does-starved site now token o sessions R = record { does = λ later. refl }
+does-starved config now token o sessions R = record { does = λ later. refl }
 
 -- the call can't be read, or memory for that is wanting
-pub performs-unread : {T : Type 0} (site : ServerConfig) (now : Ticks) (token : NodeId)
+pub performs-unread : {T : Type 0} (config : ServerConfig) (now : Ticks) (token : NodeId)
     (sessions : SessionsState) (service : Service) (call : T → Call) (bytes : List ℕ)
     (status : Status) (result : Result Made Status)
     → Asks service call bytes (Err status) → result ≡ Err status
-    → PerformsHere (answered_call site now token (call_in service bytes) sessions) sessions result
-performs-unread {T} site now token sessions service call bytes status result asks is =
+    → PerformsHere (answered_call config now token (call_in service bytes) sessions) sessions result
+performs-unread {T} config now token sessions service call bytes status result asks is =
     let P : Result Made Status → Type 0 =
-    PerformsHere (answered_call site now token (call_in service bytes) sessions) sessions in
+    PerformsHere (answered_call config now token (call_in service bytes) sessions) sessions in
     subst P (sym is) (elim asks [
       | inl bad ↦ (
         Done ∷ [],
         Err BAD_DECODING_ERROR,
         refl,
-        λ R. does-unread site now token (call_in service bytes) sessions R bad.1,
+        λ R. does-unread config now token (call_in service bytes) sessions R bad.1,
         inl (ap Err (sym bad.0)),
       )
       | inr starved ↦ (
         NoMemory ∷ [],
         Err BAD_OUT_OF_MEMORY,
         refl,
-        λ R. does-starved site now token (call_in service bytes) sessions R,
+        λ R. does-starved config now token (call_in service bytes) sessions R,
         inr starved,
       )
     ])
 
 -- it is read and served
-pub performs-read : (site : ServerConfig) (now : Ticks) (token : NodeId)
+pub performs-read : (config : ServerConfig) (now : Ticks) (token : NodeId)
     (sessions new : SessionsState) (service : Service) (call : Call) (bytes : List ℕ)
     (used : List StepResult) (told : Response) (result : Result Made Status)
     → call_in service bytes ≡ Some call → faults_of used ≡ []
-    → ((R : Content) → Yields (served site now token call sessions R) used ((told, new), R))
+    → ((R : Content) → Yields (served config now token call sessions R) used ((told, new), R))
     → ReportsAnswer told result
-    → PerformsHere (answered_call site now token (call_in service bytes) sessions) new result
-performs-read site now token sessions new service call bytes used told result is faultless does
+    → PerformsHere (answered_call config now token (call_in service bytes) sessions) new result
+performs-read config now token sessions new service call bytes used told result is faultless does
     tells = (
       Done ∷ used,
       told,
       faultless,
-      λ R. does-read site now token (call_in service bytes) call sessions R used
+      λ R. does-read config now token (call_in service bytes) call sessions R used
           ((told, new), R) is (does R),
       tells,
     )
@@ -132,33 +133,35 @@ called-refused {A} sessions done (Err other) fault is =
     )
 
 -- memory was wanting before the call
-pub performs-starved : (site : ServerConfig) (now : Ticks) (token : NodeId)
+pub performs-starved : (config : ServerConfig) (now : Ticks) (token : NodeId)
     (sessions : SessionsState) (service : Service) (bytes : List ℕ) (status : Status)
     (result : Result Made Status) → status ≡ BAD_OUT_OF_MEMORY → result ≡ Err status
-    → PerformsHere (answered_call site now token (call_in service bytes) sessions) sessions result
-performs-starved site now token sessions service bytes status result starved is =
+    → PerformsHere (answered_call config now token (call_in service bytes) sessions) sessions result
+performs-starved config now token sessions service bytes status result starved is =
     let P : Result Made Status → Type 0 =
-    PerformsHere (answered_call site now token (call_in service bytes) sessions) sessions in
+    PerformsHere (answered_call config now token (call_in service bytes) sessions) sessions in
     subst P (sym is) (
       NoMemory ∷ [],
       Err BAD_OUT_OF_MEMORY,
       refl,
-      λ R. does-starved site now token (call_in service bytes) sessions R,
+      λ R. does-starved config now token (call_in service bytes) sessions R,
       inr starved,
     )
 
 -- a call of the sessions was made
-pub performs-called : (site : ServerConfig) (now : Ticks) (token : NodeId)
+pub performs-called : (config : ServerConfig) (now : Ticks) (token : NodeId)
     (sessions new : SessionsState) (service : Service) (call : Call) (bytes : List ℕ)
     (f : StepResult → Response × SessionsState) (mark : StepResult) (told : Response)
     (result : Result Made Status)
     → call_in service bytes ≡ Some call → ((R : Content) (marks : List StepResult)
-    → served site now token call sessions R marks ≡ stepped f R marks) → faults_of (mark ∷ []) ≡ []
+    → served config now token call sessions R marks ≡ stepped f R marks)
+    → faults_of (mark ∷ []) ≡ []
     → f mark ≡ (told, new) → ReportsAnswer told result
-    → PerformsHere (answered_call site now token (call_in service bytes) sessions) new result
-performs-called site now token sessions new service call bytes f mark told result is same faultless
+    → PerformsHere (answered_call config now token (call_in service bytes) sessions) new result
+performs-called config now token sessions new service call bytes f mark told result is same
+    faultless
     does tells =
-    performs-read site now token sessions new service call bytes
+    performs-read config now token sessions new service call bytes
     (mark ∷ []) told result is faultless
     (λ R. record {
       does = λ later. same R (mark ∷ later)
@@ -166,16 +169,17 @@ performs-called site now token sessions new service call bytes f mark told resul
     }) tells
 
 -- a call that takes no memory was made
-pub performs-given : (site : ServerConfig) (now : Ticks) (token : NodeId)
+pub performs-given : (config : ServerConfig) (now : Ticks) (token : NodeId)
     (sessions new : SessionsState) (service : Service) (call : Call) (bytes : List ℕ)
     (given : Response × SessionsState) (told : Response) (result : Result Made Status)
     → call_in service bytes ≡ Some call → ((R : Content) (marks : List StepResult)
-    → served site now token call sessions R marks ≡ give (given, R) marks) → given ≡ (told, new)
+    → served config now token call sessions R marks ≡ give (given, R) marks) → given ≡ (told, new)
     → ReportsAnswer told result
-    → PerformsHere (answered_call site now token (call_in service bytes) sessions) new result
-performs-given site now token sessions new service call bytes given told result is same gives tells
+    → PerformsHere (answered_call config now token (call_in service bytes) sessions) new result
+performs-given config now token sessions new service call bytes given told result is same gives
+    tells
     =
-    performs-read site now token sessions new service call bytes [] told result is refl
+    performs-read config now token sessions new service call bytes [] told result is refl
     (λ R. record {
       does = λ later. same R later
           ∙ ap (λ (x : Response × SessionsState). let r : MessageOutcome × List StepResult =
@@ -183,46 +187,47 @@ performs-given site now token sessions new service call bytes given told result 
     }) tells
 
 -- a call that was refused, or for which memory was wanting
-pub performs-refused : {A : Type 0} (site : ServerConfig) (now : Ticks) (token : NodeId)
+pub performs-refused : {A : Type 0} (config : ServerConfig) (now : Ticks) (token : NodeId)
     (sessions new : SessionsState) (service : Service) (call : Call) (bytes : List ℕ)
     (done : A → Answer × SessionsState) (answer : Result A SessionFault)
     (fault : SessionFault) (status : Status) (result : Result Made Status)
     → call_in service bytes ≡ Some call → ((R : Content) (marks : List StepResult)
-    → served site now token call sessions R marks ≡ stepped (called sessions done answer) R marks)
+    → served config now token call sessions R marks ≡ stepped (called sessions done answer) R marks)
     → IsOrStarved OutOfMemory answer (Err fault) → new ≡ sessions
     → status ≡ session_fault_status fault → result ≡ Err status
-    → PerformsHere (answered_call site now token (call_in service bytes) sessions) new result
-performs-refused {A} site now token sessions new service call bytes done answer fault status result
+    → PerformsHere (answered_call config now token (call_in service bytes) sessions) new result
+performs-refused {A} config now token sessions new service call bytes done answer fault status
+    result
     is same refused stays code err =
     let r = called-refused sessions done answer fault refused in
     let P : SessionsState → Type 0 =
-    λ s. PerformsHere (answered_call site now token (call_in service bytes) sessions) s result
+    λ s. PerformsHere (answered_call config now token (call_in service bytes) sessions) s result
     in
     let Q : Result Made Status → Type 0 =
-    λ x. PerformsHere (answered_call site now token (call_in service bytes) sessions) sessions x
+    λ x. PerformsHere (answered_call config now token (call_in service bytes) sessions) sessions x
     in
     subst P (sym stays) (subst Q (sym err)
-    (performs-called site now token sessions sessions service call bytes
+    (performs-called config now token sessions sessions service call bytes
     (called sessions done answer) r.0 (Err (session_fault_status fault))
     (Err status) is same r.1 r.2 (inl (ap Err (sym code)))))
 
 -- one that was done
-pub performs-done : {A : Type 0} (site : ServerConfig) (now : Ticks) (token : NodeId)
+pub performs-done : {A : Type 0} (config : ServerConfig) (now : Ticks) (token : NodeId)
     (sessions new : SessionsState) (service : Service) (call : Call) (bytes : List ℕ)
     (done : A → Answer × SessionsState) (answer : Result A SessionFault)
     (a : A) (made : Made)
     → call_in service bytes ≡ Some call → ((R : Content) (marks : List StepResult)
-    → served site now token call sessions R marks ≡ stepped (called sessions done answer) R marks)
+    → served config now token call sessions R marks ≡ stepped (called sessions done answer) R marks)
     → IsOrStarved OutOfMemory answer (Ok a) → new ≡ (done a).1
     → (done a).0 ≡ service_answer made
-    → PerformsHere (answered_call site now token (call_in service bytes) sessions) new (Ok made)
-performs-done {A} site now token sessions new service call bytes done answer a made is same given
+    → PerformsHere (answered_call config now token (call_in service bytes) sessions) new (Ok made)
+performs-done {A} config now token sessions new service call bytes done answer a made is same given
     leaves tells =
     let P : SessionsState → Type 0 =
-    λ s. PerformsHere (answered_call site now token (call_in service bytes) sessions) s
+    λ s. PerformsHere (answered_call config now token (call_in service bytes) sessions) s
     (Ok made) in
     subst P (sym leaves)
-    (performs-called site now token sessions (done a).1 service call bytes
+    (performs-called config now token sessions (done a).1 service call bytes
     (called sessions done answer) Done (Ok (done a).0) (Ok made) is same refl
     (called-done sessions done answer a given) (ap Ok tells))
 
@@ -241,31 +246,31 @@ performs-here s service sessions result (used, told, faultless, does, tells) = (
 -- ---- messages
 
 -- a message that is no request
-pub performs-none : (s : Store) (site : ServerConfig) (now : Ticks) (sessions : SessionsState)
+pub performs-none : (s : Store) (config : ServerConfig) (now : Ticks) (sessions : SessionsState)
     (status : Status) (result : Result Made Status) → result ≡ Err status
-    → Performs s s (answered_request site now (Err status) sessions) sessions result
-performs-none s site now sessions status result is =
+    → Performs s s (answered_request config now (Err status) sessions) sessions result
+performs-none s config now sessions status result is =
     let P : Result Made Status → Type 0 =
-    Performs s s (answered_request site now (Err status) sessions) sessions in
-    subst P (sym is) (performs-here s (answered_request site now (Err status) sessions) sessions
+    Performs s s (answered_request config now (Err status) sessions) sessions in
+    subst P (sym is) (performs-here s (answered_request config now (Err status) sessions) sessions
     (Err status) ([], Err status, refl, λ R. record { does = λ later. refl }, inl refl))
 
 -- ---- services of a session
 
 -- the session isn't there, or wasn't activated
-pub performs-outside : (site : ServerConfig) (now : Ticks) (token : NodeId)
+pub performs-outside : (config : ServerConfig) (now : Ticks) (token : NodeId)
     (sessions : SessionsState) (asked : Service) (call : Call) (bytes : List ℕ)
     (f : Content → List ℕ → Fallible (Response × Content)) (fault : SessionFault) (status : Status)
     (result : Result Made Status)
     → call_in asked bytes ≡ Some call → ((R : Content) (marks : List StepResult)
-    → served site now token call sessions R marks
+    → served config now token call sessions R marks
     ≡ in_session sessions (user_at sessions token) (f R) R marks)
     → user_at sessions token ≡ Err fault
     → status ≡ session_fault_status fault → result ≡ Err status
-    → PerformsHere (answered_call site now token (call_in asked bytes) sessions) sessions result
-performs-outside site now token sessions asked call bytes f fault status result is same none code
+    → PerformsHere (answered_call config now token (call_in asked bytes) sessions) sessions result
+performs-outside config now token sessions asked call bytes f fault status result is same none code
     err =
-    performs-read site now token sessions sessions asked call bytes []
+    performs-read config now token sessions sessions asked call bytes []
     (Err (session_fault_status fault)) result is refl
     (λ R. record {
       does = λ later. same R later
@@ -279,24 +284,25 @@ does-in : (sessions : SessionsState) (user : List ℕ) (g : List ℕ → Fallibl
 does-in sessions user g R S used told does =
     record {
       does = λ later. ap (λ (x : (Response × Content) × List StepResult). let r :
-          MessageOutcome × List StepResult = (((x.0.0, sessions), x.0.1), x.1) in r) (does.does later);
+          MessageOutcome × List StepResult = (((x.0.0, sessions), x.0.1), x.1) in r)
+          (does.does later);
     }
 
 -- a service that asks no archive, in a session of this user
-pub performs-inside : (site : ServerConfig) (now : Ticks) (token : NodeId)
+pub performs-inside : (config : ServerConfig) (now : Ticks) (token : NodeId)
     (sessions : SessionsState) (asked : Service) (call : Call) (bytes : List ℕ) (user : List ℕ)
     (f : Content → List ℕ → Fallible (Response × Content)) (used : List StepResult)
     (told : Response)
     (result : Result Made Status)
     → call_in asked bytes ≡ Some call → ((R : Content) (marks : List StepResult)
-    → served site now token call sessions R marks
+    → served config now token call sessions R marks
     ≡ in_session sessions (user_at sessions token) (f R) R marks) → user_at sessions token ≡ Ok user
     → faults_of used ≡ [] → ((R : Content) → Yields (f R user) used (told, R))
-    → ReportsAnswer told result → PerformsHere (answered_call site now token
+    → ReportsAnswer told result → PerformsHere (answered_call config now token
     (call_in asked bytes) sessions) sessions result
-performs-inside site now token sessions asked call bytes user f used told result is same in_use
+performs-inside config now token sessions asked call bytes user f used told result is same in_use
     faultless does tells =
-    performs-read site now token sessions sessions asked call bytes used told result is faultless
+    performs-read config now token sessions sessions asked call bytes used told result is faultless
     (λ R. record {
       does = λ later.
           same R (used ++ later)
@@ -307,61 +313,63 @@ performs-inside site now token sessions asked call bytes user f used told result
     tells
 
 -- one that asks it, where something holds of what it tells
-pub performs-with : (T : Response → Type 0) (a b : Store) (site : ServerConfig) (now : Ticks)
+pub performs-with : (T : Response → Type 0) (a b : Store) (config : ServerConfig) (now : Ticks)
     (token : NodeId) (sessions : SessionsState) (asked : Service) (call : Call) (bytes : List ℕ)
     (user : List ℕ) (f : Content → List ℕ → Fallible (Response × Content))
     → call_in asked bytes ≡ Some call → ((R : Content) (marks : List StepResult)
-    → served site now token call sessions R marks
+    → served config now token call sessions R marks
     ≡ in_session sessions (user_at sessions token) (f R) R marks) → user_at sessions token ≡ Ok user
     → ((used : List StepResult) × (told : Response) × Refines a b used (λ R. f R user) told
     × T told)
     → (used : List StepResult) × (told : Response)
-    × Refines a b used (answered_call site now token (call_in asked bytes) sessions)
+    × Refines a b used (answered_call config now token (call_in asked bytes) sessions)
     (told, sessions) × T told
-performs-with T a b site now token sessions asked call bytes user f is same in_use
+performs-with T a b config now token sessions asked call bytes user f is same in_use
     (used, told, acts, tells) = (
       Done ∷ used,
       told,
       moves-behind-quiet a b (Done ∷ []) used (λ marks R S. Yields (f R user) marks (told, S))
-          (λ marks R S. Yields (answered_call site now token (call_in asked bytes) sessions R) marks
+          (λ marks R S. Yields (answered_call config now token (call_in asked bytes) sessions R)
+          marks
           ((told, sessions), S)) refl
-          (λ ms R S d. does-read site now token (call_in asked bytes) call sessions R ms
+          (λ ms R S d. does-read config now token (call_in asked bytes) call sessions R ms
           ((told, sessions), S) is (record {
             does = λ later.
                 same R (ms ++ later)
-                ∙ ap (λ (u : Result (List ℕ) SessionFault). in_session sessions u (f R) R (ms ++ later))
+                ∙ ap (λ (u : Result (List ℕ) SessionFault).
+                in_session sessions u (f R) R (ms ++ later))
                 in_use
                 ∙ (does-in sessions user (f R) R S ms told d).does later;
           })) acts,
       tells,
     )
 
-pub performs-over : (a b : Store) (site : ServerConfig) (now : Ticks) (token : NodeId)
+pub performs-over : (a b : Store) (config : ServerConfig) (now : Ticks) (token : NodeId)
     (sessions : SessionsState) (asked : Service) (call : Call) (bytes : List ℕ) (user : List ℕ)
     (f : Content → List ℕ → Fallible (Response × Content)) (used : List StepResult)
     (told : Response) (result : Result Made Status)
     → call_in asked bytes ≡ Some call → ((R : Content) (marks : List StepResult)
-    → served site now token call sessions R marks
+    → served config now token call sessions R marks
     ≡ in_session sessions (user_at sessions token) (f R) R marks) → user_at sessions token ≡ Ok user
     → Refines a b used (λ R. f R user) told → ReportsAnswer told result
-    → Performs a b (answered_call site now token (call_in asked bytes) sessions) sessions result
-performs-over a b site now token sessions asked call bytes user f used told result is same in_use
+    → Performs a b (answered_call config now token (call_in asked bytes) sessions) sessions result
+performs-over a b config now token sessions asked call bytes user f used told result is same in_use
     acts tells =
-    performs-with (λ told. ReportsAnswer told result) a b site now token sessions asked call bytes
+    performs-with (λ told. ReportsAnswer told result) a b config now token sessions asked call bytes
     user f is same in_use (used, told, acts, tells)
 
 -- what it comes to is told
-pub performs-comes : (a b : Store) (site : ServerConfig) (now : Ticks) (token : NodeId)
+pub performs-comes : (a b : Store) (config : ServerConfig) (now : Ticks) (token : NodeId)
     (sessions : SessionsState) (asked : Service) (call : Call) (bytes : List ℕ) (user : List ℕ)
     (f : Content → List ℕ → Fallible (Response × Content)) (result : Result Made Status)
     → call_in asked bytes ≡ Some call → ((R : Content) (marks : List StepResult)
-    → served site now token call sessions R marks
+    → served config now token call sessions R marks
     ≡ in_session sessions (user_at sessions token) (f R) R marks) → user_at sessions token ≡ Ok user
     → Comes a b (λ R. f R user) result
-    → Performs a b (answered_call site now token (call_in asked bytes) sessions) sessions result
-performs-comes a b site now token sessions asked call bytes user f result is same in_use
+    → Performs a b (answered_call config now token (call_in asked bytes) sessions) sessions result
+performs-comes a b config now token sessions asked call bytes user f result is same in_use
     (used, told, acts, tells) =
-    performs-over a b site now token sessions asked call bytes user f used told result is same
+    performs-over a b config now token sessions asked call bytes user f used told result is same
     in_use acts tells
 
 -- ---- written responses

@@ -55,14 +55,14 @@ in_session sessions (Ok user) service R =
 
 -- the endpoints that are offered to a client that takes these transport profiles
 abbrev pub offered : ServerConfig → List (Option (List ℕ)) → Answer
-offered site profiles =
-    Endpoints (if takes_transport profiles then endpoint_of site.settings ∷ [] else [])
+offered config profiles =
+    Endpoints (if takes_transport profiles then endpoint_of config.settings ∷ [] else [])
 
 -- a session of these ids was made, with this timeout
 abbrev pub created : ServerConfig → List ℕ → SessionsState → NodeId × NodeId
     → Answer × SessionsState
-created site timeout sessions (session, token) = (
-  Created (session, (token, (timeout, (endpoint_of site.settings ∷ [], 4194304)))),
+created config timeout sessions (session, token) = (
+  Created (session, (token, (timeout, (endpoint_of config.settings ∷ [], 4194304)))),
   with_new sessions,
 )
 
@@ -80,59 +80,59 @@ close_outcome token sessions =
 -- which takes no memory; the last four want a session that was activated.
 abbrev pub served : ServerConfig → Ticks → NodeId → Call → SessionsState → Content
     → Fallible MessageOutcome
-served site now token (GetEndpoints profiles) sessions R =
-    give ((Ok (offered site profiles), sessions), R)
-served site now token (CreateSession timeout) sessions R =
+served config now token (GetEndpoints profiles) sessions R =
+    give ((Ok (offered config profiles), sessions), R)
+served config now token (CreateSession timeout) sessions R =
     step
-    (λ mark. (called sessions (created site timeout sessions) (create_answer sessions) mark, R))
-served site now token (ActivateSession claim) sessions R =
-    let answer = activate_answer sessions token site.settings.users claim in
+    (λ mark. (called sessions (created config timeout sessions) (create_answer sessions) mark, R))
+served config now token (ActivateSession claim) sessions R =
+    let answer = activate_answer sessions token config.settings.users claim in
     step (λ mark. (called sessions (activated token sessions) answer mark, R))
-served site now token CloseSession sessions R =
+served config now token CloseSession sessions R =
     give (called sessions (λ _. close_outcome token sessions) (close_answer sessions token) Done, R)
-served site now token (Browse nodes) sessions R =
+served config now token (Browse nodes) sessions R =
     in_session sessions (user_at sessions token)
-    (λ user. give (browse site.settings.space nodes, R)) R
-served site now token (Read asked) sessions R =
-    in_session sessions (user_at sessions token) (λ user. read site.settings.space now asked R) R
-served site now token (HistoryRead asked) sessions R =
+    (λ user. give (browse config.settings.space nodes, R)) R
+served config now token (Read asked) sessions R =
+    in_session sessions (user_at sessions token) (λ user. read config.settings.space now asked R) R
+served config now token (HistoryRead asked) sessions R =
     in_session sessions (user_at sessions token)
-    (λ user. read_history site.id site.settings.space asked R) R
-served site now token (HistoryUpdate details) sessions R =
+    (λ user. read_history config.id config.settings.space asked R) R
+served config now token (HistoryUpdate details) sessions R =
     in_session sessions (user_at sessions token)
-    (λ user. update_history site.own site.settings.space user now details R) R
+    (λ user. update_history config.own config.settings.space user now details R) R
 
 -- ---- messages
 
 -- what is asked, or why nothing is
 abbrev pub asked : ServerConfig → Ticks → NodeId → Result Call Status → SessionsState → Content
     → Fallible MessageOutcome
-asked site now token result sessions R =
+asked config now token result sessions R =
     elim result [
       | Err status ↦ give ((Err status, sessions), R)
-      | Ok call ↦ served site now token call sessions R
+      | Ok call ↦ served config now token call sessions R
     ]
 
 -- a call is read, unless memory for that is wanting, and served
 abbrev pub answered_call : ServerConfig → Ticks → NodeId → Option Call → SessionsState → Content
     → Fallible MessageOutcome
-answered_call site now token call sessions R =
+answered_call config now token call sessions R =
     and_then
     (step
     (λ mark.
     elim mark [ NoMemory ↦ Err BAD_OUT_OF_MEMORY | _ ↦ ok_or call BAD_DECODING_ERROR ]))
-    (λ call. asked site now token call sessions R)
+    (λ call. asked config now token call sessions R)
 
 -- a request is answered by its service; what is none is refused
 abbrev pub answered_request : ServerConfig → Ticks → Result Request Status → SessionsState → Content
     → Fallible MessageOutcome
-answered_request site now result sessions R =
+answered_request config now result sessions R =
     elim result [
       | Err status ↦ give ((Err status, sessions), R)
-      | Ok request ↦ answered_call site now request.0 request.1 sessions R
+      | Ok request ↦ answered_call config now request.0 request.1 sessions R
     ]
 
 -- a message
 abbrev pub answered : ServerConfig → Ticks → List ℕ → SessionsState → Content
     → Fallible MessageOutcome
-answered site now message = answered_request site now (request_in message)
+answered config now message = answered_request config now (request_in message)

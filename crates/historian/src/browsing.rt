@@ -102,9 +102,9 @@ pub(crate) fn browse(
     token: NodeIdRef<'_>,
     request: Cursor<'_>,
 ) -> Result<Answer, Status>
-    ensures performs { (site : ServerConfig) (now : _) → site.settings ≡ settings.now
+    ensures performs { (config : ServerConfig) (now : _) → config.settings ≡ settings.now
         → PerformsHere
-        (answered_call site now (node_of token.entry)
+        (answered_call config now (node_of token.entry)
         (call_in service.Browse request.entry) sessions.now) sessions.now result }
     ensures short { IfOk result IsEncodable }
 {

@@ -25,10 +25,10 @@ pub(crate) fn get_endpoints(
     settings: &Settings,
     request: Cursor<'_>,
 ) -> Result<Answer, Status>
-    ensures performs { (site : ServerConfig) (now : _) (token : _) (sessions : _)
-        → site.settings ≡ settings.now
+    ensures performs { (config : ServerConfig) (now : _) (token : _) (sessions : _)
+        → config.settings ≡ settings.now
         → PerformsHere
-        (answered_call site now token
+        (answered_call config now token
         (call_in service.GetEndpoints request.entry) sessions) sessions result }
     ensures short { IfOk result IsEncodable }
 {
@@ -48,9 +48,10 @@ pub(crate) fn create_session(
     sessions: &mut Sessions,
     request: Cursor<'_>,
 ) -> Result<Answer, Status>
-    ensures performs { (site : ServerConfig) (now : _) (token : _) → site.settings ≡ settings.now
+    ensures performs { (config : ServerConfig) (now : _) (token : _) → config.settings
+        ≡ settings.now
         → PerformsHere
-        (answered_call site now token
+        (answered_call config now token
         (call_in service.CreateSession request.entry) sessions.old) sessions.new result }
     ensures short { IfOk result IsEncodable }
 {
@@ -75,9 +76,9 @@ pub(crate) fn activate_session(
     token: NodeIdRef<'_>,
     request: Cursor<'_>,
 ) -> Result<Answer, Status>
-    ensures performs { (site : ServerConfig) (now : _) → site.settings ≡ settings.now
+    ensures performs { (config : ServerConfig) (now : _) → config.settings ≡ settings.now
         → PerformsHere
-        (answered_call site now (node_of token.entry)
+        (answered_call config now (node_of token.entry)
         (call_in service.ActivateSession request.entry) sessions.old) sessions.new result }
     ensures short { IfOk result IsEncodable }
 {
@@ -95,9 +96,9 @@ pub(crate) fn close_session(
     token: NodeIdRef<'_>,
     request: Cursor<'_>,
 ) -> Result<Answer, Status>
-    ensures performs { (site : ServerConfig) (now : _)
+    ensures performs { (config : ServerConfig) (now : _)
         → PerformsHere
-        (answered_call site now (node_of token.entry)
+        (answered_call config now (node_of token.entry)
         (call_in service.CloseSession request.entry) sessions.old) sessions.new result }
     ensures short { IfOk result IsEncodable }
 {

@@ -11,12 +11,14 @@ use Rattle.records.specs.Contents.{Content, vec, IsClosed}
 use Rattle.records.proofs.Sorting.{all-has, all_from_has}
 use Rattle.records.proofs.ContentLemmas.{apart_from_rises, vec_attained}
 
-pub number_below_tick : (R : Content) → IsClosed R → (n : ℕ) (r : Record) → Has R r → r.number ≡ n → pos n ≤ℤ r.tick
+pub number_below_tick : (R : Content) → IsClosed R → (n : ℕ) (r : Record) → Has R r → r.number ≡ n
+    → pos n ≤ℤ r.tick
 number_below_tick R closed zero r h e = absurd (omega (arith, closed.numbers r h))
 number_below_tick R closed (suc m) r h e = elim (cases_eq m 0) [
   | inl z ↦ let t = (closed.ticks r h).0 in omega (arith, ints, t)
   | inr more ↦
-      let bound : r.number ≤ vec R r.origin = Rattle.records.proofs.ContentLemmas.vec_bounds R r h in
+      let bound : r.number ≤ vec R r.origin =
+      Rattle.records.proofs.ContentLemmas.vec_bounds R r h in
       let s = closed.whole r.origin m (omega arith) (omega arith) in
       let below = number_below_tick R closed m s.0 s.1 s.2.1 in
       let rise = closed.rising s.0 r s.1 h s.2.0 (omega (arith, s.2.1)) in
@@ -26,19 +28,24 @@ number_below_tick R closed (suc m) r h e = elim (cases_eq m 0) [
 pub vec_small : (R : Content) (origin : ℕ) → IsClosed R → vec R origin < 2 ^ 62
 vec_small R origin closed = elim (vec_attained R origin) [
   | inl z ↦ omega arith
-  | inr h ↦ let below = number_below_tick R closed h.0.number h.0 h.1 refl in let t = (closed.ticks h.0 h.1).1 in omega (arith, ints, h.2.1)
+  | inr h ↦ let below = number_below_tick R closed h.0.number h.0 h.1 refl in let t =
+      (closed.ticks h.0 h.1).1 in omega (arith, ints, h.2.1)
 ]
 
-tied_stamps : (x y : Record) → is_eq (record_stamp_cmp x y) ≡ true → (x.tick ≡ y.tick) × (x.origin ≡ y.origin)
+tied_stamps : (x y : Record) → is_eq (record_stamp_cmp x y) ≡ true
+    → (x.tick ≡ y.tick) × (x.origin ≡ y.origin)
 tied_stamps x y e = grind (arith, nat_tests, ints)
 
 less_names : (x y : Record) → name_cmp x y ≡ Less → x.origin ≡ y.origin → x.number < y.number
 less_names x y e o = grind (arith, nat_tests)
 
-stamps_apart : (xs : Content) → Rises name_cmp xs → ((r s : Record) → Has xs r → Has xs s → r.origin ≡ s.origin → r.number < s.number → r.tick <ℤ s.tick) → IsApart record_stamp_cmp xs
+stamps_apart : (xs : Content) → Rises name_cmp xs
+    → ((r s : Record) → Has xs r → Has xs s → r.origin ≡ s.origin → r.number < s.number
+    → r.tick <ℤ s.tick) → IsApart record_stamp_cmp xs
 stamps_apart [] up rising = tt
 stamps_apart (x ∷ xs) up rising = (
-  all_from_has (λ y. is_eq (record_stamp_cmp x y) ≡ false) xs (λ y h. go y h (is_eq (record_stamp_cmp x y)) refl),
+  all_from_has (λ y. is_eq (record_stamp_cmp x y) ≡ false) xs
+      (λ y h. go y h (is_eq (record_stamp_cmp x y)) refl),
   stamps_apart xs up.1 (λ r s h k e lt. rising r s (inr h) (inr k) e lt),
 )
   where

@@ -1,4 +1,5 @@
--- Names for parts of the definitions in specs/Contents and specs/Records, for the lemmas on these parts.
+-- Names for parts of the definitions in specs/Contents and specs/Records, for the lemmas on these
+-- parts.
 use Rattle.std.specs.Prelude.{ℕ, ◌==◌, if◌then◌else◌, Bool, Option, Some, None}
 use Rattle.std.specs.List.{list_any}
 use Rattle.std.specs.Ordering.{is_eq}
@@ -19,4 +20,8 @@ names R s = list_any (λ r. is_eq (name_cmp r s)) R
 
 -- the record's value as the live one; extra where it isn't the only record of its story
 abbrev pub held_of : Bool → Option Record → Option Held
-held_of extra given = elim given [ None ↦ None | Some r ↦ Some (record { time = r.time; value = r.value; extra = extra }) ]
+held_of extra given = elim given [
+  | None ↦ None
+  | Some r ↦
+      Some (record { time = r.time; value = r.value; extra = extra })
+]

@@ -21,8 +21,19 @@ requests : IsExact (asked.TheImpl.eq-value).it
 requests a b = search rules
 
 pub records : IsExact (whole.TheImpl.eq-value).it
-records = through (λ r. (r.origin, (r.number, (r.tick, (r.node, (r.time, (r.asked, (r.user, r.value))))))))
-    (λ p. record { origin = p.0; number = p.1.0; tick = p.1.1.0; node = p.1.1.1.0; time = p.1.1.1.1.0; asked = p.1.1.1.1.1.0; user = p.1.1.1.1.1.1.0; value = p.1.1.1.1.1.1.1 })
+records = through (λ r.
+    (r.origin, (r.number, (r.tick, (r.node, (r.time, (r.asked, (r.user, r.value))))))))
+    (λ p. record {
+      origin = p.0;
+      number = p.1.0;
+      tick = p.1.1.0;
+      node = p.1.1.1.0;
+      time =
+          p.1.1.1.1.0;
+      asked = p.1.1.1.1.1.0;
+      user = p.1.1.1.1.1.1.0;
+      value = p.1.1.1.1.1.1.1;
+    })
     (λ _. refl)
     (pairs replicas (pairs unsigned_Decides (pairs signed_Decides (pairs nodes (pairs signed_Decides
     (pairs requests (pairs bytes_decides data_values)))))))

@@ -21,5 +21,5 @@ pub mod LackLemmas
 pub mod PartLemmas
 pub mod RefusalLemmas
 pub mod ContentsParts
-pub mod SpellingParts
+pub mod FieldLaws
 pub mod SameParts

@@ -21,4 +21,7 @@ same_trees (gcons a b) (gcons c d) e =
 same_trees _ _ e = absurd (true≢false (sym e))
 
 pub Decides-is_same : {A : Type 0} → (c : Coded A) → (x y : A) → Decides (is_same c x y) (x ≡ y)
-Decides-is_same c x y = (λ e. c.inj x y (same_trees _ _ e), λ p. subst (λ z. same_tree (c.code x) (c.code z) ≡ true) p (tree_itself (c.code x)))
+Decides-is_same c x y = (
+  λ e. c.inj x y (same_trees _ _ e),
+  λ p. subst (λ z. same_tree (c.code x) (c.code z) ≡ true) p (tree_itself (c.code x)),
+)

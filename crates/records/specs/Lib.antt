@@ -5,4 +5,4 @@ pub mod Records
 pub mod Contents
 pub mod Fault
 pub mod Spelling
-pub mod SpellingParts
+pub mod Fields

@@ -5,7 +5,7 @@ ghost use Rattle.ua_binary.specs.Binary.{node_of};
 ghost use Rattle.ua_binary.specs.Format.{Reads, ReadsPart};
 ghost use Rattle.records.specs.declared.fault.RecordFault.TheVariants as fault;
 ghost use Rattle.records.specs.Spelling.{time, front};
-ghost use Rattle.records.specs.SpellingParts.{version, origin, number, tick, ticks, pico, asked, user};
+ghost use Rattle.records.specs.Fields.{version, origin, number, tick, ticks, pico, asked, user};
 
 use crate::fault::RecordFault;
 use crate::moment::Moment;
@@ -138,7 +138,7 @@ struct Update<'a> {
 }
 
 impl<'a> Update<'a> {
-    ghost use Rattle.records.specs.SpellingParts.{update};
+    ghost use Rattle.records.specs.Fields.{update};
 
     /// An error leaves the cursor anywhere.
     fn read(cursor: &mut Cursor<'a>) -> Result<Update<'a>, RecordFault>

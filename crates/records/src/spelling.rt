@@ -6,7 +6,7 @@ ghost use Rattle.std.specs.Str.{bytes_eq};
 ghost use Rattle.ua_binary.specs.Format.{Puts, PutsPart, ReadsPart, ReadsUnless, passing};
 ghost use Rattle.records.specs.declared.fault.RecordFault.TheVariants as fault;
 ghost use Rattle.records.specs.Spelling.{is_value_for, fields, time, record_form, record_at, front, IsRecord, IsShortRecord, GivesUnless, HasSpelledParts};
-ghost use Rattle.records.specs.SpellingParts.{value, parts_of};
+ghost use Rattle.records.specs.Fields.{value, parts_of};
 ghost use Rattle.std.specs.Prelude.{◌↔◌, IsTrue, IfSome};
 ghost use Rattle.ua_binary.specs.Format.{saturated};
 ghost use Rattle.ua_variant.specs.DataValue.{data_value, IsDataValue, IsPicoseconds, IsShortData};

@@ -42,7 +42,7 @@ kept_code {S} store =
 
 -- a connection idles; its tables stand for a lawful content, of which these are the last numbers
 -- and the greatest tick
-pub record Stands (id : List ℕ) (own : ℕ) (numbers : List ℕ) (tick : ℤ) (s : State) : Type 0 where
+pub record IsIntact (id : List ℕ) (own : ℕ) (numbers : List ℕ) (tick : ℤ) (s : State) : Type 0 where
   pub idles : Idles s
   pub stored : IsStored id own s.now.trees
   pub kept : AreKept s.now.trees
@@ -61,7 +61,7 @@ module _ {S : Type 0} (g : Ghosts S) where
   abbrev pub Serves : Kept S → Type 0
   Serves a =
       (a.broken ≡ false → HasCleanDisk (state g a.conn)
-      → Stands a.id a.number a.numbers a.tick (state g a.conn)) × LeavesStores a
+      → IsIntact a.id a.number a.numbers a.tick (state g a.conn)) × LeavesStores a
 
   -- its content is what its tables hold, and a crash leaves what the tables then hold
   abbrev pub store_of : Kept S → Store

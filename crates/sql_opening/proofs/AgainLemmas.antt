@@ -14,8 +14,11 @@ use Rattle.sql_tables.specs.Derived.{int_in}
 use Rattle.sql_opening.specs.Again.{last_in, top_in}
 
 -- a row that is the next origin's, where that one has a number
-pub lasts_more : (rows : List Row) (numbers : List ℕ) (gone place : ℕ) (row : Row) → gone < length rows → place < length numbers → 0 < number_of numbers (place + 1)
-    → last_in (get_or rows gone row) ≡ (place + 1, number_of numbers (place + 1)) → map last_in (take gone rows) ≡ entries (take place numbers) → map last_in (take (gone + 1) rows) ≡ entries (take (place + 1) numbers)
+pub lasts_more : (rows : List Row) (numbers : List ℕ) (gone place : ℕ) (row : Row)
+    → gone < length rows → place < length numbers → 0 < number_of numbers (place + 1)
+    → last_in (get_or rows gone row) ≡ (place + 1, number_of numbers (place + 1))
+    → map last_in (take gone rows) ≡ entries (take place numbers)
+    → map last_in (take (gone + 1) rows) ≡ entries (take (place + 1) numbers)
 lasts_more rows numbers gone place row in_rows in_numbers some is so_far =
     let number = number_at numbers place (place + 1) refl in
     let more : 0 < get_or numbers place 0 = omega (arith, some, number) in
@@ -25,22 +28,31 @@ lasts_more rows numbers gone place row in_rows in_numbers some is so_far =
     ∙ sym (entry_more numbers place in_numbers more)
 
 -- an origin without a number has none
-pub lasts_none : (rows : List Row) (numbers : List ℕ) (gone place : ℕ) → place < length numbers → number_of numbers (place + 1) ≡ 0
-    → map last_in (take gone rows) ≡ entries (take place numbers) → map last_in (take gone rows) ≡ entries (take (place + 1) numbers)
+pub lasts_none : (rows : List Row) (numbers : List ℕ) (gone place : ℕ) → place < length numbers
+    → number_of numbers (place + 1) ≡ 0
+    → map last_in (take gone rows) ≡ entries (take place numbers)
+    → map last_in (take gone rows) ≡ entries (take (place + 1) numbers)
 lasts_none rows numbers gone place in_numbers none so_far =
-    so_far ∙ sym (none_more numbers place in_numbers (sym (number_at numbers place (place + 1) refl) ∙ none))
+    so_far ∙ sym (none_more numbers place in_numbers
+    (sym (number_at numbers place (place + 1) refl) ∙ none))
 
-top_push : (rows : List Row) (c : Row) → top_in (rows ++ c ∷ []) ≡ int_max (top_in rows) (int_in (column c 2))
+top_push : (rows : List Row) (c : Row)
+    → top_in (rows ++ c ∷ []) ≡ int_max (top_in rows) (int_in (column c 2))
 top_push [] c = omega (arith, ints, clamps)
 top_push (d ∷ rows) c = let more = top_push rows c in omega (arith, ints, clamps)
 
 -- one row more
-pub top_more : (rows : List Row) (i : ℕ) (row : Row) → i < length rows → top_in (take (i + 1) rows) ≡ int_max (top_in (take i rows)) (int_in (column (get_or rows i row) 2))
-top_more rows i row h = ap top_in (take_more rows i row h) ∙ top_push (take i rows) (get_or rows i row)
+pub top_more : (rows : List Row) (i : ℕ) (row : Row) → i < length rows
+    → top_in (take (i + 1) rows) ≡ int_max (top_in (take i rows))
+    (int_in (column (get_or rows i row) 2))
+top_more rows i row h = ap top_in (take_more rows i row h)
+    ∙ top_push (take i rows) (get_or rows i row)
 
 -- all of them
-pub lasts_all : (rows : List Row) (numbers : List ℕ) (gone place : ℕ) → gone ≡ length rows → length numbers ≡ 64 → 64 ≤ place
-    → map last_in (take gone rows) ≡ entries (take place numbers) → map last_in rows ≡ entries numbers
+pub lasts_all : (rows : List Row) (numbers : List ℕ) (gone place : ℕ) → gone ≡ length rows
+    → length numbers ≡ 64 → 64 ≤ place
+    → map last_in (take gone rows) ≡ entries (take place numbers)
+    → map last_in rows ≡ entries numbers
 lasts_all rows numbers gone place all whole reached so_far =
     let a : take gone rows ≡ rows = take_all gone rows (omega (arith, all)) in
     let b : take place numbers ≡ numbers = take_all place numbers (omega (arith, whole, reached)) in

@@ -69,16 +69,25 @@ listing from filter project order limit = record {
   offset = lit (Int (pos 0));
 }
 
-module _ (from : Join) (tests project : List Term) (order : List (Term × Key)) (limit : Term) (params : Row) (db : Trees) (es : List Row) (keep : Row → Bool) (env : Row → Env)
-    (matched : matches db tests from (params ∷ []) ≡ flat_map (λ r. cond (keep r) (env r ∷ []) []) es) where
+module _ (from : Join) (tests project : List Term) (order : List (Term × Key)) (limit : Term)
+    (params : Row) (db : Trees) (es : List Row) (keep : Row → Bool) (env : Row → Env)
+    (matched : matches db tests from (params ∷ [])
+    ≡ flat_map (λ r. cond (keep r) (env r ∷ []) []) es) where
   pub listed : (rows : List Row) → IsAnswer (listing from tests project order limit) db params rows
-      → (all : List Row) × IsPermutation (map (λ r. eval_all project (env r)) (filter keep es)) all × (rows ≡ page (listing from tests project order limit) params all)
+      → (all : List Row) × IsPermutation (map (λ r. eval_all project (env r)) (filter keep es)) all
+      × (rows ≡ page (listing from tests project order limit) params all)
   listed rows a =
       let q = listing from tests project order limit in
-      let kept : a.kept ≡ map (λ r. output q (env r)) (filter keep es) = a.distinct ∙ ap (map (output q)) (a.grouped ∙ matched) ∙ picked (output q) env keep es in
+      let kept : a.kept ≡ map (λ r. output q (env r)) (filter keep es) =
+      a.distinct ∙ ap (map (output q)) (a.grouped ∙ matched) ∙ picked (output q) env keep es in
       let front = λ (o : Output). o.1 in
-      let same : IsPermutation (map front a.kept) (map front a.ordered) = IsPermutation-map front a.kept a.ordered a.same in
-      (map front a.ordered, subst (λ xs. IsPermutation xs (map front a.ordered)) (ap (map front) kept ∙ map-map front (λ r. output q (env r)) (filter keep es)) same, a.shown)
+      let same : IsPermutation (map front a.kept) (map front a.ordered) =
+      IsPermutation-map front a.kept a.ordered a.same in (
+        map front a.ordered,
+        subst (λ xs. IsPermutation xs (map front a.ordered))
+            (ap (map front) kept ∙ map-map front (λ r. output q (env r)) (filter keep es)) same,
+        a.shown,
+      )
 
 pub none_first : (rows : List Row) → take 1 rows ≡ [] → rows ≡ []
 none_first [] e = refl
@@ -86,14 +95,18 @@ none_first (r ∷ rows) e = absurd (let no = e in cc)
 
 pub none_of : {A B : Type 0} (f : A → B) (xs : List A) → IsPermutation (map f xs) [] → xs ≡ []
 none_of f [] same_rows = refl
-none_of f (x ∷ xs) same_rows = absurd (omega (arith, length_permutation (f x ∷ map f xs) [] same_rows))
+none_of f (x ∷ xs) same_rows = absurd (omega
+    (arith, length_permutation (f x ∷ map f xs) [] same_rows))
 
 -- where none passes, none of them does
-pub none_passes : {A : Type 0} (p : A → Bool) (xs : List A) → filter p xs ≡ [] → AllByRecursion (λ x. p x ≡ false) xs
+pub none_passes : {A : Type 0} (p : A → Bool) (xs : List A) → filter p xs ≡ []
+    → AllByRecursion (λ x. p x ≡ false) xs
 none_passes p [] e = tt
 none_passes {A} p (x ∷ xs) e = go (p x) refl e (none_passes p xs)
   where
-    go : (b : Bool) → p x ≡ b → cond b (x ∷ filter p xs) (filter p xs) ≡ [] → (filter p xs ≡ [] → AllByRecursion (λ x. p x ≡ false) xs) → (p x ≡ false) × AllByRecursion (λ x. p x ≡ false) xs
+    go : (b : Bool) → p x ≡ b → cond b (x ∷ filter p xs) (filter p xs) ≡ []
+        → (filter p xs ≡ [] → AllByRecursion (λ x. p x ≡ false) xs)
+        → (p x ≡ false) × AllByRecursion (λ x. p x ≡ false) xs
     go true is e more = absurd (let no = e in cc)
     go false is e more = (is, more e)
 
@@ -111,57 +124,78 @@ by_id = (col 1 0, ascending Binary) ∷ []
 rising_numbered : (rows : List Row) (ids : List ℤ) → AreRising rows ids → AreNumbered rows
 rising_numbered rows ids rise = go rows ids rise.are rise.rising
   where
-    apart_from : (x : Value) (i : ℤ) (rows : List Row) (ids : List ℤ) → x ≡ Int i → map (λ r. column r 0) rows ≡ map Int ids → AllByRecursion (λ b. i <ℤ b) ids → AllByRecursion (λ r. is_eq (value_cmp x (rowid r)) ≡ false) rows
+    apart_from : (x : Value) (i : ℤ) (rows : List Row) (ids : List ℤ) → x ≡ Int i
+        → map (λ r. column r 0) rows ≡ map Int ids → AllByRecursion (λ b. i <ℤ b) ids
+        → AllByRecursion (λ r. is_eq (value_cmp x (rowid r)) ≡ false) rows
     apart_from x i [] ids is are all = tt
     apart_from x i (r ∷ rows) [] is are all = absurd (let no = are in cc)
     apart_from x i (r ∷ rows) (j ∷ ids) is are all =
         let head : column r 0 ≡ Int j = cc in
-        let tail : map (λ r. column r 0) rows ≡ map Int ids = cc in
-        (ap₂ (λ v w. is_eq (value_cmp v w)) is head ∙ ap is_eq (value_cmp-Int i j) ∙ below i j all.0, apart_from x i rows ids is tail all.1)
+        let tail : map (λ r. column r 0) rows ≡ map Int ids = cc in (
+          ap₂ (λ v w. is_eq (value_cmp v w)) is head ∙ ap is_eq (value_cmp-Int i j)
+              ∙ below i j all.0,
+          apart_from x i rows ids is tail all.1,
+        )
       where
         below : (i j : ℤ) → i <ℤ j → is_eq (int_cmp i j) ≡ false
         below i j up = grind (arith, ints, up)
 
-    go : (rows : List Row) (ids : List ℤ) → map (λ r. column r 0) rows ≡ map Int ids → IsAscending (λ a b. a <ℤ b) ids → AreNumbered rows
+    go : (rows : List Row) (ids : List ℤ) → map (λ r. column r 0) rows ≡ map Int ids
+        → IsAscending (λ a b. a <ℤ b) ids → AreNumbered rows
     go [] ids are rising = record { apart = tt; keyed = tt }
     go (r ∷ rows) [] are rising = absurd (let no = are in cc)
     go (r ∷ rows) (i ∷ ids) are rising =
         let head : column r 0 ≡ Int i = cc in
         let tail : map (λ r. column r 0) rows ≡ map Int ids = cc in
         let more = go rows ids tail rising.1 in
-        record { apart = (apart_from (column r 0) i rows ids head tail rising.0, more.apart); keyed = (ap is_int head, more.keyed) }
+        record {
+          apart = (apart_from (column r 0) i rows ids head tail rising.0, more.apart);
+          keyed = (ap is_int head, more.keyed);
+        }
 
 -- ---- the texts
 
 abbrev pub held_in : ℕ → Query
 held_in t = listing (inner t end) [] (col 1 0 ∷ []) by_id all_of_them
 
-currents_held_is : command_in (understood archive_schema currents_held_text) ≡ Select (record { lets = []; body = held_in 4 }) (codes "rowid" ∷ [])
+currents_held_is : command_in (understood archive_schema currents_held_text)
+    ≡ Select (record { lets = []; body = held_in 4 }) (codes "rowid" ∷ [])
 unfolding understood everything
 currents_held_is = refl
 
-vectors_held_is : command_in (understood archive_schema vectors_held_text) ≡ Select (record { lets = []; body = held_in 6 }) (codes "origin" ∷ [])
+vectors_held_is : command_in (understood archive_schema vectors_held_text)
+    ≡ Select (record { lets = []; body = held_in 6 }) (codes "origin" ∷ [])
 unfolding understood everything
 vectors_held_is = refl
 
 abbrev pub wanted_by : (ℕ → List Term) → Query
-wanted_by tests = listing (inner 1 (counted 1 (inner 1 end) (tests 2) end)) (op1 Not (col 2 0) ∷ []) (col 1 0 ∷ []) by_id all_of_them
+wanted_by tests = listing (inner 1 (counted 1 (inner 1 end) (tests 2) end)) (op1 Not (col 2 0) ∷ [])
+    (col 1 0 ∷ []) by_id all_of_them
 
-currents_wanted_is : command_in (understood archive_schema currents_wanted_text) ≡ Select (record { lets = []; body = wanted_by later_tests }) (codes "rowid" ∷ [])
+currents_wanted_is : command_in (understood archive_schema currents_wanted_text)
+    ≡ Select (record { lets = []; body = wanted_by later_tests }) (codes "rowid" ∷ [])
 unfolding understood everything
 currents_wanted_is = refl
 
-vectors_wanted_is : command_in (understood archive_schema vectors_wanted_text) ≡ Select (record { lets = []; body = wanted_by newer_tests }) (codes "rowid" ∷ [])
+vectors_wanted_is : command_in (understood archive_schema vectors_wanted_text)
+    ≡ Select (record { lets = []; body = wanted_by newer_tests }) (codes "rowid" ∷ [])
 unfolding understood everything
 vectors_wanted_is = refl
 
 abbrev current_fits : List Term
-current_fits = eq (col 3 1) (col 1 4) ∷ eq (col 3 2) (col 1 5) ∷ eq (col 3 3) (col 1 6) ∷ eq (col 3 4) (col 1 3) ∷ eq (col 3 5) (col 1 1) ∷ eq (col 3 6) (op1 ToNumeric (op2 (Compare Ne Binary) (col 1 7) (lit (Int (pos 4))))) ∷ eq (col 3 7) (op1 ToNumeric (col 4 0)) ∷ eq (col 3 8) (col 1 9) ∷ []
+current_fits = eq (col 3 1) (col 1 4) ∷ eq (col 3 2) (col 1 5) ∷ eq (col 3 3) (col 1 6)
+    ∷ eq (col 3 4) (col 1 3) ∷ eq (col 3 5) (col 1 1)
+    ∷ eq (col 3 6) (op1 ToNumeric (op2 (Compare Ne Binary) (col 1 7) (lit (Int (pos 4)))))
+    ∷ eq (col 3 7) (op1 ToNumeric (col 4 0)) ∷ eq (col 3 8) (col 1 9) ∷ []
 
 abbrev lacks_current : Query
-lacks_current = listing (inner 1 (counted 1 (inner 1 end) (later_tests 2) (counted 1 (inner 4 (counted 1 (inner 1 end) (other_tests 4) end)) current_fits end))) (op1 Not (col 2 0) ∷ op1 Not (col 3 0) ∷ []) (col 1 1 ∷ []) [] first_only
+lacks_current = listing (inner 1
+    (counted 1 (inner 1 end) (later_tests 2) (counted 1
+    (inner 4 (counted 1 (inner 1 end) (other_tests 4) end)) current_fits end)))
+    (op1 Not (col 2 0) ∷ op1 Not (col 3 0) ∷ []) (col 1 1 ∷ []) [] first_only
 
-currents_lack_is : command_in (understood archive_schema currents_lack_text) ≡ Select (record { lets = []; body = lacks_current }) (codes "origin" ∷ [])
+currents_lack_is : command_in (understood archive_schema currents_lack_text)
+    ≡ Select (record { lets = []; body = lacks_current }) (codes "origin" ∷ [])
 unfolding understood everything
 currents_lack_is = refl
 
@@ -169,28 +203,39 @@ abbrev vector_fits : List Term
 vector_fits = eq (col 3 0) (col 1 1) ∷ eq (col 3 2) (col 1 2) ∷ eq (col 3 3) (col 1 3) ∷ []
 
 abbrev lacks_vector : Query
-lacks_vector = listing (inner 1 (counted 1 (inner 1 end) (newer_tests 2) (counted 1 (inner 6 end) vector_fits end))) (op1 Not (col 2 0) ∷ op1 Not (col 3 0) ∷ []) (col 1 1 ∷ []) [] first_only
+lacks_vector = listing (inner 1
+    (counted 1 (inner 1 end) (newer_tests 2) (counted 1 (inner 6 end) vector_fits end)))
+    (op1 Not (col 2 0) ∷ op1 Not (col 3 0) ∷ []) (col 1 1 ∷ []) [] first_only
 
-vectors_lack_is : command_in (understood archive_schema vectors_lack_text) ≡ Select (record { lets = []; body = lacks_vector }) (codes "origin" ∷ [])
+vectors_lack_is : command_in (understood archive_schema vectors_lack_text)
+    ≡ Select (record { lets = []; body = lacks_vector }) (codes "origin" ∷ [])
 unfolding understood everything
 vectors_lack_is = refl
 
 -- ---- the rows that are held
 
 -- a table whose rowids rise is numbered, and as long as the count
-held_rows : (t : ℕ) (db : Trees) (rows : List Row) (ids : List ℤ) → IsAnswer (held_in t) db [] rows → AreRising rows ids → AreNumbered (db t) × (length rows ≡ length (db t))
+held_rows : (t : ℕ) (db : Trees) (rows : List Row) (ids : List ℤ) → IsAnswer (held_in t) db [] rows
+    → AreRising rows ids → AreNumbered (db t) × (length rows ≡ length (db t))
 held_rows t db rows ids a rise =
     let every : filter (λ _. true) (db t) ≡ db t = all_kept (db t) in
-    let got = listed (inner t end) [] (col 1 0 ∷ []) by_id all_of_them [] db (db t) (λ _. true) (λ r. [] ∷ r ∷ []) refl rows a in
+    let got = listed (inner t end) [] (col 1 0 ∷ []) by_id all_of_them [] db (db t) (λ _. true)
+    (λ r. [] ∷ r ∷ []) refl rows a in
     let shown : rows ≡ got.0 = got.2 in
-    let same : IsPermutation (map (λ r. column r 0 ∷ []) (db t)) rows = subst₂ IsPermutation (ap (map (λ r. column r 0 ∷ [])) every) (sym shown) got.1 in
+    let same : IsPermutation (map (λ r. column r 0 ∷ []) (db t)) rows =
+    subst₂ IsPermutation (ap (map (λ r. column r 0 ∷ [])) every) (sym shown) got.1 in
     let back = IsPermutation-sym _ _ same in
     let was = rising_numbered rows ids rise in (
       record {
-        apart = ascending_from_map (λ a b. is_eq (value_cmp (rowid a) (rowid b)) ≡ false) (λ r. column r 0 ∷ []) (db t) (apart-permuted (on rowid value_cmp) keyed_total rows (map (λ r. column r 0 ∷ []) (db t)) back was.apart);
-        keyed = all_unmap (λ r. is_int (rowid r) ≡ true) (λ r. column r 0 ∷ []) (db t) (all-permuted (on rowid value_cmp) keyed_total (λ r. is_int (rowid r) ≡ true) rows (map (λ r. column r 0 ∷ []) (db t)) back was.keyed);
+        apart = ascending_from_map (λ a b. is_eq (value_cmp (rowid a) (rowid b)) ≡ false)
+            (λ r. column r 0 ∷ []) (db t) (apart-permuted (on rowid value_cmp) keyed_total rows
+            (map (λ r. column r 0 ∷ []) (db t)) back was.apart);
+        keyed = all_unmap (λ r. is_int (rowid r) ≡ true) (λ r. column r 0 ∷ []) (db t)
+            (all-permuted (on rowid value_cmp) keyed_total (λ r. is_int (rowid r) ≡ true) rows
+            (map (λ r. column r 0 ∷ []) (db t)) back was.keyed);
       },
-      length_permutation (map (λ r. column r 0 ∷ []) (db t)) rows same ∙ length-map (db t) (λ r. column r 0 ∷ []),
+      length_permutation (map (λ r. column r 0 ∷ []) (db t)) rows same
+          ∙ length-map (db t) (λ r. column r 0 ∷ []),
     )
   where
     keyed_total : IsTotalOrder (on rowid value_cmp)
@@ -204,40 +249,76 @@ held_rows t db rows ids a rise =
 
 module _ (db : Trees) where
   abbrev later_than : Row → Value
-  later_than r = Int (pos (min 1 (length (flat_map (λ s. cond (list_all (holds ([] ∷ r ∷ s ∷ [])) (later_tests 2)) (([] ∷ r ∷ s ∷ []) ∷ []) []) (db 1)))))
+  later_than r = Int (pos
+      (min 1 (length (flat_map (λ s.
+      cond (list_all (holds ([] ∷ r ∷ s ∷ [])) (later_tests 2)) (([] ∷ r ∷ s ∷ []) ∷ []) [])
+      (db 1)))))
 
-  no_later : (r : Row) → is_true (unary Not (later_than r)) ≡ not (list_any (is_later (columns_of r)) (cells (db 1)))
-  no_later r = ap (λ n. is_true (unary Not (Int (pos n)))) (exists_is (λ s. list_all (holds ([] ∷ r ∷ s ∷ [])) (later_tests 2)) (λ s. [] ∷ r ∷ s ∷ []) (is_later (columns_of r)) (λ s. later_alike r s) (db 1)) ∙ not_flag (list_any (is_later (columns_of r)) (cells (db 1)))
+  no_later : (r : Row) → is_true (unary Not (later_than r))
+      ≡ not (list_any (is_later (columns_of r)) (cells (db 1)))
+  no_later r = ap (λ n. is_true (unary Not (Int (pos n))))
+      (exists_is (λ s. list_all (holds ([] ∷ r ∷ s ∷ [])) (later_tests 2)) (λ s. [] ∷ r ∷ s ∷ [])
+      (is_later (columns_of r)) (λ s. later_alike r s) (db 1))
+      ∙ not_flag (list_any (is_later (columns_of r)) (cells (db 1)))
 
-  wanted_rows : (rows : List Row) → IsAnswer (wanted_by later_tests) (overlay db []) [] rows → length rows ≡ length (currents_of (cells (db 1)))
+  wanted_rows : (rows : List Row) → IsAnswer (wanted_by later_tests) (overlay db []) [] rows
+      → length rows ≡ length (currents_of (cells (db 1)))
   wanted_rows rows a =
-      let keep = λ (r : Row). list_all (holds ([] ∷ r ∷ (later_than r ∷ []) ∷ [])) (op1 Not (col 2 0) ∷ []) in
+      let keep = λ (r : Row). list_all (holds ([] ∷ r ∷ (later_than r ∷ []) ∷ []))
+      (op1 Not (col 2 0) ∷ []) in
       let last = λ (r : Row). not (list_any (is_later (columns_of r)) (cells (db 1))) in
-      let got = listed (inner 1 (counted 1 (inner 1 end) (later_tests 2) end)) (op1 Not (col 2 0) ∷ []) (col 1 0 ∷ []) by_id all_of_them [] (overlay db []) (db 1) keep (λ r. [] ∷ r ∷ (later_than r ∷ []) ∷ []) refl rows a in
+      let got = listed (inner 1 (counted 1 (inner 1 end) (later_tests 2) end))
+      (op1 Not (col 2 0) ∷ []) (col 1 0 ∷ []) by_id all_of_them [] (overlay db []) (db 1) keep
+      (λ r. [] ∷ r ∷ (later_than r ∷ []) ∷ []) refl rows a in
       let shown : rows ≡ got.0 = got.2 in
-      let kept : filter keep (db 1) ≡ filter last (db 1) = filter_same keep last (λ r. one_true (is_true (unary Not (later_than r))) ∙ no_later r) (db 1) in
-      ap length shown ∙ length_permutation _ _ got.1 ∙ length-map (filter keep (db 1)) (λ r. column r 0 ∷ []) ∙ ap length kept
-      ∙ sym (ap length (filter-map (λ c. not (list_any (is_later c) (cells (db 1)))) columns_of (db 1)) ∙ length-map (filter last (db 1)) columns_of) ∙ sym (length-map (filter (λ c. not (list_any (is_later c) (cells (db 1)))) (cells (db 1))) (current_of (cells (db 1))))
+      let kept : filter keep (db 1) ≡ filter last (db 1) =
+      filter_same keep last (λ r. one_true (is_true (unary Not (later_than r))) ∙ no_later r)
+      (db 1) in
+      ap length shown ∙ length_permutation _ _ got.1
+      ∙ length-map (filter keep (db 1)) (λ r. column r 0 ∷ []) ∙ ap length kept
+      ∙ sym (ap length (filter-map (λ c. not (list_any (is_later c) (cells (db 1)))) columns_of
+      (db 1)) ∙ length-map (filter last (db 1)) columns_of)
+      ∙ sym (length-map (filter (λ c. not (list_any (is_later c) (cells (db 1)))) (cells (db 1)))
+      (current_of (cells (db 1))))
 
   abbrev newer_than : Row → Value
-  newer_than r = Int (pos (min 1 (length (flat_map (λ s. cond (list_all (holds ([] ∷ r ∷ s ∷ [])) (newer_tests 2)) (([] ∷ r ∷ s ∷ []) ∷ []) []) (db 1)))))
+  newer_than r = Int (pos
+      (min 1 (length (flat_map (λ s.
+      cond (list_all (holds ([] ∷ r ∷ s ∷ [])) (newer_tests 2)) (([] ∷ r ∷ s ∷ []) ∷ []) [])
+      (db 1)))))
 
-  no_newer : (r : Row) → is_true (unary Not (newer_than r)) ≡ not (list_any (is_newer (columns_of r)) (cells (db 1)))
-  no_newer r = ap (λ n. is_true (unary Not (Int (pos n)))) (exists_is (λ s. list_all (holds ([] ∷ r ∷ s ∷ [])) (newer_tests 2)) (λ s. [] ∷ r ∷ s ∷ []) (is_newer (columns_of r)) (λ s. two_true (same (column s 1) (column r 1)) (above (column s 2) (column r 2))) (db 1)) ∙ not_flag (list_any (is_newer (columns_of r)) (cells (db 1)))
+  no_newer : (r : Row) → is_true (unary Not (newer_than r))
+      ≡ not (list_any (is_newer (columns_of r)) (cells (db 1)))
+  no_newer r = ap (λ n. is_true (unary Not (Int (pos n))))
+      (exists_is (λ s. list_all (holds ([] ∷ r ∷ s ∷ [])) (newer_tests 2)) (λ s. [] ∷ r ∷ s ∷ [])
+      (is_newer (columns_of r)) (λ s.
+      two_true (same (column s 1) (column r 1)) (above (column s 2) (column r 2))) (db 1))
+      ∙ not_flag (list_any (is_newer (columns_of r)) (cells (db 1)))
 
-  wanted_vectors : (rows : List Row) → IsAnswer (wanted_by newer_tests) (overlay db []) [] rows → length rows ≡ length (vectors_of (cells (db 1)))
+  wanted_vectors : (rows : List Row) → IsAnswer (wanted_by newer_tests) (overlay db []) [] rows
+      → length rows ≡ length (vectors_of (cells (db 1)))
   wanted_vectors rows a =
-      let keep = λ (r : Row). list_all (holds ([] ∷ r ∷ (newer_than r ∷ []) ∷ [])) (op1 Not (col 2 0) ∷ []) in
+      let keep = λ (r : Row). list_all (holds ([] ∷ r ∷ (newer_than r ∷ []) ∷ []))
+      (op1 Not (col 2 0) ∷ []) in
       let last = λ (r : Row). not (list_any (is_newer (columns_of r)) (cells (db 1))) in
-      let got = listed (inner 1 (counted 1 (inner 1 end) (newer_tests 2) end)) (op1 Not (col 2 0) ∷ []) (col 1 0 ∷ []) by_id all_of_them [] (overlay db []) (db 1) keep (λ r. [] ∷ r ∷ (newer_than r ∷ []) ∷ []) refl rows a in
+      let got = listed (inner 1 (counted 1 (inner 1 end) (newer_tests 2) end))
+      (op1 Not (col 2 0) ∷ []) (col 1 0 ∷ []) by_id all_of_them [] (overlay db []) (db 1) keep
+      (λ r. [] ∷ r ∷ (newer_than r ∷ []) ∷ []) refl rows a in
       let shown : rows ≡ got.0 = got.2 in
-      let kept : filter keep (db 1) ≡ filter last (db 1) = filter_same keep last (λ r. one_true (is_true (unary Not (newer_than r))) ∙ no_newer r) (db 1) in
-      ap length shown ∙ length_permutation _ _ got.1 ∙ length-map (filter keep (db 1)) (λ r. column r 0 ∷ []) ∙ ap length kept
-      ∙ sym (ap length (filter-map (λ c. not (list_any (is_newer c) (cells (db 1)))) columns_of (db 1)) ∙ length-map (filter last (db 1)) columns_of) ∙ sym (length-map (filter (λ c. not (list_any (is_newer c) (cells (db 1)))) (cells (db 1))) last_of)
+      let kept : filter keep (db 1) ≡ filter last (db 1) =
+      filter_same keep last (λ r. one_true (is_true (unary Not (newer_than r))) ∙ no_newer r)
+      (db 1) in
+      ap length shown ∙ length_permutation _ _ got.1
+      ∙ length-map (filter keep (db 1)) (λ r. column r 0 ∷ []) ∙ ap length kept
+      ∙ sym (ap length (filter-map (λ c. not (list_any (is_newer c) (cells (db 1)))) columns_of
+      (db 1)) ∙ length-map (filter last (db 1)) columns_of)
+      ∙ sym (length-map (filter (λ c. not (list_any (is_newer c) (cells (db 1)))) (cells (db 1)))
+      last_of)
 
 -- ---- that each row that follows is there
 
-same_is : (v w : Value) → is_null v ≡ false → is_null w ≡ false → same v w ≡ true → is_eq (value_cmp v w) ≡ true
+same_is : (v w : Value) → is_null v ≡ false → is_null w ≡ false → same v w ≡ true
+    → is_eq (value_cmp v w) ≡ true
 unfolding binary
 same_is v w some more e = truly (is_eq (value_cmp v w)) (rw (some, more) at e)
   where
@@ -255,48 +336,69 @@ ints_same m n e = grind (arith, ints, e)
 -- a value of a whole number's column that is such a number is it
 int_same : (v : Value) (n : ℤ) → is_of kind.Integer v ≡ true → same v (Int n) ≡ true → v ≡ Int n
 int_same Null n kind e = absurd (not_null (Int n) e)
-int_same (Int m) n kind e = ap Int (ints_same m n (ap is_eq (sym (value_cmp-Int m n)) ∙ same_is (Int m) (Int n) refl refl e))
+int_same (Int m) n kind e = ap Int (ints_same m n
+    (ap is_eq (sym (value_cmp-Int m n)) ∙ same_is (Int m) (Int n) refl refl e))
 int_same (Real x) n kind e = absurd (let no = kind in cc)
 int_same (Text t) n kind e = absurd (let no = kind in cc)
 int_same (Blob b) n kind e = absurd (let no = kind in cc)
 
-no_blob : (v : Value) (b : List ℕ) → is_null v ≡ false → value_cmp v (Blob b) ≡ Less → same v (Blob b) ≡ true → ⊥
-no_blob v b some below e = let no : false ≡ true = ap is_eq (sym below) ∙ same_is v (Blob b) some refl e in true≢false (sym no)
+no_blob : (v : Value) (b : List ℕ) → is_null v ≡ false → value_cmp v (Blob b) ≡ Less
+    → same v (Blob b) ≡ true → ⊥
+no_blob v b some below e = let no : false ≡ true =
+    ap is_eq (sym below) ∙ same_is v (Blob b) some refl e in true≢false (sym no)
 
 blob_same : (v : Value) (b : List ℕ) → same v (Blob b) ≡ true → v ≡ Blob b
 blob_same Null b e = absurd (not_null (Blob b) e)
-blob_same (Int m) b e = absurd (no_blob (Int m) b refl (value_cmp-apart (Int m) (Blob b) (λ c. absurd (omega (arith, c)))) e)
-blob_same (Real x) b e = absurd (no_blob (Real x) b refl (value_cmp-apart (Real x) (Blob b) (λ c. absurd (omega (arith, c)))) e)
-blob_same (Text t) b e = absurd (no_blob (Text t) b refl (value_cmp-apart (Text t) (Blob b) (λ c. absurd (omega (arith, c)))) e)
-blob_same (Blob a) b e = ap Blob ((bytes_eq-Decides a b).0 (sym (is_eq-slice_cmp a b) ∙ (ap is_eq (sym (value_cmp-Blob a b)) ∙ same_is (Blob a) (Blob b) refl refl e)))
+blob_same (Int m) b e = absurd (no_blob (Int m) b refl
+    (value_cmp-apart (Int m) (Blob b) (λ c. absurd (omega (arith, c)))) e)
+blob_same (Real x) b e = absurd (no_blob (Real x) b refl
+    (value_cmp-apart (Real x) (Blob b) (λ c. absurd (omega (arith, c)))) e)
+blob_same (Text t) b e = absurd (no_blob (Text t) b refl
+    (value_cmp-apart (Text t) (Blob b) (λ c. absurd (omega (arith, c)))) e)
+blob_same (Blob a) b e = ap Blob ((bytes_eq-Decides a b).0
+    (sym (is_eq-slice_cmp a b) ∙ (ap is_eq (sym (value_cmp-Blob a b))
+    ∙ same_is (Blob a) (Blob b) refl refl e)))
 
 -- a column of a row that is typed is of the column's kind
-kind_at : (key : Option ℕ) (at : ℕ) (cols : List Column) (vs : Row) (i : ℕ) (c : Column) → slice_get cols i ≡ Some c → are_typed key at cols vs ≡ true → c.is_strict ≡ true → is_of c.kind (column vs i) ≡ true
+kind_at : (key : Option ℕ) (at : ℕ) (cols : List Column) (vs : Row) (i : ℕ) (c : Column)
+    → slice_get cols i ≡ Some c → are_typed key at cols vs ≡ true → c.is_strict ≡ true
+    → is_of c.kind (column vs i) ≡ true
 kind_at key at [] vs i c found typed strict = absurd (let no = found in cc)
 kind_at key at (d ∷ cols) [] i c found typed strict = refl
-kind_at key at (d ∷ cols) (v ∷ vs) zero c found typed strict = go (is_key key at) ((and_parts (cond (is_key key at) (is_null v) (suits d v)) (are_typed key (at + 1) cols vs) typed).0)
+kind_at key at (d ∷ cols) (v ∷ vs) zero c found typed strict =
+    go (is_key key at)
+    ((and_parts (cond (is_key key at) (is_null v) (suits d v))
+    (are_typed key (at + 1) cols vs) typed).0)
   where
     same_column : d ≡ c
     same_column = let e = found in cc
 
     go : (b : Bool) → cond b (is_null v) (suits d v) ≡ true → is_of c.kind v ≡ true
     go true null = rw null refl
-    go false suit = subst (λ (x : Column). is_of x.kind v ≡ true) same_column (strictly d.is_strict (ap (λ (x : Column). x.is_strict) same_column ∙ strict) suit)
+    go false suit = subst (λ (x : Column). is_of x.kind v ≡ true) same_column
+        (strictly d.is_strict (ap (λ (x : Column). x.is_strict) same_column ∙ strict) suit)
       where
-        strictly : (b : Bool) → b ≡ true → cond b (is_of d.kind v) (has_affinity d.kind v) ≡ true → is_of d.kind v ≡ true
+        strictly : (b : Bool) → b ≡ true → cond b (is_of d.kind v) (has_affinity d.kind v) ≡ true
+            → is_of d.kind v ≡ true
         strictly true is suit = suit
         strictly false is suit = absurd (true≢false (sym is))
-kind_at key at (d ∷ cols) (v ∷ vs) (suc i) c found typed strict = kind_at key (at + 1) cols vs i c found ((and_parts (cond (is_key key at) (is_null v) (suits d v)) (are_typed key (at + 1) cols vs) typed).1) strict
+kind_at key at (d ∷ cols) (v ∷ vs) (suc i) c found typed strict =
+    kind_at key (at + 1) cols vs i c found
+    ((and_parts (cond (is_key key at) (is_null v) (suits d v))
+    (are_typed key (at + 1) cols vs) typed).1) strict
 
 column_behind : (r : Row) (i : ℕ) → column r (suc i) ≡ column (drop 1 r) i
 column_behind [] i = refl
 column_behind (v ∷ vs) i = refl
 
-any_has : {A : Type 0} (p : A → Bool) (xs : List A) → list_any p xs ≡ true → (x : A) × Has xs x × (p x ≡ true)
+any_has : {A : Type 0} (p : A → Bool) (xs : List A) → list_any p xs ≡ true
+    → (x : A) × Has xs x × (p x ≡ true)
 any_has p [] e = absurd (true≢false (sym e))
 any_has {A} p (x ∷ xs) e = go (p x) refl e (any_has p xs)
   where
-    go : (b : Bool) → p x ≡ b → (b || list_any p xs) ≡ true → (list_any p xs ≡ true → (y : A) × Has xs y × (p y ≡ true)) → (y : A) × ((y ≡ x) ⊎ Has xs y) × (p y ≡ true)
+    go : (b : Bool) → p x ≡ b → (b || list_any p xs) ≡ true
+        → (list_any p xs ≡ true → (y : A) × Has xs y × (p y ≡ true))
+        → (y : A) × ((y ≡ x) ⊎ Has xs y) × (p y ≡ true)
     go true is e more = (x, inl refl, is)
     go false is e more = let it = more e in (it.0, inr it.1, it.2)
 
@@ -310,7 +412,8 @@ numeric_int : (n : ℤ) → unary ToNumeric (Int n) ≡ Int n
 unfolding unary
 numeric_int n = refl
 
-live_is : (v : Value) (n : ℤ) → v ≡ Int n → (k : ℤ) × (binary (Compare Ne Binary) v (Int (pos 4)) ≡ Int k)
+live_is : (v : Value) (n : ℤ) → v ≡ Int n
+    → (k : ℤ) × (binary (Compare Ne Binary) v (Int (pos 4)) ≡ Int k)
 unfolding binary
 live_is v n e = rw e (one _)
   where
@@ -327,8 +430,12 @@ pub record HasInts (c : Row) : Type 0 where
   pub live : is_of kind.Integer (column c 6) ≡ true
   pub extra : is_of kind.Integer (column c 7) ≡ true
 
-eight_parts : (a b c d e f g h : Bool) → (a && (b && (c && (d && (e && (f && (g && (h && true)))))))) ≡ true → (a ≡ true) × (b ≡ true) × (c ≡ true) × (d ≡ true) × (e ≡ true) × (f ≡ true) × (g ≡ true) × (h ≡ true)
-eight_parts true true true true true true true true all = (refl, refl, refl, refl, refl, refl, refl, refl)
+eight_parts : (a b c d e f g h : Bool)
+    → (a && (b && (c && (d && (e && (f && (g && (h && true)))))))) ≡ true
+    → (a ≡ true) × (b ≡ true) × (c ≡ true) × (d ≡ true) × (e ≡ true) × (f ≡ true) × (g ≡ true)
+    × (h ≡ true)
+eight_parts true true true true true true true true all =
+    (refl, refl, refl, refl, refl, refl, refl, refl)
 eight_parts true true true true true true true false all = absurd (true≢false (sym all))
 eight_parts true true true true true true false h all = absurd (true≢false (sym all))
 eight_parts true true true true true false g h all = absurd (true≢false (sym all))
@@ -338,13 +445,15 @@ eight_parts true true false d e f g h all = absurd (true≢false (sym all))
 eight_parts true false c d e f g h all = absurd (true≢false (sym all))
 eight_parts false b c d e f g h all = absurd (true≢false (sym all))
 
-three_parts : (a b c : Bool) → (a && (b && (c && true))) ≡ true → (a ≡ true) × (b ≡ true) × (c ≡ true)
+three_parts : (a b c : Bool) → (a && (b && (c && true))) ≡ true
+    → (a ≡ true) × (b ≡ true) × (c ≡ true)
 three_parts true true true all = (refl, refl, refl)
 three_parts true true false all = absurd (true≢false (sym all))
 three_parts true false c all = absurd (true≢false (sym all))
 three_parts false b c all = absurd (true≢false (sym all))
 
-int_equal : (v w : Value) (n : ℤ) → w ≡ Int n → is_of kind.Integer v ≡ true → same v w ≡ true → v ≡ w
+int_equal : (v w : Value) (n : ℤ) → w ≡ Int n → is_of kind.Integer v ≡ true → same v w ≡ true
+    → v ≡ w
 int_equal v w n is kind e = int_same v n kind (subst (λ x. same v x ≡ true) is e) ∙ sym is
 
 blob_equal : (v w : Value) (b : List ℕ) → w ≡ Blob b → same v w ≡ true → v ≡ w
@@ -360,43 +469,76 @@ module _ (db : Trees) where
   behind r c = [] ∷ r ∷ (later_than db r ∷ []) ∷ c ∷ []
 
   abbrev others_of : Row → Row → Value
-  others_of r c = Int (pos (min 1 (length (flat_map (λ s. cond (list_all (holds ([] ∷ r ∷ (later_than db r ∷ []) ∷ c ∷ s ∷ [])) (other_tests 4)) (([] ∷ r ∷ (later_than db r ∷ []) ∷ c ∷ s ∷ []) ∷ []) []) (db 1)))))
+  others_of r c = Int (pos
+      (min 1 (length (flat_map (λ s.
+      cond (list_all (holds ([] ∷ r ∷ (later_than db r ∷ []) ∷ c ∷ s ∷ [])) (other_tests 4))
+      (([] ∷ r ∷ (later_than db r ∷ []) ∷ c ∷ s ∷ []) ∷ []) []) (db 1)))))
 
   others_is : (r c : Row) → others_of r c ≡ flag (list_any (is_other (columns_of r)) (cells (db 1)))
-  others_is r c = ap (λ n. Int (pos n)) (exists_is (λ s. list_all (holds ([] ∷ r ∷ (later_than db r ∷ []) ∷ c ∷ s ∷ [])) (other_tests 4)) (λ s. [] ∷ r ∷ (later_than db r ∷ []) ∷ c ∷ s ∷ []) (is_other (columns_of r)) (λ s. other_alike r s) (db 1))
+  others_is r c = ap (λ n. Int (pos n)) (exists_is
+      (λ s. list_all (holds ([] ∷ r ∷ (later_than db r ∷ []) ∷ c ∷ s ∷ [])) (other_tests 4))
+      (λ s. [] ∷ r ∷ (later_than db r ∷ []) ∷ c ∷ s ∷ []) (is_other (columns_of r))
+      (λ s. other_alike r s) (db 1))
 
   abbrev fits_current : Row → Row → Bool
-  fits_current r c = list_all (holds ([] ∷ r ∷ (later_than db r ∷ []) ∷ c ∷ (others_of r c ∷ []) ∷ [])) current_fits
+  fits_current r c = list_all (holds
+      ([] ∷ r ∷ (later_than db r ∷ []) ∷ c ∷ (others_of r c ∷ []) ∷ [])) current_fits
 
   abbrev current_count : Row → Value
-  current_count r = Int (pos (min 1 (length (flat_map (λ c. cond (fits_current r c) (([] ∷ r ∷ (later_than db r ∷ []) ∷ c ∷ (others_of r c ∷ []) ∷ []) ∷ []) []) (db 4)))))
+  current_count r =
+      Int (pos (min 1 (length (flat_map
+      (λ c. cond (fits_current r c)
+      (([] ∷ r ∷ (later_than db r ∷ []) ∷ c ∷ (others_of r c ∷ []) ∷ []) ∷ []) []) (db 4)))))
 
   -- a row of currents2 that fits a row of records2 is the one that follows from it
-  fitting : (r c : Row) → IsCells (columns_of r) → HasInts c → fits_current r c ≡ true → current_columns c ≡ current_of (cells (db 1)) (columns_of r)
+  fitting : (r c : Row) → IsCells (columns_of r) → HasInts c → fits_current r c ≡ true
+      → current_columns c ≡ current_of (cells (db 1)) (columns_of r)
   fitting r c it kinds fits =
       let all = eight_parts _ _ _ _ _ _ _ _ fits in
       let live = live_is (column r 7) it.asked (ap (λ x. column x 6) it.is) in
       let count : unary ToNumeric (others_of r c) ≡ others_of r c = numeric_int _ in
-      as_row (blob_equal (column c 1) (column r 4) it.node (ap (λ x. column x 3) it.is) all.0) (int_equal (column c 2) (column r 5) it.time (ap (λ x. column x 4) it.is) kinds.time all.1) (int_equal (column c 3) (column r 6) it.pico (ap (λ x. column x 5) it.is) kinds.pico all.2)
-      (int_equal (column c 4) (column r 3) it.tick (ap (λ x. column x 2) it.is) kinds.tick all.3) (int_equal (column c 5) (column r 1) it.origin (ap (λ x. column x 0) it.is) kinds.origin all.4)
-      (int_equal (column c 6) (binary (Compare Ne Binary) (column r 7) (Int (pos 4))) live.0 live.1 kinds.live (subst (λ x. same (column c 6) x ≡ true) (ap (unary ToNumeric) live.1 ∙ numeric_int live.0 ∙ sym live.1) all.5))
-      (int_equal (column c 7) (others_of r c) _ refl kinds.extra (subst (λ x. same (column c 7) x ≡ true) count all.6) ∙ others_is r c) (blob_equal (column c 8) (column r 9) it.value (ap (λ x. column x 8) it.is) all.7)
+      as_row (blob_equal (column c 1) (column r 4) it.node (ap (λ x. column x 3) it.is) all.0)
+      (int_equal (column c 2) (column r 5) it.time
+      (ap (λ x. column x 4) it.is) kinds.time all.1)
+      (int_equal (column c 3) (column r 6) it.pico
+      (ap (λ x. column x 5) it.is) kinds.pico all.2)
+      (int_equal (column c 4) (column r 3) it.tick (ap (λ x. column x 2) it.is) kinds.tick all.3)
+      (int_equal (column c 5) (column r 1) it.origin
+      (ap (λ x. column x 0) it.is) kinds.origin all.4)
+      (int_equal (column c 6) (binary (Compare Ne Binary) (column r 7) (Int (pos 4))) live.0 live.1
+      kinds.live (subst (λ x. same (column c 6) x ≡ true)
+      (ap (unary ToNumeric) live.1 ∙ numeric_int live.0 ∙ sym live.1) all.5))
+      (int_equal (column c 7) (others_of r c) _ refl kinds.extra
+      (subst (λ x. same (column c 7) x ≡ true) count all.6) ∙ others_is r c)
+      (blob_equal (column c 8) (column r 9) it.value (ap (λ x. column x 8) it.is) all.7)
     where
-      as_row : {a b c d e f g h a2 b2 c2 d2 e2 f2 g2 h2 : Value} → a ≡ a2 → b ≡ b2 → c ≡ c2 → d ≡ d2 → e ≡ e2 → f ≡ f2 → g ≡ g2 → h ≡ h2
-          → ◌≡◌ {A = Row} (a ∷ b ∷ c ∷ d ∷ e ∷ f ∷ g ∷ h ∷ []) (a2 ∷ b2 ∷ c2 ∷ d2 ∷ e2 ∷ f2 ∷ g2 ∷ h2 ∷ [])
-      as_row p q s t u v w x = ap₂ ◌∷◌ p (ap₂ ◌∷◌ q (ap₂ ◌∷◌ s (ap₂ ◌∷◌ t (ap₂ ◌∷◌ u (ap₂ ◌∷◌ v (ap₂ ◌∷◌ w (ap (λ y. y ∷ []) x)))))))
+      as_row : {a b c d e f g h a2 b2 c2 d2 e2 f2 g2 h2 : Value} → a ≡ a2 → b ≡ b2 → c ≡ c2 → d ≡ d2
+          → e ≡ e2 → f ≡ f2 → g ≡ g2 → h ≡ h2
+          → ◌≡◌ {A = Row} (a ∷ b ∷ c ∷ d ∷ e ∷ f ∷ g ∷ h ∷ [])
+          (a2 ∷ b2 ∷ c2 ∷ d2 ∷ e2 ∷ f2 ∷ g2 ∷ h2 ∷ [])
+      as_row p q s t u v w x = ap₂ ◌∷◌ p (ap₂ ◌∷◌ q
+          (ap₂ ◌∷◌ s (ap₂ ◌∷◌ t (ap₂ ◌∷◌ u (ap₂ ◌∷◌ v (ap₂ ◌∷◌ w (ap (λ y. y ∷ []) x)))))))
 
   abbrev lacked : Row → Bool
-  lacked r = is_true (unary Not (later_than db r)) && (is_true (unary Not (current_count r)) && true)
+  lacked r = is_true (unary Not (later_than db r))
+      && (is_true (unary Not (current_count r)) && true)
 
-  none_lacked : IsAnswer lacks_current (overlay db []) [] [] → AllByRecursion (λ r. lacked r ≡ false) (db 1)
+  none_lacked : IsAnswer lacks_current (overlay db []) [] []
+      → AllByRecursion (λ r. lacked r ≡ false) (db 1)
   none_lacked a =
-      let got = listed (inner 1 (counted 1 (inner 1 end) (later_tests 2) (counted 1 (inner 4 (counted 1 (inner 1 end) (other_tests 4) end)) current_fits end))) (op1 Not (col 2 0) ∷ op1 Not (col 3 0) ∷ []) (col 1 1 ∷ []) [] first_only [] (overlay db []) (db 1) lacked
+      let got = listed (inner 1 (counted 1 (inner 1 end) (later_tests 2)
+      (counted 1 (inner 4 (counted 1 (inner 1 end) (other_tests 4) end)) current_fits end)))
+      (op1 Not (col 2 0) ∷ op1 Not (col 3 0) ∷ []) (col 1 1 ∷ []) [] first_only []
+      (overlay db []) (db 1) lacked
       (λ r. [] ∷ r ∷ (later_than db r ∷ []) ∷ (current_count r ∷ []) ∷ []) refl [] a in
-      none_passes lacked (db 1) (none_of (λ r. column r 1 ∷ []) (filter lacked (db 1)) (subst (IsPermutation (map (λ r. column r 1 ∷ []) (filter lacked (db 1)))) (none_first got.0 (sym got.2)) got.1))
+      none_passes lacked (db 1) (none_of (λ r. column r 1 ∷ []) (filter lacked (db 1))
+      (subst (IsPermutation (map (λ r. column r 1 ∷ []) (filter lacked (db 1))))
+      (none_first got.0 (sym got.2)) got.1))
 
   -- each row that follows from those of records2 is there
-  pub currents_there : IsAnswer lacks_current (overlay db []) [] [] → AllByRecursion IsCells (cells (db 1)) → AllByRecursion HasInts (db 4) → AllByRecursion (Has (map current_columns (db 4))) (currents_of (cells (db 1)))
+  pub currents_there : IsAnswer lacks_current (overlay db []) [] []
+      → AllByRecursion IsCells (cells (db 1)) → AllByRecursion HasInts (db 4)
+      → AllByRecursion (Has (map current_columns (db 4))) (currents_of (cells (db 1)))
   currents_there a typed kinds = go (db 1) (none_lacked a) typed
     where
       kinds_of : (xs : List Row) (x : Row) → AllByRecursion HasInts xs → Has xs x → HasInts x
@@ -404,26 +546,45 @@ module _ (db : Trees) where
       kinds_of (y ∷ ys) x all (inl e) = subst HasInts (sym e) all.0
       kinds_of (y ∷ ys) x all (inr h) = kinds_of ys x all.1 h
 
-      one : (r : Row) → lacked r ≡ false → IsCells (columns_of r) → list_any (is_later (columns_of r)) (cells (db 1)) ≡ false → Has (map current_columns (db 4)) (current_of (cells (db 1)) (columns_of r))
+      one : (r : Row) → lacked r ≡ false → IsCells (columns_of r)
+          → list_any (is_later (columns_of r)) (cells (db 1)) ≡ false
+          → Has (map current_columns (db 4)) (current_of (cells (db 1)) (columns_of r))
       one r miss it last =
-          let off : is_true (unary Not (current_count r)) ≡ false = refuted _ _ (no_later db r ∙ ap not last) miss in
-          let some : list_any (fits_current r) (db 4) ≡ true = back (list_any (fits_current r) (db 4)) (sym (ap (λ n. is_true (unary Not (Int (pos n)))) (counted_is (fits_current r) (λ c. [] ∷ r ∷ (later_than db r ∷ []) ∷ c ∷ (others_of r c ∷ []) ∷ []) (db 4)) ∙ not_flag (list_any (fits_current r) (db 4))) ∙ off) in
+          let off : is_true (unary Not (current_count r)) ≡ false =
+          refuted _ _ (no_later db r ∙ ap not last) miss in
+          let some : list_any (fits_current r) (db 4) ≡ true =
+          back (list_any (fits_current r) (db 4))
+          (sym (ap (λ n. is_true (unary Not (Int (pos n))))
+          (counted_is (fits_current r) (λ c. [] ∷ r ∷ (later_than db r ∷ []) ∷ c
+          ∷ (others_of r c ∷ []) ∷ []) (db 4)) ∙ not_flag (list_any (fits_current r) (db 4)))
+          ∙ off) in
           let found = any_has (fits_current r) (db 4) some in
-          subst (Has (map current_columns (db 4))) (fitting r found.0 it (kinds_of (db 4) found.0 kinds found.1) found.2) (has_mapped current_columns (db 4) found.0 found.1)
+          subst (Has (map current_columns (db 4)))
+          (fitting r found.0 it (kinds_of (db 4) found.0 kinds found.1) found.2)
+          (has_mapped current_columns (db 4) found.0 found.1)
         where
           back : (b : Bool) → not b ≡ false → b ≡ true
           back true e = refl
           back false e = absurd (true≢false e)
 
-      go : (rs : List Row) → AllByRecursion (λ r. lacked r ≡ false) rs → AllByRecursion IsCells (map columns_of rs) → AllByRecursion (Has (map current_columns (db 4))) (map (current_of (cells (db 1))) (filter (λ c. not (list_any (is_later c) (cells (db 1)))) (map columns_of rs)))
+      go : (rs : List Row) → AllByRecursion (λ r. lacked r ≡ false) rs
+          → AllByRecursion IsCells (map columns_of rs)
+          → AllByRecursion (Has (map current_columns (db 4)))
+          (map (current_of (cells (db 1))) (filter (λ c. not (list_any (is_later c) (cells (db 1))))
+          (map columns_of rs)))
       go [] none typed = tt
-      go (r ∷ rs) none typed = by (list_any (is_later (columns_of r)) (cells (db 1))) (one r none.0 typed.0) (go rs none.1 typed.1)
+      go (r ∷ rs) none typed = by (list_any (is_later (columns_of r)) (cells (db 1)))
+          (one r none.0 typed.0) (go rs none.1 typed.1)
         where
           more_rows : List Row
           more_rows = filter (λ c. not (list_any (is_later c) (cells (db 1)))) (map columns_of rs)
 
-          by : (b : Bool) → (b ≡ false → Has (map current_columns (db 4)) (current_of (cells (db 1)) (columns_of r))) → AllByRecursion (Has (map current_columns (db 4))) (map (current_of (cells (db 1))) more_rows)
-              → AllByRecursion (Has (map current_columns (db 4))) (map (current_of (cells (db 1))) (cond (not b) (columns_of r ∷ more_rows) more_rows))
+          by : (b : Bool) → (b ≡ false
+              → Has (map current_columns (db 4)) (current_of (cells (db 1)) (columns_of r)))
+              → AllByRecursion (Has (map current_columns (db 4)))
+              (map (current_of (cells (db 1))) more_rows)
+              → AllByRecursion (Has (map current_columns (db 4)))
+              (map (current_of (cells (db 1))) (cond (not b) (columns_of r ∷ more_rows) more_rows))
           by true first more = more
           by false first more = (first refl, more)
 
@@ -440,24 +601,40 @@ module _ (db : Trees) where
   fits_vector r c = list_all (holds ([] ∷ r ∷ (newer_than db r ∷ []) ∷ c ∷ [])) vector_fits
 
   abbrev vector_count : Row → Value
-  vector_count r = Int (pos (min 1 (length (flat_map (λ c. cond (fits_vector r c) (([] ∷ r ∷ (newer_than db r ∷ []) ∷ c ∷ []) ∷ []) []) (db 6)))))
+  vector_count r = Int (pos
+      (min 1 (length (flat_map (λ c.
+      cond (fits_vector r c) (([] ∷ r ∷ (newer_than db r ∷ []) ∷ c ∷ []) ∷ []) []) (db 6)))))
 
-  fitting_vector : (r c : Row) → IsCells (columns_of r) → HasNumbers c → fits_vector r c ≡ true → vector_columns c ≡ last_of (columns_of r)
+  fitting_vector : (r c : Row) → IsCells (columns_of r) → HasNumbers c → fits_vector r c ≡ true
+      → vector_columns c ≡ last_of (columns_of r)
   fitting_vector r c it kinds fits =
-      let all = three_parts (same (column c 0) (column r 1)) (same (column c 2) (column r 2)) (same (column c 3) (column r 3)) fits in
-      ap₂ ◌∷◌ (int_equal (column c 0) (column r 1) it.origin (ap (λ x. column x 0) it.is) kinds.origin all.0)
-      (ap₂ ◌∷◌ (int_equal (column c 2) (column r 2) it.number (ap (λ x. column x 1) it.is) kinds.number all.1) (ap (λ y. y ∷ []) (int_equal (column c 3) (column r 3) it.tick (ap (λ x. column x 2) it.is) kinds.tick all.2)))
+      let all = three_parts (same (column c 0) (column r 1)) (same (column c 2) (column r 2))
+      (same (column c 3) (column r 3)) fits in
+      ap₂ ◌∷◌ (int_equal (column c 0) (column r 1) it.origin
+      (ap (λ x. column x 0) it.is) kinds.origin all.0)
+      (ap₂ ◌∷◌ (int_equal (column c 2) (column r 2) it.number
+      (ap (λ x. column x 1) it.is) kinds.number all.1)
+      (ap (λ y. y ∷ []) (int_equal (column c 3) (column r 3) it.tick
+      (ap (λ x. column x 2) it.is) kinds.tick all.2)))
 
   abbrev lacked_vector : Row → Bool
-  lacked_vector r = is_true (unary Not (newer_than db r)) && (is_true (unary Not (vector_count r)) && true)
+  lacked_vector r = is_true (unary Not (newer_than db r))
+      && (is_true (unary Not (vector_count r)) && true)
 
-  no_vector_lacked : IsAnswer lacks_vector (overlay db []) [] [] → AllByRecursion (λ r. lacked_vector r ≡ false) (db 1)
+  no_vector_lacked : IsAnswer lacks_vector (overlay db []) [] []
+      → AllByRecursion (λ r. lacked_vector r ≡ false) (db 1)
   no_vector_lacked a =
-      let got = listed (inner 1 (counted 1 (inner 1 end) (newer_tests 2) (counted 1 (inner 6 end) vector_fits end))) (op1 Not (col 2 0) ∷ op1 Not (col 3 0) ∷ []) (col 1 1 ∷ []) [] first_only [] (overlay db []) (db 1) lacked_vector
+      let got = listed (inner 1 (counted 1 (inner 1 end) (newer_tests 2)
+      (counted 1 (inner 6 end) vector_fits end))) (op1 Not (col 2 0) ∷ op1 Not (col 3 0) ∷ [])
+      (col 1 1 ∷ []) [] first_only [] (overlay db []) (db 1) lacked_vector
       (λ r. [] ∷ r ∷ (newer_than db r ∷ []) ∷ (vector_count r ∷ []) ∷ []) refl [] a in
-      none_passes lacked_vector (db 1) (none_of (λ r. column r 1 ∷ []) (filter lacked_vector (db 1)) (subst (IsPermutation (map (λ r. column r 1 ∷ []) (filter lacked_vector (db 1)))) (none_first got.0 (sym got.2)) got.1))
+      none_passes lacked_vector (db 1) (none_of (λ r. column r 1 ∷ []) (filter lacked_vector (db 1))
+      (subst (IsPermutation (map (λ r. column r 1 ∷ []) (filter lacked_vector (db 1))))
+      (none_first got.0 (sym got.2)) got.1))
 
-  pub vectors_there : IsAnswer lacks_vector (overlay db []) [] [] → AllByRecursion IsCells (cells (db 1)) → AllByRecursion HasNumbers (db 6) → AllByRecursion (Has (map vector_columns (db 6))) (vectors_of (cells (db 1)))
+  pub vectors_there : IsAnswer lacks_vector (overlay db []) [] []
+      → AllByRecursion IsCells (cells (db 1)) → AllByRecursion HasNumbers (db 6)
+      → AllByRecursion (Has (map vector_columns (db 6))) (vectors_of (cells (db 1)))
   vectors_there a typed kinds = go (db 1) (no_vector_lacked a) typed
     where
       kinds_of : (xs : List Row) (x : Row) → AllByRecursion HasNumbers xs → Has xs x → HasNumbers x
@@ -465,26 +642,42 @@ module _ (db : Trees) where
       kinds_of (y ∷ ys) x all (inl e) = subst HasNumbers (sym e) all.0
       kinds_of (y ∷ ys) x all (inr h) = kinds_of ys x all.1 h
 
-      one : (r : Row) → lacked_vector r ≡ false → IsCells (columns_of r) → list_any (is_newer (columns_of r)) (cells (db 1)) ≡ false → Has (map vector_columns (db 6)) (last_of (columns_of r))
+      one : (r : Row) → lacked_vector r ≡ false → IsCells (columns_of r)
+          → list_any (is_newer (columns_of r)) (cells (db 1)) ≡ false
+          → Has (map vector_columns (db 6)) (last_of (columns_of r))
       one r miss it last =
-          let off : is_true (unary Not (vector_count r)) ≡ false = refuted _ _ (no_newer db r ∙ ap not last) miss in
-          let some : list_any (fits_vector r) (db 6) ≡ true = back (list_any (fits_vector r) (db 6)) (sym (ap (λ n. is_true (unary Not (Int (pos n)))) (counted_is (fits_vector r) (λ c. [] ∷ r ∷ (newer_than db r ∷ []) ∷ c ∷ []) (db 6)) ∙ not_flag (list_any (fits_vector r) (db 6))) ∙ off) in
+          let off : is_true (unary Not (vector_count r)) ≡ false =
+          refuted _ _ (no_newer db r ∙ ap not last) miss in
+          let some : list_any (fits_vector r) (db 6) ≡ true =
+          back (list_any (fits_vector r) (db 6))
+          (sym (ap (λ n. is_true (unary Not (Int (pos n))))
+          (counted_is (fits_vector r) (λ c. [] ∷ r ∷ (newer_than db r ∷ []) ∷ c ∷ []) (db 6))
+          ∙ not_flag (list_any (fits_vector r) (db 6))) ∙ off) in
           let found = any_has (fits_vector r) (db 6) some in
-          subst (Has (map vector_columns (db 6))) (fitting_vector r found.0 it (kinds_of (db 6) found.0 kinds found.1) found.2) (has_mapped vector_columns (db 6) found.0 found.1)
+          subst (Has (map vector_columns (db 6))) (fitting_vector r found.0 it
+          (kinds_of (db 6) found.0 kinds found.1) found.2)
+          (has_mapped vector_columns (db 6) found.0 found.1)
         where
           back : (b : Bool) → not b ≡ false → b ≡ true
           back true e = refl
           back false e = absurd (true≢false e)
 
-      go : (rs : List Row) → AllByRecursion (λ r. lacked_vector r ≡ false) rs → AllByRecursion IsCells (map columns_of rs) → AllByRecursion (Has (map vector_columns (db 6))) (map last_of (filter (λ c. not (list_any (is_newer c) (cells (db 1)))) (map columns_of rs)))
+      go : (rs : List Row) → AllByRecursion (λ r. lacked_vector r ≡ false) rs
+          → AllByRecursion IsCells (map columns_of rs)
+          → AllByRecursion (Has (map vector_columns (db 6)))
+          (map last_of (filter (λ c. not (list_any (is_newer c) (cells (db 1))))
+          (map columns_of rs)))
       go [] none typed = tt
-      go (r ∷ rs) none typed = by (list_any (is_newer (columns_of r)) (cells (db 1))) (one r none.0 typed.0) (go rs none.1 typed.1)
+      go (r ∷ rs) none typed = by (list_any (is_newer (columns_of r)) (cells (db 1)))
+          (one r none.0 typed.0) (go rs none.1 typed.1)
         where
           more_rows : List Row
           more_rows = filter (λ c. not (list_any (is_newer c) (cells (db 1)))) (map columns_of rs)
 
-          by : (b : Bool) → (b ≡ false → Has (map vector_columns (db 6)) (last_of (columns_of r))) → AllByRecursion (Has (map vector_columns (db 6))) (map last_of more_rows)
-              → AllByRecursion (Has (map vector_columns (db 6))) (map last_of (cond (not b) (columns_of r ∷ more_rows) more_rows))
+          by : (b : Bool) → (b ≡ false → Has (map vector_columns (db 6)) (last_of (columns_of r)))
+              → AllByRecursion (Has (map vector_columns (db 6))) (map last_of more_rows)
+              → AllByRecursion (Has (map vector_columns (db 6)))
+              (map last_of (cond (not b) (columns_of r ∷ more_rows) more_rows))
           by true first more = more
           by false first more = (first refl, more)
 
@@ -496,14 +689,27 @@ typed_currents db sound = go (db 4) (sound.obeys.rules Datatype).1.1.0
     one : (r : Row) → (are_typed None 0 third_table.columns (drop 1 r) && true) ≡ true → HasInts r
     one r e =
         let typed : are_typed None 0 third_table.columns (drop 1 r) ≡ true = sym (one_true _) ∙ e in
-        let at = λ (i : ℕ) (c : Column) (found : slice_get third_table.columns i ≡ Some c) (strict : c.is_strict ≡ true). subst (λ v. is_of c.kind v ≡ true) (sym (column_behind r i)) (kind_at None 0 third_table.columns (drop 1 r) i c found typed strict) in
-        record { time = at 1 _ refl refl; pico = at 2 _ refl refl; tick = at 3 _ refl refl; origin = at 4 _ refl refl; live = at 5 _ refl refl; extra = at 6 _ refl refl }
+        let at = λ (i : ℕ) (c : Column) (found : slice_get third_table.columns i ≡ Some c)
+        (strict : c.is_strict ≡ true).
+        subst (λ v. is_of c.kind v ≡ true) (sym (column_behind r i))
+        (kind_at None 0 third_table.columns (drop 1 r) i c found typed strict) in
+        record {
+          time = at 1 _ refl refl;
+          pico = at 2 _ refl refl;
+          tick = at 3 _ refl refl;
+          origin =
+              at 4 _ refl refl;
+          live = at 5 _ refl refl;
+          extra = at 6 _ refl refl;
+        }
 
-    go : (rs : List Row) → AllByRecursion (λ row. passes Datatype archive_schema db third_table row ≡ true) rs → AllByRecursion HasInts rs
+    go : (rs : List Row) → AllByRecursion (λ row. passes Datatype archive_schema db third_table row
+        ≡ true) rs → AllByRecursion HasInts rs
     go [] all = tt
     go (r ∷ rs) all = (one r all.0, go rs all.1)
 
-typed_vectors : (db : Trees) → IsSound archive_schema db → AreNumbered (db 6) → AllByRecursion HasNumbers (db 6)
+typed_vectors : (db : Trees) → IsSound archive_schema db → AreNumbered (db 6)
+    → AllByRecursion HasNumbers (db 6)
 typed_vectors db sound ids = go (db 6) (sound.obeys.rules Datatype).1.1.1.0 ids.keyed
   where
     int_kind : (v : Value) → is_int v ≡ true → is_of kind.Integer v ≡ true
@@ -513,21 +719,36 @@ typed_vectors db sound ids = go (db 6) (sound.obeys.rules Datatype).1.1.1.0 ids.
     int_kind (Text t) e = absurd (true≢false (sym e))
     int_kind (Blob b) e = absurd (true≢false (sym e))
 
-    one : (r : Row) → (are_typed (Some 0) 0 fourth_table.columns (drop 1 r) && true) ≡ true → is_int (rowid r) ≡ true → HasNumbers r
+    one : (r : Row) → (are_typed (Some 0) 0 fourth_table.columns (drop 1 r) && true) ≡ true
+        → is_int (rowid r) ≡ true → HasNumbers r
     one r e int =
-        let typed : are_typed (Some 0) 0 fourth_table.columns (drop 1 r) ≡ true = sym (one_true _) ∙ e in
-        let at = λ (i : ℕ) (c : Column) (found : slice_get fourth_table.columns i ≡ Some c) (strict : c.is_strict ≡ true). subst (λ v. is_of c.kind v ≡ true) (sym (column_behind r i)) (kind_at (Some 0) 0 fourth_table.columns (drop 1 r) i c found typed strict) in
-        record { origin = int_kind (column r 0) int; number = at 1 _ refl refl; tick = at 2 _ refl refl }
+        let typed : are_typed (Some 0) 0 fourth_table.columns (drop 1 r) ≡ true =
+        sym (one_true _) ∙ e in
+        let at = λ (i : ℕ) (c : Column) (found : slice_get fourth_table.columns i ≡ Some c)
+        (strict : c.is_strict ≡ true).
+        subst (λ v. is_of c.kind v ≡ true) (sym (column_behind r i))
+        (kind_at (Some 0) 0 fourth_table.columns (drop 1 r) i c found typed strict) in
+        record {
+          origin = int_kind (column r 0) int;
+          number = at 1 _ refl refl;
+          tick =
+              at 2 _ refl refl;
+        }
 
-    go : (rs : List Row) → AllByRecursion (λ row. passes Datatype archive_schema db fourth_table row ≡ true) rs → AllByRecursion (λ r. is_int (rowid r) ≡ true) rs → AllByRecursion HasNumbers rs
+    go : (rs : List Row) → AllByRecursion (λ row. passes Datatype archive_schema db fourth_table row
+        ≡ true) rs → AllByRecursion (λ r. is_int (rowid r) ≡ true) rs → AllByRecursion HasNumbers rs
     go [] all ids = tt
     go (r ∷ rs) all ids = (one r all.0 ids.0, go rs all.1 ids.1)
 
 -- ---- all of it
 
-shown_is : (sql : List ℕ) (q : Query) (names : List (List ℕ)) (db : Trees) (rows : List Row) → command_in (understood archive_schema sql) ≡ Select (record { lets = []; body = q }) names
-    → ShowsOf sql (record { schema = archive_schema; trees = db }) rows → IsAnswer q (overlay db []) [] rows
-shown_is sql q names db rows is shown = (subst (λ c. Reads c (record { schema = archive_schema; trees = db }) [] rows) is shown).answer Null
+shown_is : (sql : List ℕ) (q : Query) (names : List (List ℕ)) (db : Trees) (rows : List Row)
+    → command_in (understood archive_schema sql) ≡ Select (record { lets = []; body = q }) names
+    → ShowsOf sql (record { schema = archive_schema; trees = db }) rows
+    → IsAnswer q (overlay db []) [] rows
+shown_is sql q names db rows is shown =
+    (subst (λ c. Reads c (record { schema = archive_schema; trees = db }) [] rows) is shown).answer
+    Null
 
 -- a database with the tables of an archive
 module _ (d : Database) (has : d.schema ≡ archive_schema) where
@@ -540,31 +761,57 @@ module _ (d : Database) (has : d.schema ≡ archive_schema) where
   counted_in : (sql : List ℕ) (n : ℕ) → HasCounted sql d n → HasCounted sql whole n
   counted_in sql n = subst (λ x. HasCounted sql x n) whole_is
 
-  pub currents_fit_of : IsSound d.schema d.trees → AllByRecursion IsCells (cells (d.trees 1)) → ShowsOf currents_lack_text d [] → HasEach (map current_columns (d.trees 4)) (currents_of (cells (d.trees 1)))
+  pub currents_fit_of : IsSound d.schema d.trees → AllByRecursion IsCells (cells (d.trees 1))
+      → ShowsOf currents_lack_text d []
+      → HasEach (map current_columns (d.trees 4)) (currents_of (cells (d.trees 1)))
   currents_fit_of sound typed none =
-      currents_there d.trees (shown_is currents_lack_text lacks_current (codes "origin" ∷ []) d.trees [] currents_lack_is (subst (λ x. ShowsOf currents_lack_text x []) whole_is none)) typed (typed_currents d.trees (subst (λ s. IsSound s d.trees) has sound))
+      currents_there d.trees (shown_is currents_lack_text lacks_current
+      (codes "origin" ∷ []) d.trees [] currents_lack_is
+      (subst (λ x. ShowsOf currents_lack_text x []) whole_is none)) typed
+      (typed_currents d.trees (subst (λ s. IsSound s d.trees) has sound))
 
-  pub currents_wanted_of : (n : ℕ) → HasCounted currents_wanted_text d n → n ≡ length (currents_of (cells (d.trees 1)))
+  pub currents_wanted_of : (n : ℕ) → HasCounted currents_wanted_text d n
+      → n ≡ length (currents_of (cells (d.trees 1)))
   currents_wanted_of n counts =
-      let want = counted_in currents_wanted_text n counts in want.many ∙ wanted_rows d.trees want.rows (shown_is currents_wanted_text (wanted_by later_tests) (codes "rowid" ∷ []) d.trees want.rows currents_wanted_is want.shown)
+      let want = counted_in currents_wanted_text n counts in
+      want.many ∙ wanted_rows d.trees want.rows
+      (shown_is currents_wanted_text (wanted_by later_tests)
+      (codes "rowid" ∷ []) d.trees want.rows currents_wanted_is want.shown)
 
-  pub currents_held_of : (n : ℕ) → HasCounted currents_held_text d n → (n ≡ length (d.trees 4)) × AreNumbered (d.trees 4)
+  pub currents_held_of : (n : ℕ) → HasCounted currents_held_text d n
+      → (n ≡ length (d.trees 4)) × AreNumbered (d.trees 4)
   currents_held_of n counts =
       let have = counted_in currents_held_text n counts in
-      let some = held_rows 4 (overlay d.trees []) have.rows have.numbers (shown_is currents_held_text (held_in 4) (codes "rowid" ∷ []) d.trees have.rows currents_held_is have.shown) have.rise in (have.many ∙ some.1, some.0)
+      let some = held_rows 4 (overlay d.trees []) have.rows have.numbers
+      (shown_is currents_held_text (held_in 4)
+      (codes "rowid" ∷ []) d.trees have.rows currents_held_is have.shown) have.rise in
+      (have.many ∙ some.1, some.0)
 
-  pub vectors_fit_of : IsSound d.schema d.trees → AllByRecursion IsCells (cells (d.trees 1)) → ShowsOf vectors_lack_text d [] → AreNumbered (d.trees 6) → HasEach (map vector_columns (d.trees 6)) (vectors_of (cells (d.trees 1)))
+  pub vectors_fit_of : IsSound d.schema d.trees → AllByRecursion IsCells (cells (d.trees 1))
+      → ShowsOf vectors_lack_text d [] → AreNumbered (d.trees 6)
+      → HasEach (map vector_columns (d.trees 6)) (vectors_of (cells (d.trees 1)))
   vectors_fit_of sound typed none ids =
-      vectors_there d.trees (shown_is vectors_lack_text lacks_vector (codes "origin" ∷ []) d.trees [] vectors_lack_is (subst (λ x. ShowsOf vectors_lack_text x []) whole_is none)) typed (typed_vectors d.trees (subst (λ s. IsSound s d.trees) has sound) ids)
+      vectors_there d.trees (shown_is vectors_lack_text lacks_vector
+      (codes "origin" ∷ []) d.trees [] vectors_lack_is
+      (subst (λ x. ShowsOf vectors_lack_text x []) whole_is none)) typed
+      (typed_vectors d.trees (subst (λ s. IsSound s d.trees) has sound) ids)
 
-  pub vectors_wanted_of : (n : ℕ) → HasCounted vectors_wanted_text d n → n ≡ length (vectors_of (cells (d.trees 1)))
+  pub vectors_wanted_of : (n : ℕ) → HasCounted vectors_wanted_text d n
+      → n ≡ length (vectors_of (cells (d.trees 1)))
   vectors_wanted_of n counts =
-      let want = counted_in vectors_wanted_text n counts in want.many ∙ wanted_vectors d.trees want.rows (shown_is vectors_wanted_text (wanted_by newer_tests) (codes "rowid" ∷ []) d.trees want.rows vectors_wanted_is want.shown)
+      let want = counted_in vectors_wanted_text n counts in
+      want.many ∙ wanted_vectors d.trees want.rows
+      (shown_is vectors_wanted_text (wanted_by newer_tests)
+      (codes "rowid" ∷ []) d.trees want.rows vectors_wanted_is want.shown)
 
-  pub vectors_held_of : (n : ℕ) → HasCounted vectors_held_text d n → (n ≡ length (d.trees 6)) × AreNumbered (d.trees 6)
+  pub vectors_held_of : (n : ℕ) → HasCounted vectors_held_text d n
+      → (n ≡ length (d.trees 6)) × AreNumbered (d.trees 6)
   vectors_held_of n counts =
       let have = counted_in vectors_held_text n counts in
-      let some = held_rows 6 (overlay d.trees []) have.rows have.numbers (shown_is vectors_held_text (held_in 6) (codes "origin" ∷ []) d.trees have.rows vectors_held_is have.shown) have.rise in (have.many ∙ some.1, some.0)
+      let some = held_rows 6 (overlay d.trees []) have.rows have.numbers
+      (shown_is vectors_held_text (held_in 6)
+      (codes "origin" ∷ []) d.trees have.rows vectors_held_is have.shown) have.rise in
+      (have.many ∙ some.1, some.0)
 
 -- ---- the texts may be asked
 
@@ -601,12 +848,22 @@ commands_alike : (r : Result Compiled CompileError) → command_of r ≡ command
 commands_alike (Ok c) = refl
 commands_alike (Err e) = refl
 
-pub shows_of : (sql : List ℕ) (old new : State) (rows : List Row) → old.now.schema ≡ archive_schema → IsPlain (understood archive_schema sql) → reads_listing archive_schema sql ≡ false → Shown sql [] old new rows → ShowsOf sql old.now rows
-shows_of sql old new rows has plain unlisted h = subst (λ c. Reads c old.now [] rows) (commands_alike (understood archive_schema sql)) (reads_as sql [] old new archive_schema has (command_of (understood archive_schema sql)) refl plain unlisted rows h)
+pub shows_of : (sql : List ℕ) (old new : State) (rows : List Row) → old.now.schema ≡ archive_schema
+    → IsPlain (understood archive_schema sql) → reads_listing archive_schema sql ≡ false
+    → Shown sql [] old new rows → ShowsOf sql old.now rows
+shows_of sql old new rows has plain unlisted h =
+    subst (λ c. Reads c old.now [] rows) (commands_alike (understood archive_schema sql))
+    (reads_as sql [] old new archive_schema has
+    (command_of (understood archive_schema sql)) refl plain unlisted rows h)
 
-pub begins_of : (sql : List ℕ) (s : State) (rows : List Row) → s.now.schema ≡ archive_schema → IsPlain (understood archive_schema sql) → reads_listing archive_schema sql ≡ false → Begins sql [] s rows
+pub begins_of : (sql : List ℕ) (s : State) (rows : List Row) → s.now.schema ≡ archive_schema
+    → IsPlain (understood archive_schema sql) → reads_listing archive_schema sql ≡ false
+    → Begins sql [] s rows
     → ReadsFirst (command_in (understood archive_schema sql)) s.now [] rows
-begins_of sql s rows has plain unlisted h = subst (λ c. ReadsFirst c s.now [] rows) (commands_alike (understood archive_schema sql)) (begins_as sql [] s s archive_schema has (command_of (understood archive_schema sql)) refl plain unlisted rows h)
+begins_of sql s rows has plain unlisted h =
+    subst (λ c. ReadsFirst c s.now [] rows) (commands_alike (understood archive_schema sql))
+    (begins_as sql [] s s archive_schema has
+    (command_of (understood archive_schema sql)) refl plain unlisted rows h)
 
 -- ---- one row more
 
@@ -619,81 +876,119 @@ has_last : {X : Type 0} (xs : List X) (x : X) → Has (xs ++ x ∷ []) x
 has_last [] x = inl refl
 has_last (y ∷ xs) x = inr (has_last xs x)
 
-pub risen_more : (rows : List Row) (row : Row) (before after : Ids) (id : ℤ) → HasRisen rows before → column row 0 ≡ Int id → IfSome before.last (λ last. last <ℤ id) → after.last ≡ Some id → after.count ≡ before.count + 1 → HasRisen (rows ++ row ∷ []) after
+pub risen_more : (rows : List Row) (row : Row) (before after : Ids) (id : ℤ) → HasRisen rows before
+    → column row 0 ≡ Int id → IfSome before.last (λ last. last <ℤ id) → after.last ≡ Some id
+    → after.count ≡ before.count + 1 → HasRisen (rows ++ row ∷ []) after
 risen_more rows row before after id w is up last count = record {
   numbers = w.numbers ++ id ∷ [];
-  rise = record { are = map-append (λ r. column r 0) rows (row ∷ []) ∙ ap₂ ◌++◌ w.rise.are (ap (λ v. v ∷ []) is) ∙ sym (map-append Int w.numbers (id ∷ [])); rising = rises w.numbers w.rise.rising (all_below before.last w.below up w.none) };
-  below = subst (λ o. IfSome o (λ l. AllByRecursion (λ i. i ≤ℤ l) (w.numbers ++ id ∷ []))) (sym last) (bounded w.numbers (all_below before.last w.below up w.none));
+  rise = record {
+    are = map-append (λ r. column r 0) rows (row ∷ [])
+        ∙ ap₂ ◌++◌ w.rise.are (ap (λ v. v ∷ []) is) ∙ sym (map-append Int w.numbers (id ∷ []));
+    rising = rises w.numbers w.rise.rising (all_below before.last w.below up w.none);
+  };
+  below = subst (λ o. IfSome o (λ l. AllByRecursion (λ i. i ≤ℤ l) (w.numbers ++ id ∷ [])))
+      (sym last) (bounded w.numbers (all_below before.last w.below up w.none));
   reached = subst (λ o. IfSome o (Has (w.numbers ++ id ∷ []))) (sym last) (has_last w.numbers id);
   none = λ e. absurd (let bad = sym last ∙ e in cc);
   many = count ∙ ap (λ n. n + 1) w.many ∙ sym (length-append rows (row ∷ []));
 }
   where
-    nothing : (xs : List Row) (ys : List ℤ) → xs ≡ [] → map (λ r. column r 0) xs ≡ map Int ys → AllByRecursion (λ i. i <ℤ id) ys
+    nothing : (xs : List Row) (ys : List ℤ) → xs ≡ [] → map (λ r. column r 0) xs ≡ map Int ys
+        → AllByRecursion (λ i. i <ℤ id) ys
     nothing xs [] e are = tt
-    nothing xs (y ∷ ys) e are = absurd (let bad = ap (map (λ (r : Row). column r 0)) (sym e) ∙ are in cc)
+    nothing xs (y ∷ ys) e are = absurd (let bad =
+        ap (map (λ (r : Row). column r 0)) (sym e) ∙ are in cc)
 
-    under : (l : ℤ) (ys : List ℤ) → l <ℤ id → AllByRecursion (λ i. i ≤ℤ l) ys → AllByRecursion (λ i. i <ℤ id) ys
+    under : (l : ℤ) (ys : List ℤ) → l <ℤ id → AllByRecursion (λ i. i ≤ℤ l) ys
+        → AllByRecursion (λ i. i <ℤ id) ys
     under l [] up all = tt
     under l (y ∷ ys) up all = (omega (arith, ints, up, all.0), under l ys up all.1)
 
-    all_below : (o : Option ℤ) → IfSome o (λ l. AllByRecursion (λ i. i ≤ℤ l) w.numbers) → IfSome o (λ l. l <ℤ id) → (o ≡ None → rows ≡ []) → AllByRecursion (λ i. i <ℤ id) w.numbers
+    all_below : (o : Option ℤ) → IfSome o (λ l. AllByRecursion (λ i. i ≤ℤ l) w.numbers)
+        → IfSome o (λ l. l <ℤ id) → (o ≡ None → rows ≡ []) → AllByRecursion (λ i. i <ℤ id) w.numbers
     all_below None below up none = nothing rows w.numbers (none refl) w.rise.are
     all_below (Some l) below up none = under l w.numbers up below
 
-    rises : (ys : List ℤ) → IsAscending (λ a b. a <ℤ b) ys → AllByRecursion (λ i. i <ℤ id) ys → IsAscending (λ a b. a <ℤ b) (ys ++ id ∷ [])
+    rises : (ys : List ℤ) → IsAscending (λ a b. a <ℤ b) ys → AllByRecursion (λ i. i <ℤ id) ys
+        → IsAscending (λ a b. a <ℤ b) (ys ++ id ∷ [])
     rises [] rising all = (tt, tt)
     rises (y ∷ ys) rising all = (pushed (λ b. y <ℤ b) ys rising.0 all.0, rises ys rising.1 all.1)
       where
-        pushed : (P : ℤ → Type 0) (xs : List ℤ) → AllByRecursion P xs → P id → AllByRecursion P (xs ++ id ∷ [])
+        pushed : (P : ℤ → Type 0) (xs : List ℤ) → AllByRecursion P xs → P id
+            → AllByRecursion P (xs ++ id ∷ [])
         pushed P [] all p = (p, tt)
         pushed P (x ∷ xs) all p = (all.0, pushed P xs all.1 p)
 
-    bounded : (ys : List ℤ) → AllByRecursion (λ i. i <ℤ id) ys → AllByRecursion (λ i. i ≤ℤ id) (ys ++ id ∷ [])
+    bounded : (ys : List ℤ) → AllByRecursion (λ i. i <ℤ id) ys
+        → AllByRecursion (λ i. i ≤ℤ id) (ys ++ id ∷ [])
     bounded [] all = (omega (arith, ints), tt)
     bounded (y ∷ ys) all = (omega (arith, ints, all.0), bounded ys all.1)
 
 pub none_risen : (ids : Ids) → ids.last ≡ None → ids.count ≡ 0 → HasRisen [] ids
-none_risen ids last count = record { numbers = []; rise = record { are = refl; rising = tt }; below = subst (λ o. IfSome o (λ l. AllByRecursion (λ i. i ≤ℤ l) [])) (sym last) tt; reached = subst (λ o. IfSome o (Has [])) (sym last) tt; none = λ e. refl; many = count }
+none_risen ids last count = record {
+  numbers = [];
+  rise =
+      record { are = refl; rising = tt };
+  below =
+      subst (λ o. IfSome o (λ l. AllByRecursion (λ i. i ≤ℤ l) [])) (sym last) tt;
+  reached =
+      subst (λ o. IfSome o (Has [])) (sym last) tt;
+  none = λ e. refl;
+  many = count;
+}
 
 -- ---- rows that can't be counted
 
 -- the last one's first column is no whole number
-pub not_whole : (rows : List Row) (row : Row) (ids : List ℤ) → ((n : ℤ) → column row 0 ≡ Int n → ⊥) → map (λ r. column r 0) (rows ++ row ∷ []) ≡ map Int ids → ⊥
+pub not_whole : (rows : List Row) (row : Row) (ids : List ℤ) → ((n : ℤ) → column row 0 ≡ Int n → ⊥)
+    → map (λ r. column r 0) (rows ++ row ∷ []) ≡ map Int ids → ⊥
 not_whole [] row [] none are = search rules
 not_whole [] row (i ∷ []) none are = none i cc
 not_whole [] row (i ∷ j ∷ ids) none are = search rules
 not_whole (r ∷ rows) row [] none are = search rules
 not_whole (r ∷ rows) row (i ∷ ids) none are = not_whole rows row ids none cc
 
-last_has : (rows : List Row) (row : Row) (id : ℤ) (ids : List ℤ) → column row 0 ≡ Int id → map (λ r. column r 0) (rows ++ row ∷ []) ≡ map Int ids → Has ids id
+last_has : (rows : List Row) (row : Row) (id : ℤ) (ids : List ℤ) → column row 0 ≡ Int id
+    → map (λ r. column r 0) (rows ++ row ∷ []) ≡ map Int ids → Has ids id
 last_has [] row id [] is are = absurd (search rules)
 last_has [] row id (i ∷ ids) is are = inl cc
 last_has (r ∷ rows) row id [] is are = absurd (search rules)
 last_has (r ∷ rows) row id (i ∷ ids) is are = inr (last_has rows row id ids is cc)
 
 -- the last one's is above those before it, where they rise
-above_before : (rows : List Row) (row : Row) (before : List ℤ) (ids : List ℤ) (last id : ℤ) → map (λ r. column r 0) rows ≡ map Int before → map (λ r. column r 0) (rows ++ row ∷ []) ≡ map Int ids
+above_before : (rows : List Row) (row : Row) (before : List ℤ) (ids : List ℤ) (last id : ℤ)
+    → map (λ r. column r 0) rows ≡ map Int before
+    → map (λ r. column r 0) (rows ++ row ∷ []) ≡ map Int ids
     → IsAscending (λ a b. a <ℤ b) ids → column row 0 ≡ Int id → Has before last → last <ℤ id
 above_before [] row [] ids last id were are rising is has = absurd has
 above_before [] row (b ∷ before) ids last id were are rising is has = absurd (search rules)
 above_before (r ∷ rows) row [] ids last id were are rising is has = absurd has
 above_before (r ∷ rows) row (b ∷ before) [] last id were are rising is has = absurd (search rules)
 above_before (r ∷ rows) row (b ∷ before) (i ∷ ids) last id were are rising is (inl e) =
-    let same : i ≡ last = cc in subst (λ n. n <ℤ id) same (all_has (λ n. i <ℤ n) ids id rising.0 (last_has rows row id ids is cc))
-above_before (r ∷ rows) row (b ∷ before) (i ∷ ids) last id were are rising is (inr has) = above_before rows row before ids last id (cc) (cc) rising.1 is has
+    let same : i ≡ last = cc in subst (λ n. n <ℤ id) same
+    (all_has (λ n. i <ℤ n) ids id rising.0 (last_has rows row id ids is cc))
+above_before (r ∷ rows) row (b ∷ before) (i ∷ ids) last id were are rising is (inr has) =
+    above_before rows row before ids last id (cc) (cc) rising.1 is has
 
-pub not_above : (rows : List Row) (row : Row) (before : Ids) (last id : ℤ) (ids : List ℤ) → HasRisen rows before → before.last ≡ Some last → column row 0 ≡ Int id → id ≤ℤ last → AreRising (rows ++ row ∷ []) ids → ⊥
+pub not_above : (rows : List Row) (row : Row) (before : Ids) (last id : ℤ) (ids : List ℤ)
+    → HasRisen rows before → before.last ≡ Some last → column row 0 ≡ Int id → id ≤ℤ last
+    → AreRising (rows ++ row ∷ []) ids → ⊥
 not_above rows row before last id ids w is was reached rising =
     let has = subst (λ o. IfSome o (Has w.numbers)) is w.reached in
-    let up = above_before rows row w.numbers ids last id w.rise.are rising.are rising.rising was has in omega (arith, ints, up, reached)
+    let up = above_before rows row w.numbers ids last id w.rise.are rising.are rising.rising was has
+    in omega (arith, ints, up, reached)
 
-pub reached_by : (rows : List Row) (row : Row) (before : Ids) (id : ℤ) → HasRisen rows before → column row 0 ≡ Int id → IsSomeAnd before.last (λ last. id ≤ℤ last) → AreUncountable (rows ++ row ∷ [])
-reached_by rows row before id w is reached = inl (λ ids rising. go before.last refl reached ids rising)
+pub reached_by : (rows : List Row) (row : Row) (before : Ids) (id : ℤ) → HasRisen rows before
+    → column row 0 ≡ Int id → IsSomeAnd before.last (λ last. id ≤ℤ last)
+    → AreUncountable (rows ++ row ∷ [])
+reached_by rows row before id w is reached =
+    inl (λ ids rising. go before.last refl reached ids rising)
   where
-    go : (o : Option ℤ) → before.last ≡ o → IsSomeAnd o (λ last. id ≤ℤ last) → (ids : List ℤ) → AreRising (rows ++ row ∷ []) ids → ⊥
+    go : (o : Option ℤ) → before.last ≡ o → IsSomeAnd o (λ last. id ≤ℤ last) → (ids : List ℤ)
+        → AreRising (rows ++ row ∷ []) ids → ⊥
     go (Some last) was r ids rising = not_above rows row before last id ids w was is r rising
     go None was r ids rising = absurd r
 
-pub too_many : (rows : List Row) (row : Row) (ids : Ids) → HasRisen rows ids → 2 ^ 64 - 1 ≤ ids.count → 2 ^ 64 - 1 ≤ length (rows ++ row ∷ [])
+pub too_many : (rows : List Row) (row : Row) (ids : Ids) → HasRisen rows ids
+    → 2 ^ 64 - 1 ≤ ids.count → 2 ^ 64 - 1 ≤ length (rows ++ row ∷ [])
 too_many rows row ids w many = omega (arith, w.many, many, length-append rows (row ∷ []))

@@ -19,14 +19,23 @@ module _ {X : Type 0} (cmp : X → X → Ordering) (total : IsTotalOrder cmp) wh
       go Equal e = e
       go Greater e = refl
 
-  pub all-permuted : (P : X → Type 0) (xs ys : List X) → IsPermutation xs ys → AllByRecursion P xs → AllByRecursion P ys
+  pub all-permuted : (P : X → Type 0) (xs ys : List X) → IsPermutation xs ys → AllByRecursion P xs
+      → AllByRecursion P ys
   all-permuted P = along_permutation (λ xs ys. AllByRecursion P xs → AllByRecursion P ys)
-      (λ xs h. h) (λ x xs ys more h. (h.0, more h.1)) (λ x y xs h. (h.1.0, (h.0, h.1.1))) (λ xs ys zs p q h. q (p h))
+      (λ xs h. h) (λ x xs ys more h. (h.0, more h.1)) (λ x y xs h. (h.1.0, (h.0, h.1.1)))
+      (λ xs ys zs p q h. q (p h))
 
   -- no two of a list tie, in whatever order they stand
   pub apart-permuted : (xs ys : List X) → IsPermutation xs ys → IsApart cmp xs → IsApart cmp ys
-  apart-permuted xs ys same = (along_permutation (λ us vs. IsPermutation us vs × (IsApart cmp us → IsApart cmp vs))
+  apart-permuted xs ys same = (along_permutation
+      (λ us vs. IsPermutation us vs × (IsApart cmp us → IsApart cmp vs))
       (λ us. (IsPermutation-refl us, λ h. h))
-      (λ x us vs more. (IsPermutation-cons x us vs more.0, λ h. (all-permuted (λ b. is_eq (cmp x b) ≡ false) us vs more.0 h.0, more.1 h.1)))
-      (λ x y us. (IsPermutation-middle (x ∷ []) y us, λ h. ((either_way x y h.0.0, h.1.0), (h.0.1, h.1.1))))
+      (λ x us vs more. (
+        IsPermutation-cons x us vs more.0,
+        λ h. (all-permuted (λ b. is_eq (cmp x b) ≡ false) us vs more.0 h.0, more.1 h.1),
+      ))
+      (λ x y us. (
+        IsPermutation-middle (x ∷ []) y us,
+        λ h. ((either_way x y h.0.0, h.1.0), (h.0.1, h.1.1)),
+      ))
       (λ us vs ws p q. (IsPermutation-trans us vs ws p.0 q.0, λ h. q.1 (p.1 h))) xs ys same).1

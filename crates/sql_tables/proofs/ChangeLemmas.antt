@@ -38,49 +38,77 @@ use Rattle.sql_tables.proofs.WriteLemmas.{went, same_value, shuffled_in, not_tru
 keyed_total : IsTotalOrder (on rowid value_cmp)
 keyed_total = on_total rowid value_cmp_total
 
-one_more : (rows : List Row) (r : Row) → is_taken rows r ≡ false → is_int (rowid r) ≡ true → AreNumbered rows → AreNumbered (put_row r rows)
+one_more : (rows : List Row) (r : Row) → is_taken rows r ≡ false → is_int (rowid r) ≡ true
+    → AreNumbered rows → AreNumbered (put_row r rows)
 one_more rows r free int was =
     let same = shuffled_in r rows free in
     record {
-      apart = apart-permuted (on rowid value_cmp) keyed_total (r ∷ rows) (put_row r rows) same (away rows (none_from_any (λ x. is_eq (value_cmp (rowid x) (rowid r))) rows free), was.apart);
-      keyed = all-permuted (on rowid value_cmp) keyed_total (λ x. is_int (rowid x) ≡ true) (r ∷ rows) (put_row r rows) same (int, was.keyed);
+      apart = apart-permuted (on rowid value_cmp) keyed_total (r ∷ rows) (put_row r rows) same (
+        away rows (none_from_any (λ x. is_eq (value_cmp (rowid x) (rowid r))) rows free),
+        was.apart,
+      );
+      keyed = all-permuted (on rowid value_cmp) keyed_total (λ x. is_int (rowid x) ≡ true)
+          (r ∷ rows) (put_row r rows) same (int, was.keyed);
     }
   where
-    away : (xs : List Row) → AllByRecursion (λ x. is_eq (value_cmp (rowid x) (rowid r)) ≡ false) xs → AllByRecursion (λ x. is_eq (value_cmp (rowid r) (rowid x)) ≡ false) xs
+    away : (xs : List Row) → AllByRecursion (λ x. is_eq (value_cmp (rowid x) (rowid r)) ≡ false) xs
+        → AllByRecursion (λ x. is_eq (value_cmp (rowid r) (rowid x)) ≡ false) xs
     away [] all = tt
-    away (x ∷ xs) all = (either_way value_cmp value_cmp_total (rowid x) (rowid r) all.0, away xs all.1)
+    away (x ∷ xs) all = (
+      either_way value_cmp value_cmp_total (rowid x) (rowid r) all.0,
+      away xs all.1,
+    )
 
-pub all_more : (rows news : List Row) → are_fresh rows news ≡ true → have_rowids news ≡ true → AreNumbered rows → AreNumbered (put_all rows news)
+pub all_more : (rows news : List Row) → are_fresh rows news ≡ true → have_rowids news ≡ true
+    → AreNumbered rows → AreNumbered (put_all rows news)
 all_more rows [] fresh keyed was = was
 all_more rows (r ∷ news) fresh keyed was =
     let both = and_parts (not (is_taken rows r)) (are_fresh (put_row r rows) news) fresh in
     let ints = and_parts (is_int (rowid r)) (have_rowids news) keyed in
-    all_more (put_row r rows) news both.1 ints.1 (one_more rows r (not_true (is_taken rows r) both.0) ints.0 was)
+    all_more (put_row r rows) news both.1 ints.1 (one_more rows r
+    (not_true (is_taken rows r) both.0) ints.0 was)
 
 -- all that is put in stands beside what was there
-pub put_beside : (rows news : List Row) → are_fresh rows news ≡ true → IsPermutation (news ++ rows) (put_all rows news)
+pub put_beside : (rows news : List Row) → are_fresh rows news ≡ true
+    → IsPermutation (news ++ rows) (put_all rows news)
 put_beside rows [] fresh = IsPermutation-refl rows
 put_beside rows (r ∷ news) fresh =
     let both = and_parts (not (is_taken rows r)) (are_fresh (put_row r rows) news) fresh in
-    IsPermutation-trans (r ∷ (news ++ rows)) (news ++ (r ∷ rows)) (put_all (put_row r rows) news) (IsPermutation-sym (news ++ (r ∷ rows)) (r ∷ (news ++ rows)) (IsPermutation-middle news r rows))
-    (IsPermutation-trans (news ++ (r ∷ rows)) (news ++ put_row r rows) (put_all (put_row r rows) news)
-    (IsPermutation-append news news (r ∷ rows) (put_row r rows) (IsPermutation-refl news) (shuffled_in r rows (not_true (is_taken rows r) both.0))) (put_beside (put_row r rows) news both.1))
+    IsPermutation-trans (r ∷ (news ++ rows)) (news ++ (r ∷ rows)) (put_all (put_row r rows) news)
+    (IsPermutation-sym (news ++ (r ∷ rows)) (r ∷ (news ++ rows))
+    (IsPermutation-middle news r rows))
+    (IsPermutation-trans (news ++ (r ∷ rows)) (news ++ put_row r rows)
+    (put_all (put_row r rows) news)
+    (IsPermutation-append news news (r ∷ rows) (put_row r rows) (IsPermutation-refl news)
+    (shuffled_in r rows (not_true (is_taken rows r) both.0)))
+    (put_beside (put_row r rows) news both.1))
 
 -- what an insert of these rows leaves in its table
-pub put_in : (table : Table) (db next : Trees) (sources : List Row) → Applies archive_schema Enforced db (edit_of db table [] Chosen 0 sources) next
-    → IsPermutation (numbered Chosen (db table.tree) (map (λ s. cast_row table (drop 0 s)) sources) ++ db table.tree) (next table.tree) × (AreNumbered (db table.tree) → AreNumbered (next table.tree))
+pub put_in : (table : Table) (db next : Trees) (sources : List Row)
+    → Applies archive_schema Enforced db (edit_of db table [] Chosen 0 sources) next
+    → IsPermutation (numbered Chosen (db table.tree) (map (λ s. cast_row table (drop 0 s)) sources)
+    ++ db table.tree) (next table.tree) × (AreNumbered (db table.tree)
+    → AreNumbered (next table.tree))
 put_in table db next sources applied =
     let news = numbered Chosen (db table.tree) (map (λ s. cast_row table (drop 0 s)) sources) in (
-      subst (IsPermutation (news ++ db table.tree)) (sym applied.rows) (put_beside (db table.tree) news applied.fresh),
-      λ was. subst AreNumbered (sym applied.rows) (all_more (db table.tree) news applied.fresh applied.keyed was),
+      subst (IsPermutation (news ++ db table.tree)) (sym applied.rows)
+          (put_beside (db table.tree) news applied.fresh),
+      λ was. subst AreNumbered (sym applied.rows) (all_more
+          (db table.tree) news applied.fresh applied.keyed was),
     )
 
 -- the rowids that are chosen don't show in the other columns
-pub unnumbered : (columns : Row → Row) → ((v : Value) (r : Row) → columns (v ∷ drop 1 r) ≡ columns r) → (rows news : List Row) → map columns (numbered Chosen rows news) ≡ map columns news
+pub unnumbered : (columns : Row → Row) → ((v : Value) (r : Row)
+    → columns (v ∷ drop 1 r) ≡ columns r) → (rows news : List Row)
+    → map columns (numbered Chosen rows news) ≡ map columns news
 unnumbered columns apart rows [] = refl
-unnumbered columns apart rows (r ∷ news) = ap₂ ◌∷◌ (go (is_chosen Chosen (rowid r))) (unnumbered columns apart (put_row (with_rowid Chosen rows r) rows) news)
+unnumbered columns apart rows (r ∷ news) =
+    ap₂ ◌∷◌ (go (is_chosen Chosen (rowid r))) (unnumbered columns apart
+    (put_row (with_rowid Chosen rows r) rows) news)
   where
-    go : (b : Bool) → columns (cond b (Int (Rattle.sqlite_rules.specs.Edit.at_least Chosen (Rattle.sqlite_rules.specs.Edit.next_rowid rows)) ∷ drop 1 r) r) ≡ columns r
+    go : (b : Bool) → columns (cond b
+        (Int (Rattle.sqlite_rules.specs.Edit.at_least Chosen
+        (Rattle.sqlite_rules.specs.Edit.next_rowid rows)) ∷ drop 1 r) r) ≡ columns r
     go true = apart _ r
     go false = refl
 
@@ -90,9 +118,11 @@ as_given rows [] = refl
 as_given rows (r ∷ news) = ap (λ l. r ∷ l) (as_given (put_row r rows) news)
 
 -- rowids that are given stay
-pub given : (rows news : List Row) → AllByRecursion (λ r. is_null (rowid r) ≡ false) news → numbered Chosen rows news ≡ news
+pub given : (rows news : List Row) → AllByRecursion (λ r. is_null (rowid r) ≡ false) news
+    → numbered Chosen rows news ≡ news
 given rows [] all = refl
-given rows (r ∷ news) all = ap₂ ◌∷◌ one (ap (λ l. numbered Chosen l news) (ap (λ x. put_row x rows) one) ∙ given (put_row r rows) news all.1)
+given rows (r ∷ news) all = ap₂ ◌∷◌ one (ap (λ l. numbered Chosen l news)
+    (ap (λ x. put_row x rows) one) ∙ given (put_row r rows) news all.1)
   where
     one : with_rowid Chosen rows r ≡ r
     one = rw all.0 refl
@@ -100,82 +130,138 @@ given rows (r ∷ news) all = ap₂ ◌∷◌ one (ap (λ l. numbered Chosen l n
 -- ---- what statements do to the trees
 
 -- rows were put into a table
-pub record PutsIn (table : Table) (from : Source) (params : Row) (db : Trees) (after : Database) : Type 0 where
+pub record PutsIn (table : Table) (from : Source) (params : Row) (db : Trees) (after : Database) :
+    Type 0 where
   pub rows : List Row
-  pub are : IsSource (record { schema = archive_schema; trees = db }) (stamped table params) from rows
+  pub are : IsSource (record { schema = archive_schema; trees = db })
+      (stamped table params) from rows
   pub schema : after.schema ≡ archive_schema
   pub applied : Applies archive_schema Enforced db (edit_of db table [] Chosen 0 rows) after.trees
 
 -- rows were taken out of a table
-pub record TakesOut (table : Table) (q : Program) (params : Row) (db : Trees) (after : Database) : Type 0 where
+pub record TakesOut (table : Table) (q : Program) (params : Row) (db : Trees) (after : Database) :
+    Type 0 where
   pub rows : List Row
   pub are : Answers (record { schema = archive_schema; trees = db }) q params rows
   pub schema : after.schema ≡ archive_schema
-  pub applied : Applies archive_schema Enforced db (edit_of db table (ids_of rows) Given 0 []) after.trees
+  pub applied : Applies archive_schema Enforced db
+      (edit_of db table (ids_of rows) Given 0 []) after.trees
 
 -- rows of a table were put in for others, and counted
-pub record Sets (table : Table) (q : Program) (params : Row) (db : Trees) (tally : Tally) (after : Database) : Type 0 where
+pub record Sets (table : Table) (q : Program) (params : Row) (db : Trees) (tally : Tally)
+    (after : Database) : Type 0 where
   pub rows : List Row
   pub are : Answers (record { schema = archive_schema; trees = db }) q params rows
   pub schema : after.schema ≡ archive_schema
-  pub applied : Applies archive_schema Enforced db (edit_of db table (ids_of rows) Given 1 rows) after.trees
+  pub applied : Applies archive_schema Enforced db
+      (edit_of db table (ids_of rows) Given 1 rows) after.trees
   pub counted : tally.rows ≡ Some (length (edit_of db table (ids_of rows) Given 1 rows).news)
 
-module _ (old : State) (tally : Tally) (after : Database) (text : List ℕ) (params : Row) (has : old.now.schema ≡ archive_schema) where
-  pub into_currents : (from : Source) → Does old.step_limit (mode_of old) params old.now text None (Insert 2 from) (Ok (tally, after)) → PutsIn third_table from params old.now.trees after
+module _ (old : State) (tally : Tally) (after : Database) (text : List ℕ) (params : Row)
+    (has : old.now.schema ≡ archive_schema) where
+  pub into_currents : (from : Source)
+      → Does old.step_limit (mode_of old) params old.now text None (Insert 2 from)
+      (Ok (tally, after)) → PutsIn third_table from params old.now.trees after
   into_currents from changed =
       let db = old.now.trees in
-      let done = went (subst (λ s. Does old.step_limit (mode_of old) params (record old.now { schema = s }) text None (Insert 2 from) (Ok (tally, after))) has changed) in
+      let done = went (subst (λ s.
+      Does old.step_limit (mode_of old) params (record old.now { schema = s }) text None
+      (Insert 2 from) (Ok (tally, after))) has changed) in
       let now = ap (λ (p : Tally × Database). p.1) (same_value (went (went done.2).2).2) in
       let given_rows = went done.1 in
       let written = went (went given_rows.2).2 in
       let counted_rows = went written.2 in
-      let trees : done.0.trees ≡ written.0 = ap (λ (it : Written). it.trees) (same_value counted_rows.2) ∙ same_value counted_rows.1 in
-      let applied = one_step archive_schema _ db written.0 (edit_of db third_table [] Chosen 0 given_rows.0) refl written.1 in
+      let trees : done.0.trees ≡ written.0 =
+      ap (λ (it : Written). it.trees) (same_value counted_rows.2) ∙ same_value counted_rows.1 in
+      let applied = one_step archive_schema _ db written.0
+      (edit_of db third_table [] Chosen 0 given_rows.0) refl written.1 in
       let same : after.trees ≡ written.0 = ap (λ (d : Database). d.trees) now ∙ trees in
-      record { rows = given_rows.0; are = given_rows.1; schema = ap (λ (d : Database). d.schema) now; applied = subst (Applies archive_schema Enforced db (edit_of db third_table [] Chosen 0 given_rows.0)) (sym same) applied }
+      record {
+        rows = given_rows.0;
+        are = given_rows.1;
+        schema =
+            ap (λ (d : Database). d.schema) now;
+        applied =
+            subst (Applies archive_schema Enforced db
+            (edit_of db third_table [] Chosen 0 given_rows.0)) (sym same) applied;
+      }
 
-  pub from_currents : (q : Program) → Does old.step_limit (mode_of old) params old.now text None (Delete 2 q) (Ok (tally, after)) → TakesOut third_table q params old.now.trees after
+  pub from_currents : (q : Program)
+      → Does old.step_limit (mode_of old) params old.now text None (Delete 2 q) (Ok (tally, after))
+      → TakesOut third_table q params old.now.trees after
   from_currents q changed =
       let db = old.now.trees in
-      let done = went (subst (λ s. Does old.step_limit (mode_of old) params (record old.now { schema = s }) text None (Delete 2 q) (Ok (tally, after))) has changed) in
+      let done = went (subst (λ s.
+      Does old.step_limit (mode_of old) params (record old.now { schema = s }) text None
+      (Delete 2 q) (Ok (tally, after))) has changed) in
       let now = ap (λ (p : Tally × Database). p.1) (same_value (went (went done.2).2).2) in
       let found = went done.1 in
       let written = went found.2 in
-      let trees : done.0.trees ≡ written.0 = ap (λ (it : Written). it.trees) (same_value written.2) in
-      let applied = one_step archive_schema _ db written.0 (edit_of db third_table (ids_of found.0) Given 0 []) refl written.1 in
+      let trees : done.0.trees ≡ written.0 =
+      ap (λ (it : Written). it.trees) (same_value written.2) in
+      let applied = one_step archive_schema _ db written.0
+      (edit_of db third_table (ids_of found.0) Given 0 []) refl written.1 in
       let same : after.trees ≡ written.0 = ap (λ (d : Database). d.trees) now ∙ trees in
-      record { rows = found.0; are = found.1; schema = ap (λ (d : Database). d.schema) now; applied = subst (Applies archive_schema Enforced db (edit_of db third_table (ids_of found.0) Given 0 [])) (sym same) applied }
+      record {
+        rows = found.0;
+        are = found.1;
+        schema =
+            ap (λ (d : Database). d.schema) now;
+        applied =
+            subst (Applies archive_schema Enforced db
+            (edit_of db third_table (ids_of found.0) Given 0 [])) (sym same) applied;
+      }
 
-  pub into_vectors : (from : Source) → Does old.step_limit (mode_of old) params old.now text None (Insert 3 from) (Ok (tally, after)) → PutsIn fourth_table from params old.now.trees after
+  pub into_vectors : (from : Source)
+      → Does old.step_limit (mode_of old) params old.now text None (Insert 3 from)
+      (Ok (tally, after)) → PutsIn fourth_table from params old.now.trees after
   into_vectors from changed =
       let db = old.now.trees in
-      let done = went (subst (λ s. Does old.step_limit (mode_of old) params (record old.now { schema = s }) text None (Insert 3 from) (Ok (tally, after))) has changed) in
+      let done = went (subst (λ s.
+      Does old.step_limit (mode_of old) params (record old.now { schema = s }) text None
+      (Insert 3 from) (Ok (tally, after))) has changed) in
       let now = ap (λ (p : Tally × Database). p.1) (same_value (went (went done.2).2).2) in
       let given_rows = went done.1 in
       let written = went (went given_rows.2).2 in
       let counted_rows = went written.2 in
-      let trees : done.0.trees ≡ written.0 = ap (λ (it : Written). it.trees) (same_value counted_rows.2) ∙ same_value counted_rows.1 in
-      let applied = one_step archive_schema _ db written.0 (edit_of db fourth_table [] Chosen 0 given_rows.0) refl written.1 in
+      let trees : done.0.trees ≡ written.0 =
+      ap (λ (it : Written). it.trees) (same_value counted_rows.2) ∙ same_value counted_rows.1 in
+      let applied = one_step archive_schema _ db written.0
+      (edit_of db fourth_table [] Chosen 0 given_rows.0) refl written.1 in
       let same : after.trees ≡ written.0 = ap (λ (d : Database). d.trees) now ∙ trees in
-      record { rows = given_rows.0; are = given_rows.1; schema = ap (λ (d : Database). d.schema) now; applied = subst (Applies archive_schema Enforced db (edit_of db fourth_table [] Chosen 0 given_rows.0)) (sym same) applied }
+      record {
+        rows = given_rows.0;
+        are = given_rows.1;
+        schema =
+            ap (λ (d : Database). d.schema) now;
+        applied =
+            subst (Applies archive_schema Enforced db
+            (edit_of db fourth_table [] Chosen 0 given_rows.0)) (sym same) applied;
+      }
 
-  pub set_vectors : (q : Program) → Does old.step_limit (mode_of old) params old.now text None (Update 3 q) (Ok (tally, after)) → Sets fourth_table q params old.now.trees tally after
+  pub set_vectors : (q : Program) → Does old.step_limit (mode_of old) params old.now text None
+      (Update 3 q) (Ok (tally, after)) → Sets fourth_table q params old.now.trees tally after
   set_vectors q changed =
       let db = old.now.trees in
-      let done = went (subst (λ s. Does old.step_limit (mode_of old) params (record old.now { schema = s }) text None (Update 3 q) (Ok (tally, after))) has changed) in
+      let done = went (subst (λ s.
+      Does old.step_limit (mode_of old) params (record old.now { schema = s }) text None
+      (Update 3 q) (Ok (tally, after))) has changed) in
       let both = same_value (went (went done.2).2).2 in
       let now = ap (λ (p : Tally × Database). p.1) both in
       let found = went done.1 in
       let written = went found.2 in
-      let trees : done.0.trees ≡ written.0 = ap (λ (it : Written). it.trees) (same_value written.2) in
-      let rows : done.0.rows ≡ (edit_of db fourth_table (ids_of found.0) Given 1 found.0).news = ap (λ (it : Written). it.rows) (same_value written.2) in
-      let applied = one_step archive_schema _ db written.0 (edit_of db fourth_table (ids_of found.0) Given 1 found.0) refl written.1 in
+      let trees : done.0.trees ≡ written.0 =
+      ap (λ (it : Written). it.trees) (same_value written.2) in
+      let rows : done.0.rows ≡ (edit_of db fourth_table (ids_of found.0) Given 1 found.0).news =
+      ap (λ (it : Written). it.rows) (same_value written.2) in
+      let applied = one_step archive_schema _ db written.0
+      (edit_of db fourth_table (ids_of found.0) Given 1 found.0) refl written.1 in
       let same : after.trees ≡ written.0 = ap (λ (d : Database). d.trees) now ∙ trees in
       record {
         rows = found.0;
         are = found.1;
         schema = ap (λ (d : Database). d.schema) now;
-        applied = subst (Applies archive_schema Enforced db (edit_of db fourth_table (ids_of found.0) Given 1 found.0)) (sym same) applied;
+        applied = subst (Applies archive_schema Enforced db
+            (edit_of db fourth_table (ids_of found.0) Given 1 found.0)) (sym same) applied;
         counted = ap (λ (p : Tally × Database). p.0.rows) both ∙ ap (λ l. Some (length l)) rows;
       }

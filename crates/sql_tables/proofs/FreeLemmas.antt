@@ -27,7 +27,13 @@ use Rattle.sql_tables.proofs.AgreeLemmas.{listing, listed, none_first, none_of, 
 abbrev moment_tests : List Term
 moment_tests = eq (col 1 4) (col 0 0) ∷ eq (col 1 5) (col 0 1) ∷ eq (col 1 6) (col 0 2) ∷ []
 
-some_at_is : (command_of (understood archive_schema some_at_text) ≡ Select (record { lets = []; body = listing (inner 1 end) moment_tests (col 1 1 ∷ []) [] first_only }) (codes "origin" ∷ [])) × (reads_listing archive_schema some_at_text ≡ false)
+some_at_is : (command_of (understood archive_schema some_at_text)
+    ≡ Select (record {
+      lets = [];
+      body =
+          listing (inner 1 end) moment_tests (col 1 1 ∷ []) [] first_only;
+    }) (codes "origin" ∷ []))
+    × (reads_listing archive_schema some_at_text ≡ false)
 unfolding understood everything
 some_at_is = (refl, refl)
 
@@ -36,22 +42,34 @@ unfolding understood everything
 some_at_plain = (refl, refl)
 
 -- where the query shows no row, none stands there
-pub none_at : (old new : State) (node : List ℕ) (time pico : ℤ) (rows : List Row) → old.now.schema ≡ archive_schema → Shown some_at_text (Blob node ∷ Int time ∷ Int pico ∷ []) old new rows → rows ≡ [] → HasNoneOf node time pico (cells (old.now.trees 1))
+pub none_at : (old new : State) (node : List ℕ) (time pico : ℤ) (rows : List Row)
+    → old.now.schema ≡ archive_schema
+    → Shown some_at_text (Blob node ∷ Int time ∷ Int pico ∷ []) old new rows → rows ≡ []
+    → HasNoneOf node time pico (cells (old.now.trees 1))
 none_at old new node time pico rows has h none =
     let params = Blob node ∷ Int time ∷ Int pico ∷ [] in
     let db = old.now.trees in
-    let got = reads_as some_at_text params old new archive_schema has _ some_at_is.0 some_at_plain some_at_is.1 rows h in
+    let got = reads_as some_at_text params old new archive_schema has _ some_at_is.0 some_at_plain
+    some_at_is.1 rows h in
     let keep = λ (r : Row). list_all (holds (params ∷ r ∷ [])) moment_tests in
-    let all = listed (inner 1 end) moment_tests (col 1 1 ∷ []) [] first_only params (overlay db []) (db 1) keep (λ r. params ∷ r ∷ []) refl rows (got.answer Null) in
-    let off = none_passes keep (db 1) (none_of (λ r. column r 1 ∷ []) (filter keep (db 1)) (subst (IsPermutation (map (λ r. column r 1 ∷ []) (filter keep (db 1)))) (none_first all.0 (sym all.2 ∙ none)) all.1)) in
+    let all = listed (inner 1 end) moment_tests (col 1 1 ∷ []) [] first_only params (overlay db [])
+    (db 1) keep (λ r. params ∷ r ∷ []) refl rows (got.answer Null) in
+    let off = none_passes keep (db 1) (none_of (λ r. column r 1 ∷ []) (filter keep (db 1))
+    (subst (IsPermutation (map (λ r. column r 1 ∷ []) (filter keep (db 1))))
+    (none_first all.0 (sym all.2 ∙ none)) all.1)) in
     all_map (λ c. is_of node time pico c ≡ false) columns_of (db 1)
-    (all_weaker (λ r. keep r ≡ false) (λ r. is_of node time pico (columns_of r) ≡ false) (λ r e. sym (three_true (same (column r 4) (Blob node)) (same (column r 5) (Int time)) (same (column r 6) (Int pico))) ∙ e) (db 1) off)
+    (all_weaker (λ r. keep r ≡ false) (λ r. is_of node time pico (columns_of r) ≡ false)
+    (λ r e. sym (three_true (same (column r 4) (Blob node)) (same (column r 5) (Int time))
+    (same (column r 6) (Int pico))) ∙ e) (db 1) off)
 
 -- where no record stands, no row of currents2 does
-pub free_by : (node : List ℕ) (time pico : ℤ) (db : Trees) → AreKept db → HasNoneOf node time pico (cells (db 1)) → HasNoRowAt node time pico db
+pub free_by : (node : List ℕ) (time pico : ℤ) (db : Trees) → AreKept db
+    → HasNoneOf node time pico (cells (db 1)) → HasNoRowAt node time pico db
 free_by node time pico db kept none = record {
   records = none;
-  currents = recursion_from_All P (map current_columns (db 4)) (All-permutation P (currents_of (cells (db 1))) (map current_columns (db 4)) kept.currents (All-from_recursion P (currents_of (cells (db 1))) made));
+  currents = recursion_from_All P (map current_columns (db 4))
+      (All-permutation P (currents_of (cells (db 1))) (map current_columns (db 4)) kept.currents
+      (All-from_recursion P (currents_of (cells (db 1))) made));
 }
   where
     P : Row → Type 0
@@ -61,4 +79,5 @@ free_by node time pico db kept none = record {
     top r = not (list_any (is_later r) (cells (db 1)))
 
     made : AllByRecursion P (currents_of (cells (db 1)))
-    made = all_map P (current_of (cells (db 1))) (filter top (cells (db 1))) (all-filter (λ r. is_of node time pico r ≡ false) top (cells (db 1)) none)
+    made = all_map P (current_of (cells (db 1))) (filter top (cells (db 1)))
+        (all-filter (λ r. is_of node time pico r ≡ false) top (cells (db 1)) none)

@@ -51,16 +51,28 @@ use Rattle.sql_tables.proofs.MadeLemmas.{asking, asked_all, cast_live, currents_
 -- ---- rows are taken out
 
 -- what is left of a table without the rows that pass
-removed : (t : ℕ) (tests project : List Term) (params : Row) (db : Trees) (keep : Row → Bool) → ((r : Row) → list_all (holds (params ∷ r ∷ [])) tests ≡ keep r) → ((r : Row) → rowid (eval_all project (params ∷ r ∷ [])) ≡ rowid r) → AreNumbered (db t)
-    → (rows : List Row) → IsAnswer (asking (inner t end) tests project []) db params rows → without_all (db t) (ids_of rows) ≡ filter (λ r. not (keep r)) (db t)
+removed : (t : ℕ) (tests project : List Term) (params : Row) (db : Trees) (keep : Row → Bool)
+    → ((r : Row) → list_all (holds (params ∷ r ∷ [])) tests ≡ keep r)
+    → ((r : Row) → rowid (eval_all project (params ∷ r ∷ [])) ≡ rowid r) → AreNumbered (db t)
+    → (rows : List Row) → IsAnswer (asking (inner t end) tests project []) db params rows
+    → without_all (db t) (ids_of rows) ≡ filter (λ r. not (keep r)) (db t)
 removed t tests project params db keep alike own was rows a =
     let passes = λ (r : Row). list_all (holds (params ∷ r ∷ [])) tests in
     let made = λ (r : Row). eval_all project (params ∷ r ∷ []) in
-    let asked : IsPermutation (map made (filter passes (db t))) rows = asked_all (inner t end) tests project [] params db (db t) passes (λ r. params ∷ r ∷ []) refl rows a in
-    let same_ids : map (λ r. id_in (rowid r)) (map made (filter passes (db t))) ≡ ids_where passes (db t) =
-    map-map (λ r. id_in (rowid r)) made (filter passes (db t)) ∙ map_same (λ r. id_in (rowid (made r))) (λ r. id_in (rowid r)) (λ r. ap id_in (own r)) (filter passes (db t)) in
-    let ids : IsPermutation (ids_where passes (db t)) (ids_of rows) = subst (λ l. IsPermutation l (ids_of rows)) same_ids (IsPermutation-map (λ r. id_in (rowid r)) _ _ asked) in
-    same_taken (ids_where passes (db t)) (ids_of rows) (db t) ids ∙ left_without passes (db t) was.apart was.keyed ∙ filter_same (λ r. not (passes r)) (λ r. not (keep r)) (λ r. ap not (alike r)) (db t)
+    let asked : IsPermutation (map made (filter passes (db t))) rows =
+    asked_all (inner t end) tests project [] params db (db t) passes
+    (λ r. params ∷ r ∷ []) refl rows a in
+    let same_ids : map (λ r. id_in (rowid r)) (map made (filter passes (db t)))
+    ≡ ids_where passes (db t) =
+    map-map (λ r. id_in (rowid r)) made (filter passes (db t))
+    ∙ map_same (λ r. id_in (rowid (made r))) (λ r. id_in (rowid r)) (λ r. ap id_in (own r))
+    (filter passes (db t)) in
+    let ids : IsPermutation (ids_where passes (db t)) (ids_of rows) =
+    subst (λ l. IsPermutation l (ids_of rows)) same_ids
+    (IsPermutation-map (λ r. id_in (rowid r)) _ _ asked) in
+    same_taken (ids_where passes (db t)) (ids_of rows) (db t) ids
+    ∙ left_without passes (db t) was.apart was.keyed
+    ∙ filter_same (λ r. not (passes r)) (λ r. not (keep r)) (λ r. ap not (alike r)) (db t)
 
 pub three_true : (a b c : Bool) → (a && (b && (c && true))) ≡ (a && (b && c))
 three_true a b c = ap (λ x. a && (b && x)) (one_true c)
@@ -79,20 +91,34 @@ drop_current_plain : IsPlain (understood archive_schema drop_current_text)
 unfolding understood everything
 drop_current_plain = (refl, refl)
 
-pub drops_current : (node : List ℕ) (time pico : ℤ) (old new : State) (r : Result ℕ Error) → Making archive_schema old → ExecutesInside 0 drop_current_text (Blob node ∷ Int time ∷ Int pico ∷ []) old new r
-    → OnOk r (Making archive_schema new × (new.committed ≡ old.committed) × DropsCurrent node time pico old.now.trees new.now.trees)
+pub drops_current : (node : List ℕ) (time pico : ℤ) (old new : State) (r : Result ℕ Error)
+    → Making archive_schema old → ExecutesInside 0 drop_current_text
+    (Blob node ∷ Int time ∷ Int pico ∷ []) old new r
+    → OnOk r (Making archive_schema new × (new.committed ≡ old.committed)
+    × DropsCurrent node time pico old.now.trees new.now.trees)
 drops_current node time pico old new (Err e) was h = tt
 drops_current node time pico old new (Ok count) was h =
     let params = Blob node ∷ Int time ∷ Int pico ∷ [] in
-    let w = runs_as drop_current_text params old new archive_schema was.has (Delete 2 drop_current) drop_current_is drop_current_plain count h.0 in
-    let out = from_currents old w.tally new.now (statement_of drop_current_text (understood archive_schema drop_current_text)) params was.has drop_current w.changed in
+    let w = runs_as drop_current_text params old new archive_schema was.has
+    (Delete 2 drop_current) drop_current_is drop_current_plain count h.0 in
+    let out = from_currents old w.tally new.now (statement_of drop_current_text
+    (understood archive_schema drop_current_text)) params was.has drop_current w.changed in
     let others = out.applied.tables in (
       record { inside = h.1.mode; has = out.schema },
       h.1.committed_is,
       record {
-        rest = record { meta = others.0 (apart_by 0 4 refl); records = others.1.0 (apart_by 1 4 refl); vectors = others.1.1.1.0 (apart_by 6 4 refl) };
-        left = λ numbered_rows. out.applied.rows ∙ removed 4 current_tests (col 1 0 ∷ []) params (overlay old.now.trees []) (λ r. is_current_of node time pico (current_columns r))
-            (λ r. three_true (same (column r 1) (Blob node)) (same (column r 2) (Int time)) (same (column r 3) (Int pico))) (λ r. refl) numbered_rows out.rows (out.are.answer Null);
+        rest = record {
+          meta = others.0 (apart_by 0 4 refl);
+          records =
+              others.1.0 (apart_by 1 4 refl);
+          vectors = others.1.1.1.0 (apart_by 6 4 refl);
+        };
+        left = λ numbered_rows. out.applied.rows
+            ∙ removed 4 current_tests (col 1 0 ∷ []) params (overlay old.now.trees [])
+            (λ r. is_current_of node time pico (current_columns r))
+            (λ r. three_true (same (column r 1) (Blob node)) (same (column r 2) (Int time))
+            (same (column r 3) (Int pico))) (λ r. refl) numbered_rows out.rows
+            (out.are.answer Null);
       },
     )
 
@@ -110,12 +136,14 @@ abbrev nine : List Collation
 nine = Binary ∷ Binary ∷ Binary ∷ Binary ∷ Binary ∷ Binary ∷ Binary ∷ Binary ∷ Binary ∷ []
 
 abbrev key_tests : List Term
-key_tests = eq (col 1 4) (col 0 0) ∷ eq (col 1 5) (col 0 1) ∷ eq (col 1 6) (col 0 2) ∷ op1 Not (col 3 0) ∷ []
+key_tests = eq (col 1 4) (col 0 0) ∷ eq (col 1 5) (col 0 1) ∷ eq (col 1 6) (col 0 2)
+    ∷ op1 Not (col 3 0) ∷ []
 
 abbrev add_current : Program
 add_current = record { lets = []; body = asking currents_from key_tests currents_project nine }
 
-add_current_is : command_of (understood archive_schema add_current_text) ≡ Insert 2 (Asks add_current)
+add_current_is : command_of (understood archive_schema add_current_text)
+    ≡ Insert 2 (Asks add_current)
 unfolding understood everything
 add_current_is = refl
 
@@ -124,9 +152,14 @@ unfolding understood everything
 add_current_plain = (refl, refl)
 
 abbrev fill_currents : Program
-fill_currents = record { lets = []; body = asking currents_from (op1 Not (col 3 0) ∷ []) currents_project nine }
+fill_currents = record {
+  lets = [];
+  body =
+      asking currents_from (op1 Not (col 3 0) ∷ []) currents_project nine;
+}
 
-fill_currents_is : command_of (understood archive_schema fill_currents_text) ≡ Insert 2 (Asks fill_currents)
+fill_currents_is : command_of (understood archive_schema fill_currents_text)
+    ≡ Insert 2 (Asks fill_currents)
 unfolding understood everything
 fill_currents_is = refl
 
@@ -136,38 +169,66 @@ fill_currents_plain = (refl, refl)
 
 -- what rows that were put into currents2 leave there
 currents_more : (q : Row → Bool) (program : Program) (params : Row) (db : Trees) (after : Database)
-    → (AllByRecursion IsCells (cells (db 1)) → (rows : List Row) → IsAnswer program.body (overlay db []) params rows → IsPermutation (currents_where q (cells (db 1))) (map current_columns (map (λ s. cast_row third_table (drop 0 s)) rows)))
-    → (it : PutsIn third_table (Asks program) params db after) → IsAnswer program.body (overlay db []) params it.rows → PutsCurrents q db after.trees
+    → (AllByRecursion IsCells (cells (db 1)) → (rows : List Row)
+    → IsAnswer program.body (overlay db []) params rows
+    → IsPermutation (currents_where q (cells (db 1)))
+    (map current_columns (map (λ s. cast_row third_table (drop 0 s)) rows)))
+    → (it : PutsIn third_table (Asks program) params db after)
+    → IsAnswer program.body (overlay db []) params it.rows → PutsCurrents q db after.trees
 currents_more q program params db after means it answer =
     let put = put_in third_table db after.trees it.rows it.applied in
     let made = map (λ s. cast_row third_table (drop 0 s)) it.rows in
     let others = it.applied.tables in record {
-      rest = record { meta = others.0 (apart_by 0 4 refl); records = others.1.0 (apart_by 1 4 refl); vectors = others.1.1.1.0 (apart_by 6 4 refl) };
+      rest = record {
+        meta = others.0 (apart_by 0 4 refl);
+        records =
+            others.1.0 (apart_by 1 4 refl);
+        vectors = others.1.1.1.0 (apart_by 6 4 refl);
+      };
       more = λ typed.
-          IsPermutation-trans (currents_where q (cells (db 1)) ++ map current_columns (db 4)) (map current_columns made ++ map current_columns (db 4)) (map current_columns (after.trees 4))
-          (IsPermutation-append (currents_where q (cells (db 1))) (map current_columns made) (map current_columns (db 4)) (map current_columns (db 4)) (means typed it.rows answer) (IsPermutation-refl (map current_columns (db 4))))
-          (subst (λ l. IsPermutation l (map current_columns (after.trees 4))) (map-append current_columns (numbered Chosen (db 4) made) (db 4) ∙ ap (λ l. l ++ map current_columns (db 4)) (unnumbered current_columns unnumbered_currents (db 4) made)) (IsPermutation-map current_columns _ _ put.0));
+          IsPermutation-trans (currents_where q (cells (db 1)) ++ map current_columns (db 4))
+          (map current_columns made ++ map current_columns (db 4))
+          (map current_columns (after.trees 4))
+          (IsPermutation-append (currents_where q (cells (db 1))) (map current_columns made)
+          (map current_columns (db 4)) (map current_columns (db 4)) (means typed it.rows answer)
+          (IsPermutation-refl (map current_columns (db 4))))
+          (subst (λ l. IsPermutation l (map current_columns (after.trees 4)))
+          (map-append current_columns (numbered Chosen (db 4) made) (db 4)
+          ∙ ap (λ l. l ++ map current_columns (db 4))
+          (unnumbered current_columns unnumbered_currents (db 4) made))
+          (IsPermutation-map current_columns _ _ put.0));
       numbered = put.1;
     }
 
-pub adds_current : (node : List ℕ) (time pico : ℤ) (old new : State) (r : Result ℕ Error) → Making archive_schema old → ExecutesInside 0 add_current_text (Blob node ∷ Int time ∷ Int pico ∷ []) old new r
-    → OnOk r (Making archive_schema new × (new.committed ≡ old.committed) × PutsCurrents (is_of node time pico) old.now.trees new.now.trees)
+pub adds_current : (node : List ℕ) (time pico : ℤ) (old new : State) (r : Result ℕ Error)
+    → Making archive_schema old → ExecutesInside 0 add_current_text
+    (Blob node ∷ Int time ∷ Int pico ∷ []) old new r
+    → OnOk r (Making archive_schema new × (new.committed ≡ old.committed)
+    × PutsCurrents (is_of node time pico) old.now.trees new.now.trees)
 adds_current node time pico old new (Err e) was h = tt
 adds_current node time pico old new (Ok count) was h =
     let params = Blob node ∷ Int time ∷ Int pico ∷ [] in
     let db = old.now.trees in
-    let w = runs_as add_current_text params old new archive_schema was.has (Insert 2 (Asks add_current)) add_current_is add_current_plain count h.0 in
-    let it = into_currents old w.tally new.now (statement_of add_current_text (understood archive_schema add_current_text)) params was.has (Asks add_current) w.changed in (
+    let w = runs_as add_current_text params old new archive_schema was.has
+    (Insert 2 (Asks add_current)) add_current_is add_current_plain count h.0 in
+    let it = into_currents old w.tally new.now (statement_of add_current_text
+    (understood archive_schema add_current_text)) params was.has (Asks add_current) w.changed in (
       record { inside = h.1.mode; has = it.schema },
       h.1.committed_is,
-      currents_more (is_of node time pico) add_current params db new.now (λ typed rows a. currents_put params db key_tests (is_of node time pico) (λ r.
-          regrouped (same (column r 4) (Blob node)) (same (column r 5) (Int time)) (same (column r 6) (Int pico)) (is_true (unary Not (laters params db r))) ∙ ap (λ b. is_of node time pico (columns_of r) && b) (none_later params db r)) typed nine rows a) it (it.are.answer Null),
+      currents_more (is_of node time pico) add_current params db new.now
+          (λ typed rows a. currents_put params db key_tests (is_of node time pico) (λ r.
+          regrouped (same (column r 4) (Blob node)) (same (column r 5) (Int time))
+          (same (column r 6) (Int pico)) (is_true (unary Not (laters params db r)))
+          ∙ ap (λ b. is_of node time pico (columns_of r) && b) (none_later params db r)) typed
+          nine rows a) it (it.are.answer Null),
     )
 
 abbrev first_terms : List Term
-first_terms = lit Null ∷ col 0 0 ∷ col 0 1 ∷ col 0 2 ∷ col 0 3 ∷ col 0 4 ∷ op2 (Compare Ne Binary) (col 0 5) (lit (Int (pos 4))) ∷ lit (Int (pos 0)) ∷ col 0 6 ∷ []
+first_terms = lit Null ∷ col 0 0 ∷ col 0 1 ∷ col 0 2 ∷ col 0 3 ∷ col 0 4
+    ∷ op2 (Compare Ne Binary) (col 0 5) (lit (Int (pos 4))) ∷ lit (Int (pos 0)) ∷ col 0 6 ∷ []
 
-first_current_is : command_of (understood archive_schema first_current_text) ≡ Insert 2 (Values first_terms 9)
+first_current_is : command_of (understood archive_schema first_current_text)
+    ≡ Insert 2 (Values first_terms 9)
 unfolding understood everything
 first_current_is = refl
 
@@ -175,87 +236,151 @@ first_current_plain : IsPlain (understood archive_schema first_current_text)
 unfolding understood everything
 first_current_plain = (refl, refl)
 
--- the row of currents2 of a record that is the only one of its node and time is put in beside the others
+-- the row of currents2 of a record that is the only one of its node and time is put in beside the
+-- others
 module _ (origin number tick : ℤ) (node : List ℕ) (time pico asked : ℤ) (who value : List ℕ) where
   abbrev first_row : Row
   first_row = cells_of origin number tick node time pico asked who value
 
   abbrev first_params : Row
-  first_params = Blob node ∷ Int time ∷ Int pico ∷ Int tick ∷ Int origin ∷ Int asked ∷ Blob value ∷ []
+  first_params = Blob node ∷ Int time ∷ Int pico ∷ Int tick ∷ Int origin ∷ Int asked ∷ Blob value
+      ∷ []
 
-  first_more : (db : Trees) (after : Database) → PutsIn third_table (Values first_terms 9) first_params db after → IsPermutation (current_of [] first_row ∷ map current_columns (db 4)) (map current_columns (after.trees 4))
+  first_more : (db : Trees) (after : Database)
+      → PutsIn third_table (Values first_terms 9) first_params db after
+      → IsPermutation (current_of [] first_row ∷ map current_columns (db 4))
+      (map current_columns (after.trees 4))
   first_more db after it =
       let made = map (λ s. cast_row third_table (drop 0 s)) it.rows in
       let one : map current_columns made ≡ current_of [] first_row ∷ [] =
-      ap (λ rs. map current_columns (map (λ s. cast_row third_table (drop 0 s)) rs)) it.are.1 ∙ rw (cast_int time, cast_int pico, cast_int tick, cast_int origin, cast_int (pos 0), cast_live [] db (Int asked) asked refl) refl in
+      ap (λ rs. map current_columns (map (λ s. cast_row third_table (drop 0 s)) rs)) it.are.1
+      ∙ rw (
+        cast_int time,
+        cast_int pico,
+        cast_int tick,
+        cast_int origin,
+        cast_int (pos 0),
+        cast_live [] db (Int asked) asked refl,
+      ) refl in
       subst (λ l. IsPermutation l (map current_columns (after.trees 4)))
-      (map-append current_columns (numbered Chosen (db 4) made) (db 4) ∙ ap (λ l. l ++ map current_columns (db 4)) (unnumbered current_columns unnumbered_currents (db 4) made ∙ one))
-      (IsPermutation-map current_columns _ _ (put_in third_table db after.trees it.rows it.applied).0)
+      (map-append current_columns (numbered Chosen (db 4) made) (db 4)
+      ∙ ap (λ l. l ++ map current_columns (db 4))
+      (unnumbered current_columns unnumbered_currents (db 4) made ∙ one))
+      (IsPermutation-map current_columns _ _
+      (put_in third_table db after.trees it.rows it.applied).0)
 
-  first_changes : (db : Trees) (after : Database) → IsOnly first_row node time pico db → PutsIn third_table (Values first_terms 9) first_params db after → ChangesCurrents node time pico db after.trees
+  first_changes : (db : Trees) (after : Database) → IsOnly first_row node time pico db
+      → PutsIn third_table (Values first_terms 9) first_params db after
+      → ChangesCurrents node time pico db after.trees
   first_changes db after only it =
       let others = it.applied.tables in
-      let rest : KeepsBesideCurrents db after.trees = record { meta = others.0 (apart_by 0 4 refl); records = others.1.0 (apart_by 1 4 refl); vectors = others.1.1.1.0 (apart_by 6 4 refl) } in
+      let rest : KeepsBesideCurrents db after.trees =
+      record {
+        meta = others.0 (apart_by 0 4 refl);
+        records =
+            others.1.0 (apart_by 1 4 refl);
+        vectors = others.1.1.1.0 (apart_by 6 4 refl);
+      } in
       let held = map current_columns (db 4) in
       let made = currents_where (is_of node time pico) (cells (db 1)) in
       record {
         between = db;
         dropped = record {
           rest = record { meta = refl; records = refl; vectors = refl };
-          left = λ _. sym (filter_all (λ r. not (is_current_of node time pico (current_columns r))) (db 4)
-              (all_weaker (λ r. is_current_of node time pico (current_columns r) ≡ false) (λ r. not (is_current_of node time pico (current_columns r)) ≡ true) (λ r off. ap not off) (db 4) (all_unmap (λ c. is_current_of node time pico c ≡ false) current_columns (db 4) only.currents)));
+          left = λ _. sym (filter_all (λ r. not (is_current_of node time pico (current_columns r)))
+              (db 4)
+              (all_weaker (λ r. is_current_of node time pico (current_columns r) ≡ false)
+              (λ r. not (is_current_of node time pico (current_columns r)) ≡ true)
+              (λ r off. ap not off) (db 4) (all_unmap
+              (λ c. is_current_of node time pico c ≡ false) current_columns
+              (db 4) only.currents)));
         };
         put = record {
           rest = rest;
           more = λ _.
-              IsPermutation-trans (made ++ held) (current_of [] first_row ∷ held) (map current_columns (after.trees 4))
-              (IsPermutation-append made (current_of [] first_row ∷ []) held held (first_made origin number tick node time pico asked who value only.others (cells (db 1)) only.records only.apart) (IsPermutation-refl held)) (first_more db after it);
+              IsPermutation-trans (made ++ held) (current_of [] first_row ∷ held)
+              (map current_columns (after.trees 4))
+              (IsPermutation-append made (current_of [] first_row ∷ []) held held
+              (first_made origin number tick node time pico asked who value only.others
+              (cells (db 1)) only.records only.apart) (IsPermutation-refl held))
+              (first_more db after it);
           numbered = (put_in third_table db after.trees it.rows it.applied).1;
         };
       }
 
-  pub adds_first : (old new : State) (r : Result ℕ Error) → Making archive_schema old → IsOnly first_row node time pico old.now.trees → ExecutesInside 0 first_current_text first_params old new r
-      → OnOk r (Making archive_schema new × (new.committed ≡ old.committed) × ChangesCurrents node time pico old.now.trees new.now.trees)
+  pub adds_first : (old new : State) (r : Result ℕ Error) → Making archive_schema old
+      → IsOnly first_row node time pico old.now.trees
+      → ExecutesInside 0 first_current_text first_params old new r
+      → OnOk r (Making archive_schema new × (new.committed ≡ old.committed)
+      × ChangesCurrents node time pico old.now.trees new.now.trees)
   adds_first old new (Err e) was only h = tt
   adds_first old new (Ok count) was only h =
-      let w = runs_as first_current_text first_params old new archive_schema was.has (Insert 2 (Values first_terms 9)) first_current_is first_current_plain count h.0 in
-      let it = into_currents old w.tally new.now (statement_of first_current_text (understood archive_schema first_current_text)) first_params was.has (Values first_terms 9) w.changed in (
+      let w = runs_as first_current_text first_params old new archive_schema was.has
+      (Insert 2 (Values first_terms 9)) first_current_is first_current_plain count h.0 in
+      let it = into_currents old w.tally new.now (statement_of first_current_text
+      (understood archive_schema first_current_text)) first_params was.has
+      (Values first_terms 9) w.changed in (
         record { inside = h.1.mode; has = it.schema },
         h.1.committed_is,
         first_changes old.now.trees new.now only it,
       )
 
-pub fills_currents : (old new : State) (r : Result ℕ Error) → Making archive_schema old → ExecutesInside 0 fill_currents_text [] old new r
-    → OnOk r (Making archive_schema new × (new.committed ≡ old.committed) × PutsCurrents (λ _. true) old.now.trees new.now.trees)
+pub fills_currents : (old new : State) (r : Result ℕ Error) → Making archive_schema old
+    → ExecutesInside 0 fill_currents_text [] old new r
+    → OnOk r (Making archive_schema new × (new.committed ≡ old.committed)
+    × PutsCurrents (λ _. true) old.now.trees new.now.trees)
 fills_currents old new (Err e) was h = tt
 fills_currents old new (Ok count) was h =
     let db = old.now.trees in
-    let w = runs_as fill_currents_text [] old new archive_schema was.has (Insert 2 (Asks fill_currents)) fill_currents_is fill_currents_plain count h.0 in
-    let it = into_currents old w.tally new.now (statement_of fill_currents_text (understood archive_schema fill_currents_text)) [] was.has (Asks fill_currents) w.changed in (
+    let w = runs_as fill_currents_text [] old new archive_schema was.has
+    (Insert 2 (Asks fill_currents)) fill_currents_is fill_currents_plain count h.0 in
+    let it = into_currents old w.tally new.now (statement_of fill_currents_text
+    (understood archive_schema fill_currents_text)) [] was.has (Asks fill_currents) w.changed in (
       record { inside = h.1.mode; has = it.schema },
       h.1.committed_is,
-      currents_more (λ _. true) fill_currents [] db new.now (λ typed rows a. currents_put [] db (op1 Not (col 3 0) ∷ []) (λ _. true) (λ r. one_true (is_true (unary Not (laters [] db r))) ∙ none_later [] db r) typed nine rows a) it (it.are.answer Null),
+      currents_more (λ _. true) fill_currents [] db new.now
+          (λ typed rows a. currents_put [] db (op1 Not (col 3 0) ∷ []) (λ _. true)
+          (λ r. one_true (is_true (unary Not (laters [] db r))) ∙ none_later [] db r) typed nine
+          rows a) it (it.are.answer Null),
     )
 
 -- what rows that were put into vectors leave there
-vectors_more : (rows_of : List Row → List Row) (from : Source) (params : Row) (db : Trees) (after : Database) (it : PutsIn fourth_table from params db after)
-    → (AllByRecursion IsCells (cells (db 1)) → IsPermutation (rows_of (cells (db 1))) (map vector_columns (map as_vector it.rows))) → (AllByRecursion IsCells (cells (db 1)) → AllByRecursion (λ r. is_null (rowid r) ≡ false) (map as_vector it.rows)) → PutsVectors rows_of db after.trees
+vectors_more : (rows_of : List Row → List Row) (from : Source) (params : Row) (db : Trees)
+    (after : Database) (it : PutsIn fourth_table from params db after)
+    → (AllByRecursion IsCells (cells (db 1))
+    → IsPermutation (rows_of (cells (db 1))) (map vector_columns (map as_vector it.rows)))
+    → (AllByRecursion IsCells (cells (db 1))
+    → AllByRecursion (λ r. is_null (rowid r) ≡ false) (map as_vector it.rows))
+    → PutsVectors rows_of db after.trees
 vectors_more rows_of from params db after it means ids =
     let put = put_in fourth_table db after.trees it.rows it.applied in
     let made = map as_vector it.rows in
     let others = it.applied.tables in record {
-      rest = record { meta = others.0 (apart_by 0 6 refl); records = others.1.0 (apart_by 1 6 refl); currents = others.1.1.0 (apart_by 4 6 refl) };
+      rest = record {
+        meta = others.0 (apart_by 0 6 refl);
+        records =
+            others.1.0 (apart_by 1 6 refl);
+        currents = others.1.1.0 (apart_by 4 6 refl);
+      };
       more = λ typed.
-          IsPermutation-trans (rows_of (cells (db 1)) ++ map vector_columns (db 6)) (map vector_columns made ++ map vector_columns (db 6)) (map vector_columns (after.trees 6))
-          (IsPermutation-append (rows_of (cells (db 1))) (map vector_columns made) (map vector_columns (db 6)) (map vector_columns (db 6)) (means typed) (IsPermutation-refl (map vector_columns (db 6))))
-          (subst (λ l. IsPermutation l (map vector_columns (after.trees 6))) (map-append vector_columns (numbered Chosen (db 6) made) (db 6) ∙ ap (λ l. map vector_columns l ++ map vector_columns (db 6)) (given (db 6) made (ids typed))) (IsPermutation-map vector_columns _ _ put.0));
+          IsPermutation-trans (rows_of (cells (db 1)) ++ map vector_columns (db 6))
+          (map vector_columns made ++ map vector_columns (db 6))
+          (map vector_columns (after.trees 6))
+          (IsPermutation-append (rows_of (cells (db 1))) (map vector_columns made)
+          (map vector_columns (db 6)) (map vector_columns (db 6)) (means typed)
+          (IsPermutation-refl (map vector_columns (db 6))))
+          (subst (λ l. IsPermutation l (map vector_columns (after.trees 6)))
+          (map-append vector_columns (numbered Chosen (db 6) made) (db 6)
+          ∙ ap (λ l. map vector_columns l ++ map vector_columns (db 6))
+          (given (db 6) made (ids typed))) (IsPermutation-map vector_columns _ _ put.0));
       numbered = put.1;
     }
 
 abbrev vector_terms : List Term
 vector_terms = col 0 0 ∷ lit Null ∷ col 0 1 ∷ col 0 2 ∷ []
 
-add_vector_is : command_of (understood archive_schema add_vector_text) ≡ Insert 3 (Values vector_terms 4)
+add_vector_is : command_of (understood archive_schema add_vector_text)
+    ≡ Insert 3 (Values vector_terms 4)
 unfolding understood everything
 add_vector_is = refl
 
@@ -263,18 +388,30 @@ add_vector_plain : IsPlain (understood archive_schema add_vector_text)
 unfolding understood everything
 add_vector_plain = (refl, refl)
 
-pub adds_vector : (origin number tick : ℤ) (old new : State) (r : Result ℕ Error) → Making archive_schema old → ExecutesInside 0 add_vector_text (Int origin ∷ Int number ∷ Int tick ∷ []) old new r
-    → OnOk r (Making archive_schema new × (new.committed ≡ old.committed) × PutsVectors (λ _. vector_cells origin number tick ∷ []) old.now.trees new.now.trees × Lists (new.now.trees catalog_tree) archive_schema)
+pub adds_vector : (origin number tick : ℤ) (old new : State) (r : Result ℕ Error)
+    → Making archive_schema old → ExecutesInside 0 add_vector_text
+    (Int origin ∷ Int number ∷ Int tick ∷ []) old new r
+    → OnOk r (Making archive_schema new × (new.committed ≡ old.committed)
+    × PutsVectors (λ _. vector_cells origin number tick ∷ []) old.now.trees new.now.trees
+    × Lists (new.now.trees catalog_tree) archive_schema)
 adds_vector origin number tick old new (Err e) was h = tt
 adds_vector origin number tick old new (Ok count) was h =
     let params = Int origin ∷ Int number ∷ Int tick ∷ [] in
-    let w = runs_as add_vector_text params old new archive_schema was.has (Insert 3 (Values vector_terms 4)) add_vector_is add_vector_plain count h.0 in
-    let it = into_vectors old w.tally new.now (statement_of add_vector_text (understood archive_schema add_vector_text)) params was.has (Values vector_terms 4) w.changed in
-    let one : map as_vector it.rows ≡ (Int origin ∷ cast Integer Null ∷ Int number ∷ Int tick ∷ []) ∷ [] = ap (map as_vector) it.are.1 ∙ rw (cast_int origin, cast_int number, cast_int tick) refl in (
+    let w = runs_as add_vector_text params old new archive_schema was.has
+    (Insert 3 (Values vector_terms 4)) add_vector_is add_vector_plain count h.0 in
+    let it = into_vectors old w.tally new.now (statement_of add_vector_text
+    (understood archive_schema add_vector_text)) params was.has
+    (Values vector_terms 4) w.changed in
+    let one : map as_vector it.rows
+    ≡ (Int origin ∷ cast Integer Null ∷ Int number ∷ Int tick ∷ []) ∷ [] =
+    ap (map as_vector) it.are.1 ∙ rw (cast_int origin, cast_int number, cast_int tick) refl in (
       record { inside = h.1.mode; has = it.schema },
       h.1.committed_is,
-      vectors_more (λ _. vector_cells origin number tick ∷ []) (Values vector_terms 4) params old.now.trees new.now it
-          (λ typed. subst (λ l. IsPermutation (vector_cells origin number tick ∷ []) (map vector_columns l)) (sym one) (IsPermutation-refl (vector_cells origin number tick ∷ [])))
+      vectors_more (λ _. vector_cells origin number tick ∷ [])
+          (Values vector_terms 4) params old.now.trees new.now it
+          (λ typed. subst (λ l. IsPermutation (vector_cells origin number tick ∷ [])
+          (map vector_columns l)) (sym one) (IsPermutation-refl
+          (vector_cells origin number tick ∷ [])))
           (λ typed. subst (AllByRecursion (λ r. is_null (rowid r) ≡ false)) (sym one) (refl, tt)),
       subst (Lists (new.now.trees catalog_tree)) it.schema w.sound.lists,
     )
@@ -303,96 +440,148 @@ single_by b (x ∷ []) e = refl
 single_by b (x ∷ y ∷ xs) e = absurd (omega (arith, e))
 
 -- what an UPDATE of an origin's row leaves, where there was none and where there was one
-module _ (origin number tick : ℤ) (db : Trees) (tally : Tally) (after : Database) (it : Sets fourth_table set_vector (Int origin ∷ Int number ∷ Int tick ∷ []) db tally after) where
-  abbrev set_params : Row
-  set_params = Int origin ∷ Int number ∷ Int tick ∷ []
+module _ (origin number tick : ℤ) (db : Trees) (tally : Tally) (after : Database)
+    (it : Sets fourth_table set_vector (Int origin ∷ Int number ∷ Int tick ∷ []) db tally after)
+  where
+    abbrev set_params : Row
+    set_params = Int origin ∷ Int number ∷ Int tick ∷ []
 
-  abbrev set_row : Row
-  set_row = vector_cells origin number tick
+    abbrev set_row : Row
+    set_row = vector_cells origin number tick
 
-  abbrev is_ours : Row → Bool
-  is_ours r = is_vector_of origin (vector_columns r)
+    abbrev is_ours : Row → Bool
+    is_ours r = is_vector_of origin (vector_columns r)
 
-  abbrev set_passes : Row → Bool
-  set_passes r = list_all (holds (set_params ∷ r ∷ [])) vector_tests
+    abbrev set_passes : Row → Bool
+    set_passes r = list_all (holds (set_params ∷ r ∷ [])) vector_tests
 
-  abbrev set_source : Row → Row
-  set_source r = eval_all set_terms (set_params ∷ r ∷ [])
+    abbrev set_source : Row → Row
+    set_source r = eval_all set_terms (set_params ∷ r ∷ [])
 
-  abbrev set_made : List Row
-  set_made = map (λ s. cast_row fourth_table (drop 1 s)) it.rows
+    abbrev set_made : List Row
+    set_made = map (λ s. cast_row fourth_table (drop 1 s)) it.rows
 
-  abbrev set_left : List Row
-  set_left = without_all (db 6) (ids_of it.rows)
+    abbrev set_left : List Row
+    set_left = without_all (db 6) (ids_of it.rows)
 
-  ours_alike : (r : Row) → set_passes r ≡ is_ours r
-  ours_alike r = one_true (same (column r 0) (Int origin))
+    ours_alike : (r : Row) → set_passes r ≡ is_ours r
+    ours_alike r = one_true (same (column r 0) (Int origin))
 
-  set_asked : IsPermutation (map set_source (filter set_passes (db 6))) it.rows
-  set_asked = asked_all (inner 6 end) vector_tests set_terms [] set_params (overlay db []) (db 6) set_passes (λ r. set_params ∷ r ∷ []) refl it.rows (it.are.answer Null)
+    set_asked : IsPermutation (map set_source (filter set_passes (db 6))) it.rows
+    set_asked = asked_all (inner 6 end) vector_tests set_terms [] set_params (overlay db [])
+        (db 6) set_passes (λ r. set_params ∷ r ∷ []) refl it.rows (it.are.answer Null)
 
-  set_rest : KeepsBesideVectors db after.trees
-  set_rest = let others = it.applied.tables in record { meta = others.0 (apart_by 0 6 refl); records = others.1.0 (apart_by 1 6 refl); currents = others.1.1.0 (apart_by 4 6 refl) }
+    set_rest : KeepsBesideVectors db after.trees
+    set_rest = let others = it.applied.tables in
+        record {
+          meta = others.0 (apart_by 0 6 refl);
+          records =
+              others.1.0 (apart_by 1 6 refl);
+          currents = others.1.1.0 (apart_by 4 6 refl);
+        }
 
-  set_news : numbered Given set_left set_made ≡ set_made
-  set_news = as_given set_left set_made
+    set_news : numbered Given set_left set_made ≡ set_made
+    set_news = as_given set_left set_made
 
-  set_now : after.trees 6 ≡ put_all set_left set_made
-  set_now = it.applied.rows ∙ ap (put_all set_left) set_news
+    set_now : after.trees 6 ≡ put_all set_left set_made
+    set_now = it.applied.rows ∙ ap (put_all set_left) set_news
 
-  set_count : (count : ℕ) → count ≡ unwrap_or tally.rows 0 → count ≡ length it.rows
-  set_count count e = e ∙ ap (λ o. unwrap_or o 0) it.counted ∙ ap length set_news ∙ length-map it.rows (λ s. cast_row fourth_table (drop 1 s))
+    set_count : (count : ℕ) → count ≡ unwrap_or tally.rows 0 → count ≡ length it.rows
+    set_count count e = e ∙ ap (λ o. unwrap_or o 0) it.counted ∙ ap length set_news
+        ∙ length-map it.rows (λ s. cast_row fourth_table (drop 1 s))
 
-  set_none : length it.rows ≡ 0 → DropsVector origin db after.trees
-  set_none e =
-      let empty : it.rows ≡ [] = empty_by it.rows e in
-      let off = none_passes set_passes (db 6) (none_of set_source (filter set_passes (db 6)) (subst (IsPermutation (map set_source (filter set_passes (db 6)))) empty set_asked)) in
-      let kept : filter (λ r. not (is_ours r)) (db 6) ≡ db 6 = filter_all (λ r. not (is_ours r)) (db 6) (all_weaker (λ r. set_passes r ≡ false) (λ r. not (is_ours r) ≡ true) (λ r no. ap not (sym (ours_alike r) ∙ no)) (db 6) off) in
-      record { rest = set_rest; left = λ _. set_now ∙ ap (λ rs. put_all (without_all (db 6) (ids_of rs)) (map (λ s. cast_row fourth_table (drop 1 s)) rs)) empty ∙ sym kept }
+    set_none : length it.rows ≡ 0 → DropsVector origin db after.trees
+    set_none e =
+        let empty : it.rows ≡ [] = empty_by it.rows e in
+        let off = none_passes set_passes (db 6) (none_of set_source (filter set_passes (db 6))
+        (subst (IsPermutation (map set_source (filter set_passes (db 6)))) empty set_asked)) in
+        let kept : filter (λ r. not (is_ours r)) (db 6) ≡ db 6 =
+        filter_all (λ r. not (is_ours r)) (db 6)
+        (all_weaker (λ r. set_passes r ≡ false) (λ r. not (is_ours r) ≡ true)
+        (λ r no. ap not (sym (ours_alike r) ∙ no)) (db 6) off) in
+        record {
+          rest = set_rest;
+          left =
+              λ _. set_now ∙ ap (λ rs.
+              put_all (without_all (db 6) (ids_of rs)) (map (λ s. cast_row fourth_table (drop 1 s)) rs))
+              empty ∙ sym kept;
+        }
 
-  set_written : (r : Row) → vector_columns (cast_row fourth_table (drop 1 (set_source r))) ≡ set_row
-  set_written r = rw (cast_int origin, cast_int number, cast_int tick) refl
+    set_written : (r : Row) → vector_columns (cast_row fourth_table (drop 1 (set_source r))) ≡ set_row
+    set_written r = rw (cast_int origin, cast_int number, cast_int tick) refl
 
-  set_one : length it.rows ≡ 1 → Lists (after.trees catalog_tree) archive_schema → ChangesVectors set_row origin db after.trees
-  set_one e lists =
-      let write = λ (s : Row). vector_columns (cast_row fourth_table (drop 1 s)) in
-      let ours = filter set_passes (db 6) in
-      let count : length ours ≡ 1 = sym (length-map ours set_source) ∙ (sym (length_permutation (map set_source ours) it.rows set_asked) ∙ e) in
-      let one : map write (map set_source ours) ≡ set_row ∷ [] = map-map write set_source ours ∙ map_same (λ r. write (set_source r)) (λ _. set_row) set_written ours ∙ single_by set_row ours count in
-      let made : IsPermutation (set_row ∷ []) (map vector_columns set_made) = subst₂ IsPermutation one (sym (map-map vector_columns (λ s. cast_row fourth_table (drop 1 s)) it.rows)) (IsPermutation-map write _ _ set_asked) in
-      let fresh : are_fresh set_left set_made ≡ true = subst (λ l. are_fresh set_left l ≡ true) set_news it.applied.fresh in
-      let keyed : have_rowids set_made ≡ true = subst (λ l. have_rowids l ≡ true) set_news it.applied.keyed in
-      let beside : IsPermutation (map vector_columns set_made ++ map vector_columns set_left) (map vector_columns (after.trees 6)) =
-      subst₂ IsPermutation (map-append vector_columns set_made set_left) (ap (map vector_columns) (sym set_now)) (IsPermutation-map vector_columns _ _ (put_beside set_left set_made fresh)) in
-      record {
-        between = with_tree db 6 set_left;
-        dropped = record {
-          rest = record { meta = refl; records = refl; currents = refl };
-          left = λ was. removed 6 vector_tests set_terms set_params (overlay db []) is_ours ours_alike (λ r. refl) was it.rows (it.are.answer Null);
-        };
-        put = record {
-          rest = record { meta = set_rest.meta; records = set_rest.records; currents = set_rest.currents };
-          more = λ _.
-              IsPermutation-trans (set_row ∷ map vector_columns set_left) (map vector_columns set_made ++ map vector_columns set_left) (map vector_columns (after.trees 6))
-              (IsPermutation-append (set_row ∷ []) (map vector_columns set_made) (map vector_columns set_left) (map vector_columns set_left) made (IsPermutation-refl (map vector_columns set_left))) beside;
-          numbered = λ was. subst AreNumbered (sym set_now) (all_more set_left set_made fresh keyed was);
-        };
-        lists = lists;
-      }
+    set_one : length it.rows ≡ 1 → Lists (after.trees catalog_tree) archive_schema
+        → ChangesVectors set_row origin db after.trees
+    set_one e lists =
+        let write = λ (s : Row). vector_columns (cast_row fourth_table (drop 1 s)) in
+        let ours = filter set_passes (db 6) in
+        let count : length ours ≡ 1 =
+        sym (length-map ours set_source)
+        ∙ (sym (length_permutation (map set_source ours) it.rows set_asked) ∙ e) in
+        let one : map write (map set_source ours) ≡ set_row ∷ [] =
+        map-map write set_source ours
+        ∙ map_same (λ r. write (set_source r)) (λ _. set_row) set_written ours
+        ∙ single_by set_row ours count in
+        let made : IsPermutation (set_row ∷ []) (map vector_columns set_made) =
+        subst₂ IsPermutation one (sym
+        (map-map vector_columns (λ s. cast_row fourth_table (drop 1 s)) it.rows))
+        (IsPermutation-map write _ _ set_asked) in
+        let fresh : are_fresh set_left set_made ≡ true =
+        subst (λ l. are_fresh set_left l ≡ true) set_news it.applied.fresh in
+        let keyed : have_rowids set_made ≡ true =
+        subst (λ l. have_rowids l ≡ true) set_news it.applied.keyed in
+        let beside : IsPermutation (map vector_columns set_made ++ map vector_columns set_left)
+        (map vector_columns (after.trees 6)) =
+        subst₂ IsPermutation (map-append vector_columns set_made set_left)
+        (ap (map vector_columns) (sym set_now)) (IsPermutation-map vector_columns _ _
+        (put_beside set_left set_made fresh)) in
+        record {
+          between = with_tree db 6 set_left;
+          dropped = record {
+            rest = record { meta = refl; records = refl; currents = refl };
+            left = λ was. removed 6 vector_tests set_terms set_params
+                (overlay db []) is_ours ours_alike (λ r. refl) was it.rows (it.are.answer Null);
+          };
+          put = record {
+            rest = record {
+              meta = set_rest.meta;
+              records = set_rest.records;
+              currents =
+                  set_rest.currents;
+            };
+            more = λ _.
+                IsPermutation-trans (set_row ∷ map vector_columns set_left)
+                (map vector_columns set_made ++ map vector_columns set_left)
+                (map vector_columns (after.trees 6))
+                (IsPermutation-append (set_row ∷ []) (map vector_columns set_made)
+                (map vector_columns set_left) (map vector_columns set_left) made
+                (IsPermutation-refl (map vector_columns set_left))) beside;
+            numbered = λ was. subst AreNumbered (sym set_now)
+                (all_more set_left set_made fresh keyed was);
+          };
+          lists = lists;
+        }
 
-pub sets_vector : (origin number tick : ℤ) (old new : State) (r : Result ℕ Error) → Making archive_schema old → ExecutesInside 0 set_vector_text (Int origin ∷ Int number ∷ Int tick ∷ []) old new r
-    → IfOk r (λ count. Making archive_schema new × (new.committed ≡ old.committed) × SetsVectors count (vector_cells origin number tick) origin old.now.trees new.now.trees)
+pub sets_vector : (origin number tick : ℤ) (old new : State) (r : Result ℕ Error)
+    → Making archive_schema old → ExecutesInside 0 set_vector_text
+    (Int origin ∷ Int number ∷ Int tick ∷ []) old new r
+    → IfOk r (λ count. Making archive_schema new × (new.committed ≡ old.committed)
+    × SetsVectors count (vector_cells origin number tick) origin old.now.trees new.now.trees)
 sets_vector origin number tick old new (Err e) was h = tt
 sets_vector origin number tick old new (Ok count) was h =
     let params = Int origin ∷ Int number ∷ Int tick ∷ [] in
-    let w = runs_as set_vector_text params old new archive_schema was.has (Update 3 set_vector) set_vector_is set_vector_plain count h.0 in
-    let it = set_vectors old w.tally new.now (statement_of set_vector_text (understood archive_schema set_vector_text)) params was.has set_vector w.changed in
-    let as_many : count ≡ length it.rows = set_count origin number tick old.now.trees w.tally new.now it count w.counted in (
+    let w = runs_as set_vector_text params old new archive_schema was.has
+    (Update 3 set_vector) set_vector_is set_vector_plain count h.0 in
+    let it = set_vectors old w.tally new.now (statement_of set_vector_text
+    (understood archive_schema set_vector_text)) params was.has set_vector w.changed in
+    let as_many : count ≡ length it.rows =
+    set_count origin number tick old.now.trees w.tally new.now it count w.counted in (
       record { inside = h.1.mode; has = it.schema },
       h.1.committed_is,
       record {
         none = λ e. set_none origin number tick old.now.trees w.tally new.now it (sym as_many ∙ e);
-        one = λ e. set_one origin number tick old.now.trees w.tally new.now it (sym as_many ∙ e) (subst (Lists (new.now.trees catalog_tree)) it.schema w.sound.lists);
+        one = λ e. set_one origin number tick old.now.trees w.tally new.now it (sym as_many ∙ e)
+            (subst (Lists (new.now.trees catalog_tree)) it.schema w.sound.lists);
       },
     )
 
@@ -400,9 +589,14 @@ abbrev four : List Collation
 four = Binary ∷ Binary ∷ Binary ∷ Binary ∷ []
 
 abbrev fill_vectors : Program
-fill_vectors = record { lets = []; body = asking vectors_from (op1 Not (col 2 0) ∷ []) vectors_project four }
+fill_vectors = record {
+  lets = [];
+  body =
+      asking vectors_from (op1 Not (col 2 0) ∷ []) vectors_project four;
+}
 
-fill_vectors_is : command_of (understood archive_schema fill_vectors_text) ≡ Insert 3 (Asks fill_vectors)
+fill_vectors_is : command_of (understood archive_schema fill_vectors_text)
+    ≡ Insert 3 (Asks fill_vectors)
 unfolding understood everything
 fill_vectors_is = refl
 
@@ -410,23 +604,32 @@ fill_vectors_plain : IsPlain (understood archive_schema fill_vectors_text)
 unfolding understood everything
 fill_vectors_plain = (refl, refl)
 
-pub fills_vectors : (old new : State) (r : Result ℕ Error) → Making archive_schema old → ExecutesInside 0 fill_vectors_text [] old new r
-    → OnOk r (Making archive_schema new × (new.committed ≡ old.committed) × PutsVectors vectors_of old.now.trees new.now.trees × Lists (new.now.trees catalog_tree) archive_schema)
+pub fills_vectors : (old new : State) (r : Result ℕ Error) → Making archive_schema old
+    → ExecutesInside 0 fill_vectors_text [] old new r
+    → OnOk r (Making archive_schema new × (new.committed ≡ old.committed)
+    × PutsVectors vectors_of old.now.trees new.now.trees
+    × Lists (new.now.trees catalog_tree) archive_schema)
 fills_vectors old new (Err e) was h = tt
 fills_vectors old new (Ok count) was h =
-    let w = runs_as fill_vectors_text [] old new archive_schema was.has (Insert 3 (Asks fill_vectors)) fill_vectors_is fill_vectors_plain count h.0 in
-    let it = into_vectors old w.tally new.now (statement_of fill_vectors_text (understood archive_schema fill_vectors_text)) [] was.has (Asks fill_vectors) w.changed in (
+    let w = runs_as fill_vectors_text [] old new archive_schema was.has
+    (Insert 3 (Asks fill_vectors)) fill_vectors_is fill_vectors_plain count h.0 in
+    let it = into_vectors old w.tally new.now (statement_of fill_vectors_text
+    (understood archive_schema fill_vectors_text)) [] was.has (Asks fill_vectors) w.changed in (
       record { inside = h.1.mode; has = it.schema },
       h.1.committed_is,
-      vectors_more vectors_of (Asks fill_vectors) [] old.now.trees new.now it (λ typed. (vectors_put [] old.now.trees typed four it.rows (it.are.answer Null)).1) (λ typed. (vectors_put [] old.now.trees typed four it.rows (it.are.answer Null)).0),
+      vectors_more vectors_of (Asks fill_vectors) [] old.now.trees new.now it
+          (λ typed. (vectors_put [] old.now.trees typed four it.rows (it.are.answer Null)).1)
+          (λ typed. (vectors_put [] old.now.trees typed four it.rows (it.are.answer Null)).0),
       subst (Lists (new.now.trees catalog_tree)) it.schema w.sound.lists,
     )
 
 -- where nothing stood at the node and time of a row, it is the only one there once it is added
-pub only_by : (row : Row) (node : List ℕ) (time pico : ℤ) (old added : Trees) → AddsRecord row old added → HasNoRowAt node time pico old → IsOnly row node time pico added
+pub only_by : (row : Row) (node : List ℕ) (time pico : ℤ) (old added : Trees)
+    → AddsRecord row old added → HasNoRowAt node time pico old → IsOnly row node time pico added
 only_by row node time pico old added adds free = record {
   others = cells (old 1);
   records = adds.records;
   apart = free.records;
-  currents = subst (λ rs. AllByRecursion (λ c. is_current_of node time pico c ≡ false) (map current_columns rs)) (sym adds.currents) free.currents;
+  currents = subst (λ rs. AllByRecursion (λ c. is_current_of node time pico c ≡ false)
+      (map current_columns rs)) (sym adds.currents) free.currents;
 }

@@ -5,16 +5,20 @@ use Rattle.sqlite_resolve.specs.Compile.{table_defined_by}
 use Rattle.sql_schema.specs.Tables.{meta, records2, currents2, vectors}
 
 abbrev pub meta_text : List ℕ
-meta_text = codes "CREATE TABLE meta (one INTEGER PRIMARY KEY CHECK (one = 1), format INTEGER NOT NULL, archive BLOB NOT NULL, replica INTEGER NOT NULL) STRICT"
+meta_text = codes
+    "CREATE TABLE meta (one INTEGER PRIMARY KEY CHECK (one = 1), format INTEGER NOT NULL, archive BLOB NOT NULL, replica INTEGER NOT NULL) STRICT"
 
 abbrev pub records_text : List ℕ
-records_text = codes "CREATE TABLE records2 (origin INTEGER NOT NULL, number INTEGER NOT NULL, tick INTEGER NOT NULL, node BLOB NOT NULL, time INTEGER NOT NULL, pico INTEGER NOT NULL, asked INTEGER NOT NULL, who BLOB NOT NULL, value BLOB NOT NULL, PRIMARY KEY (origin, number), UNIQUE (node, time, pico, tick, origin)) STRICT"
+records_text = codes
+    "CREATE TABLE records2 (origin INTEGER NOT NULL, number INTEGER NOT NULL, tick INTEGER NOT NULL, node BLOB NOT NULL, time INTEGER NOT NULL, pico INTEGER NOT NULL, asked INTEGER NOT NULL, who BLOB NOT NULL, value BLOB NOT NULL, PRIMARY KEY (origin, number), UNIQUE (node, time, pico, tick, origin)) STRICT"
 
 abbrev pub currents_text : List ℕ
-currents_text = codes "CREATE TABLE currents2 (node BLOB NOT NULL, time INTEGER NOT NULL, pico INTEGER NOT NULL, tick INTEGER NOT NULL, origin INTEGER NOT NULL, live INTEGER NOT NULL, extra INTEGER NOT NULL, value BLOB NOT NULL, PRIMARY KEY (node, time, pico)) STRICT"
+currents_text = codes
+    "CREATE TABLE currents2 (node BLOB NOT NULL, time INTEGER NOT NULL, pico INTEGER NOT NULL, tick INTEGER NOT NULL, origin INTEGER NOT NULL, live INTEGER NOT NULL, extra INTEGER NOT NULL, value BLOB NOT NULL, PRIMARY KEY (node, time, pico)) STRICT"
 
 abbrev pub vectors_text : List ℕ
-vectors_text = codes "CREATE TABLE vectors (origin INTEGER PRIMARY KEY, number INTEGER NOT NULL, tick INTEGER NOT NULL) STRICT"
+vectors_text = codes
+    "CREATE TABLE vectors (origin INTEGER PRIMARY KEY, number INTEGER NOT NULL, tick INTEGER NOT NULL) STRICT"
 
 pub meta_is : table_defined_by meta_text ≡ Ok meta
 unfolding everything
@@ -48,34 +52,41 @@ abbrev pub whose_text : List ℕ
 whose_text = codes "SELECT one, format, archive, replica FROM meta"
 
 abbrev pub named_text : List ℕ
-named_text = codes "SELECT origin, number, tick, node, time, pico, asked, who, value FROM records2 WHERE origin = ?1 AND number = ?2"
+named_text = codes
+    "SELECT origin, number, tick, node, time, pico, asked, who, value FROM records2 WHERE origin = ?1 AND number = ?2"
 
 abbrev pub last_text : List ℕ
 last_text = codes "SELECT origin, number, tick FROM vectors WHERE origin = ?1"
 
 abbrev pub since_text : List ℕ
-since_text = codes "SELECT origin, number, tick, node, time, pico, asked, who, value FROM records2 WHERE origin = ?1 AND number > ?2 ORDER BY origin, number LIMIT ?3"
+since_text = codes
+    "SELECT origin, number, tick, node, time, pico, asked, who, value FROM records2 WHERE origin = ?1 AND number > ?2 ORDER BY origin, number LIMIT ?3"
 
 abbrev pub after_text : List ℕ
-after_text = codes "SELECT origin, number, tick, node, time, pico, asked, who, value FROM records2 WHERE node = ?1 AND time >= ?2 AND (time > ?2 OR pico > ?3) ORDER BY time, pico, tick, origin LIMIT ?4"
+after_text = codes
+    "SELECT origin, number, tick, node, time, pico, asked, who, value FROM records2 WHERE node = ?1 AND time >= ?2 AND (time > ?2 OR pico > ?3) ORDER BY time, pico, tick, origin LIMIT ?4"
 
 abbrev pub before_text : List ℕ
-before_text = codes "SELECT origin, number, tick, node, time, pico, asked, who, value FROM records2 WHERE node = ?1 AND time <= ?2 AND (time < ?2 OR pico < ?3) ORDER BY time DESC, pico DESC, tick DESC, origin DESC LIMIT ?4"
+before_text = codes
+    "SELECT origin, number, tick, node, time, pico, asked, who, value FROM records2 WHERE node = ?1 AND time <= ?2 AND (time < ?2 OR pico < ?3) ORDER BY time DESC, pico DESC, tick DESC, origin DESC LIMIT ?4"
 
 abbrev pub drop_current_text : List ℕ
 drop_current_text = codes "DELETE FROM currents2 WHERE node = ?1 AND time = ?2 AND pico = ?3"
 
 abbrev pub add_current_text : List ℕ
-add_current_text = codes "INSERT INTO currents2 SELECT r.node, r.time, r.pico, r.tick, r.origin, r.asked <> 4, EXISTS (SELECT 1 FROM records2 AS s WHERE s.node = r.node AND s.time = r.time AND s.pico = r.pico AND (s.tick <> r.tick OR s.origin <> r.origin)), r.value FROM records2 AS r WHERE r.node = ?1 AND r.time = ?2 AND r.pico = ?3 AND NOT EXISTS (SELECT 1 FROM records2 AS s WHERE s.node = r.node AND s.time = r.time AND s.pico = r.pico AND s.tick >= r.tick AND (s.tick > r.tick OR s.origin > r.origin))"
+add_current_text =
+    codes "INSERT INTO currents2 SELECT r.node, r.time, r.pico, r.tick, r.origin, r.asked <> 4, EXISTS (SELECT 1 FROM records2 AS s WHERE s.node = r.node AND s.time = r.time AND s.pico = r.pico AND (s.tick <> r.tick OR s.origin <> r.origin)), r.value FROM records2 AS r WHERE r.node = ?1 AND r.time = ?2 AND r.pico = ?3 AND NOT EXISTS (SELECT 1 FROM records2 AS s WHERE s.node = r.node AND s.time = r.time AND s.pico = r.pico AND s.tick >= r.tick AND (s.tick > r.tick OR s.origin > r.origin))"
 
 abbrev pub first_current_text : List ℕ
 first_current_text = codes "INSERT INTO currents2 VALUES (?1, ?2, ?3, ?4, ?5, ?6 <> 4, 0, ?7)"
 
 abbrev pub some_at_text : List ℕ
-some_at_text = codes "SELECT origin FROM records2 WHERE node = ?1 AND time = ?2 AND pico = ?3 LIMIT 1"
+some_at_text = codes
+    "SELECT origin FROM records2 WHERE node = ?1 AND time = ?2 AND pico = ?3 LIMIT 1"
 
 abbrev pub fill_currents_text : List ℕ
-fill_currents_text = codes "INSERT INTO currents2 SELECT r.node, r.time, r.pico, r.tick, r.origin, r.asked <> 4, EXISTS (SELECT 1 FROM records2 AS s WHERE s.node = r.node AND s.time = r.time AND s.pico = r.pico AND (s.tick <> r.tick OR s.origin <> r.origin)), r.value FROM records2 AS r WHERE NOT EXISTS (SELECT 1 FROM records2 AS s WHERE s.node = r.node AND s.time = r.time AND s.pico = r.pico AND s.tick >= r.tick AND (s.tick > r.tick OR s.origin > r.origin))"
+fill_currents_text =
+    codes "INSERT INTO currents2 SELECT r.node, r.time, r.pico, r.tick, r.origin, r.asked <> 4, EXISTS (SELECT 1 FROM records2 AS s WHERE s.node = r.node AND s.time = r.time AND s.pico = r.pico AND (s.tick <> r.tick OR s.origin <> r.origin)), r.value FROM records2 AS r WHERE NOT EXISTS (SELECT 1 FROM records2 AS s WHERE s.node = r.node AND s.time = r.time AND s.pico = r.pico AND s.tick >= r.tick AND (s.tick > r.tick OR s.origin > r.origin))"
 
 abbrev pub add_vector_text : List ℕ
 add_vector_text = codes "INSERT INTO vectors VALUES (?1, ?2, ?3)"
@@ -84,40 +95,50 @@ abbrev pub set_vector_text : List ℕ
 set_vector_text = codes "UPDATE vectors SET origin = ?1, number = ?2, tick = ?3 WHERE origin = ?1"
 
 abbrev pub fill_vectors_text : List ℕ
-fill_vectors_text = codes "INSERT INTO vectors SELECT r.origin, r.number, r.tick FROM records2 AS r WHERE NOT EXISTS (SELECT 1 FROM records2 AS s WHERE s.origin = r.origin AND s.number > r.number)"
+fill_vectors_text =
+    codes "INSERT INTO vectors SELECT r.origin, r.number, r.tick FROM records2 AS r WHERE NOT EXISTS (SELECT 1 FROM records2 AS s WHERE s.origin = r.origin AND s.number > r.number)"
 
 abbrev pub currents_lack_text : List ℕ
-currents_lack_text = codes "SELECT r.origin FROM records2 AS r WHERE NOT EXISTS (SELECT 1 FROM records2 AS s WHERE s.node = r.node AND s.time = r.time AND s.pico = r.pico AND s.tick >= r.tick AND (s.tick > r.tick OR s.origin > r.origin)) AND NOT EXISTS (SELECT 1 FROM currents2 AS c WHERE c.node = r.node AND c.time = r.time AND c.pico = r.pico AND c.tick = r.tick AND c.origin = r.origin AND c.live = (r.asked <> 4) AND c.extra = EXISTS (SELECT 1 FROM records2 AS s WHERE s.node = r.node AND s.time = r.time AND s.pico = r.pico AND (s.tick <> r.tick OR s.origin <> r.origin)) AND c.value = r.value) LIMIT 1"
+currents_lack_text =
+    codes "SELECT r.origin FROM records2 AS r WHERE NOT EXISTS (SELECT 1 FROM records2 AS s WHERE s.node = r.node AND s.time = r.time AND s.pico = r.pico AND s.tick >= r.tick AND (s.tick > r.tick OR s.origin > r.origin)) AND NOT EXISTS (SELECT 1 FROM currents2 AS c WHERE c.node = r.node AND c.time = r.time AND c.pico = r.pico AND c.tick = r.tick AND c.origin = r.origin AND c.live = (r.asked <> 4) AND c.extra = EXISTS (SELECT 1 FROM records2 AS s WHERE s.node = r.node AND s.time = r.time AND s.pico = r.pico AND (s.tick <> r.tick OR s.origin <> r.origin)) AND c.value = r.value) LIMIT 1"
 
 abbrev pub currents_wanted_text : List ℕ
-currents_wanted_text = codes "SELECT r.rowid FROM records2 AS r WHERE NOT EXISTS (SELECT 1 FROM records2 AS s WHERE s.node = r.node AND s.time = r.time AND s.pico = r.pico AND s.tick >= r.tick AND (s.tick > r.tick OR s.origin > r.origin)) ORDER BY r.rowid"
+currents_wanted_text =
+    codes "SELECT r.rowid FROM records2 AS r WHERE NOT EXISTS (SELECT 1 FROM records2 AS s WHERE s.node = r.node AND s.time = r.time AND s.pico = r.pico AND s.tick >= r.tick AND (s.tick > r.tick OR s.origin > r.origin)) ORDER BY r.rowid"
 
 abbrev pub currents_held_text : List ℕ
 currents_held_text = codes "SELECT rowid FROM currents2 ORDER BY rowid"
 
 abbrev pub vectors_lack_text : List ℕ
-vectors_lack_text = codes "SELECT r.origin FROM records2 AS r WHERE NOT EXISTS (SELECT 1 FROM records2 AS s WHERE s.origin = r.origin AND s.number > r.number) AND NOT EXISTS (SELECT 1 FROM vectors AS v WHERE v.origin = r.origin AND v.number = r.number AND v.tick = r.tick) LIMIT 1"
+vectors_lack_text =
+    codes "SELECT r.origin FROM records2 AS r WHERE NOT EXISTS (SELECT 1 FROM records2 AS s WHERE s.origin = r.origin AND s.number > r.number) AND NOT EXISTS (SELECT 1 FROM vectors AS v WHERE v.origin = r.origin AND v.number = r.number AND v.tick = r.tick) LIMIT 1"
 
 abbrev pub vectors_wanted_text : List ℕ
-vectors_wanted_text = codes "SELECT r.rowid FROM records2 AS r WHERE NOT EXISTS (SELECT 1 FROM records2 AS s WHERE s.origin = r.origin AND s.number > r.number) ORDER BY r.rowid"
+vectors_wanted_text =
+    codes "SELECT r.rowid FROM records2 AS r WHERE NOT EXISTS (SELECT 1 FROM records2 AS s WHERE s.origin = r.origin AND s.number > r.number) ORDER BY r.rowid"
 
 abbrev pub vectors_held_text : List ℕ
 vectors_held_text = codes "SELECT origin FROM vectors ORDER BY origin"
 
 abbrev pub lives_after_text : List ℕ
-lives_after_text = codes "SELECT node, time, pico, tick, origin, live, extra, value FROM currents2 WHERE node = ?1 AND time >= ?2 AND (time > ?2 OR pico > ?3) AND time <= ?4 AND (time < ?4 OR pico <= ?5) AND live = 1 ORDER BY time, pico LIMIT ?6"
+lives_after_text =
+    codes "SELECT node, time, pico, tick, origin, live, extra, value FROM currents2 WHERE node = ?1 AND time >= ?2 AND (time > ?2 OR pico > ?3) AND time <= ?4 AND (time < ?4 OR pico <= ?5) AND live = 1 ORDER BY time, pico LIMIT ?6"
 
 abbrev pub lives_before_text : List ℕ
-lives_before_text = codes "SELECT node, time, pico, tick, origin, live, extra, value FROM currents2 WHERE node = ?1 AND time <= ?2 AND (time < ?2 OR pico < ?3) AND time >= ?4 AND (time > ?4 OR pico >= ?5) AND live = 1 ORDER BY time DESC, pico DESC LIMIT ?6"
+lives_before_text =
+    codes "SELECT node, time, pico, tick, origin, live, extra, value FROM currents2 WHERE node = ?1 AND time <= ?2 AND (time < ?2 OR pico < ?3) AND time >= ?4 AND (time > ?4 OR pico >= ?5) AND live = 1 ORDER BY time DESC, pico DESC LIMIT ?6"
 
 abbrev pub records1_text : List ℕ
-records1_text = codes "SELECT origin, number, tick, node, time, 0, asked, who, value FROM records ORDER BY origin, number"
+records1_text = codes
+    "SELECT origin, number, tick, node, time, 0, asked, who, value FROM records ORDER BY origin, number"
 
 abbrev pub currents1_text : List ℕ
-currents1_text = codes "SELECT node, time, 0, tick, origin, live, extra, value FROM currents ORDER BY node, time"
+currents1_text = codes
+    "SELECT node, time, 0, tick, origin, live, extra, value FROM currents ORDER BY node, time"
 
 abbrev pub all_currents_text : List ℕ
-all_currents_text = codes "SELECT node, time, pico, tick, origin, live, extra, value FROM currents2 ORDER BY node, time, pico"
+all_currents_text =
+    codes "SELECT node, time, pico, tick, origin, live, extra, value FROM currents2 ORDER BY node, time, pico"
 
 abbrev pub all_vectors_text : List ℕ
 all_vectors_text = codes "SELECT origin, number, tick FROM vectors ORDER BY origin"

@@ -34,7 +34,8 @@ pub no_time : (row : Row) → ((n : ℤ) → column row 4 ≡ Int n → ⊥) →
 no_time row none r h is = none _ (ap (λ x. column x 4) is)
 
 pub no_pico : (row : Row) → ((n : ℕ) → n < 65536 → column row 5 ≡ Int (pos n) → ⊥) → IsNoRecords row
-no_pico row none r h is = none (pico_of r.time) (omega (arith, pico_within r.time)) (ap (λ x. column x 5) is)
+no_pico row none r h is = none (pico_of r.time) (omega (arith, pico_within r.time))
+    (ap (λ x. column x 5) is)
 
 few_updates : (asked : HistoryUpdateType) → update_number asked < 256
 few_updates Insert = omega arith
@@ -43,19 +44,24 @@ few_updates Update = omega arith
 few_updates Delete = omega arith
 
 pub no_asked : (row : Row) → ((n : ℕ) → n < 256 → column row 6 ≡ Int (pos n) → ⊥) → IsNoRecords row
-no_asked row none r h is = none (update_number r.asked) (few_updates r.asked) (ap (λ x. column x 6) is)
+no_asked row none r h is = none (update_number r.asked) (few_updates r.asked)
+    (ap (λ x. column x 6) is)
 
-pub no_user : (row : Row) → ((b : List ℕ) → IsUtf8 b → length b ≤ 256 → column row 7 ≡ Blob b → ⊥) → IsNoRecords row
-no_user row none r h is = none r.user (IsUtf8-from_is_utf8 r.user h.0.user.1) h.0.user.0 (ap (λ x. column x 7) is)
+pub no_user : (row : Row) → ((b : List ℕ) → IsUtf8 b → length b ≤ 256 → column row 7 ≡ Blob b → ⊥)
+    → IsNoRecords row
+no_user row none r h is = none r.user (IsUtf8-from_is_utf8 r.user h.0.user.1) h.0.user.0
+    (ap (λ x. column x 7) is)
 
 pub no_value : (row : Row) → ((b : List ℕ) → column row 8 ≡ Blob b → ⊥) → IsNoRecords row
 no_value row none r h is = none _ (ap (λ x. column x 8) is)
 
 -- the row spells nothing, and so it is no record's
 pub no_spelling : (row : Row) (e : RecordFault) → record_at (spelled row) ≡ Err e → IsNoRecords row
-no_spelling row e fails r h is = let both : Ok r ≡ Err e = sym (read_back r h) ∙ sym (ap record_at (ap spelled is)) ∙ fails in absurd (search rules)
+no_spelling row e fails r h is = let both : Ok r ≡ Err e =
+    sym (read_back r h) ∙ sym (ap record_at (ap spelled is)) ∙ fails in absurd (search rules)
 
-pub unread_by : (row : Row) (e : RecordFault) → ((e ≡ OutOfMemory → ⊥) → record_at (spelled row) ≡ Err e) → (e ≡ OutOfMemory) ⊎ IsNoRecords row
+pub unread_by : (row : Row) (e : RecordFault) → ((e ≡ OutOfMemory → ⊥)
+    → record_at (spelled row) ≡ Err e) → (e ≡ OutOfMemory) ⊎ IsNoRecords row
 unread_by row Binary fails = inr (no_spelling row Binary (fails (λ e. search rules)))
 unread_by row BadField fails = inr (no_spelling row BadField (fails (λ e. search rules)))
 unread_by row NotCanonical fails = inr (no_spelling row NotCanonical (fails (λ e. search rules)))
@@ -67,16 +73,25 @@ has_at (x ∷ xs) zero d h = inl refl
 has_at (x ∷ xs) (suc i) d h = inr (has_at xs i d (omega (arith, h)))
 
 -- one of some rows isn't read
-pub has_unread : (rows : List Row) (i : ℕ) (row : Row) (e : RecordFault) → i < length rows → row ≡ get_or rows i row → (e ≡ OutOfMemory) ⊎ IsNoRecords row → (e ≡ OutOfMemory) ⊎ HasNoRecords rows
+pub has_unread : (rows : List Row) (i : ℕ) (row : Row) (e : RecordFault) → i < length rows
+    → row ≡ get_or rows i row → (e ≡ OutOfMemory) ⊎ IsNoRecords row
+    → (e ≡ OutOfMemory) ⊎ HasNoRecords rows
 has_unread rows i row e within is (inl memory) = inl memory
 has_unread rows i row e within is (inr none) = inr (row, rw is (has_at rows i row within), none)
 
 -- a row more is read
-pub read_more : (rows : List Row) (i : ℕ) (row : Row) (r : Record) (all new : List Record) → i < length rows → row ≡ get_or rows i row → all ≡ flat_map records_in (take i rows) → records_in row ≡ r ∷ []
+pub read_more : (rows : List Row) (i : ℕ) (row : Row) (r : Record) (all new : List Record)
+    → i < length rows → row ≡ get_or rows i row → all ≡ flat_map records_in (take i rows)
+    → records_in row ≡ r ∷ []
     → new ≡ all ++ r ∷ [] → new ≡ flat_map records_in (take (i + 1) rows)
-read_more rows i row r all new within is was one e = e ∙ ap (λ xs. xs ++ r ∷ []) was ∙ sym (subst (λ k. flat_map records_in (take k rows) ≡ flat_map records_in (take i rows) ++ r ∷ []) (sym (add-one i)) step)
+read_more rows i row r all new within is was one e =
+    e ∙ ap (λ xs. xs ++ r ∷ []) was
+    ∙ sym (subst (λ k. flat_map records_in (take k rows)
+    ≡ flat_map records_in (take i rows) ++ r ∷ []) (sym (add-one i)) step)
   where
     step : flat_map records_in (take (suc i) rows) ≡ flat_map records_in (take i rows) ++ r ∷ []
     step =
-        ap (flat_map records_in) (take-suc rows i row within) ∙ flat_map-append records_in (take i rows) (get_or rows i row ∷ [])
-        ∙ ap (λ xs. flat_map records_in (take i rows) ++ xs) (append-nil (records_in (get_or rows i row)) ∙ ap records_in (sym is) ∙ one)
+        ap (flat_map records_in) (take-suc rows i row within)
+        ∙ flat_map-append records_in (take i rows) (get_or rows i row ∷ [])
+        ∙ ap (λ xs. flat_map records_in (take i rows) ++ xs)
+        (append-nil (records_in (get_or rows i row)) ∙ ap records_in (sym is) ∙ one)

@@ -25,7 +25,8 @@ named_parts v = elim v [ Named ns name ↦ (ns, Some name) | _ ↦ (0, None) ]
 abbrev pub opaque_parts : NodeId → ℕ × Option (List ℕ)
 opaque_parts v = elim v [ Opaque ns id ↦ (ns, Some id) | _ ↦ (0, None) ]
 
--- the forms of node ids: of namespace 0 in two bytes, in four bytes, of any numbers, and with a Guid
+-- the forms of node ids: of namespace 0 in two bytes, in four bytes, of any numbers, and with a
+-- Guid
 abbrev pub two_byte_node : Format BinaryFault NodeId
 two_byte_node = standing_for (λ id. Numeric 0 id) (λ v. (numeric_parts v).1) byte
 
@@ -36,7 +37,8 @@ abbrev pub numeric_node : Format BinaryFault NodeId
 numeric_node = standing_for (λ p. Numeric p.0 p.1) numeric_parts (unsigned w16 ▸ unsigned w32)
 
 abbrev pub global_node : Format BinaryFault NodeId
-global_node = standing_for (λ p. Global p.0 p.1) (λ v. elim v [ Global ns id ↦ (ns, id) | _ ↦ (0, guid_of (0, (0, (0, [])))) ]) (unsigned w16 ▸ guid)
+global_node = standing_for (λ p. Global p.0 p.1) (λ v.
+    elim v [ Global ns id ↦ (ns, id) | _ ↦ (0, guid_of (0, (0, (0, [])))) ]) (unsigned w16 ▸ guid)
 
 -- 1 for a locale and 2 for a text
 abbrev pub localized_mask : LocalizedText → ℕ
@@ -44,7 +46,12 @@ localized_mask v = (if is_some v.locale then 1 else 0) + (if is_some v.text then
 
 -- what follows a count: as many bytes; nothing after -1, which is null; below -1 it is no count
 abbrev pub counted : ℤ → Format BinaryFault (Option (List ℕ))
-counted v = elim v [ pos n ↦ flagged true (block n) | negsuc zero ↦ nothing None | negsuc (suc n) ↦ no_format BadLength ]
+counted v = elim v [
+  | pos n ↦ flagged true (block n)
+  | negsuc zero ↦ nothing None
+  | negsuc (suc n) ↦
+      no_format BadLength
+]
 
 -- the count that is written
 abbrev pub count_of : Option (List ℕ) → ℤ
@@ -52,7 +59,12 @@ count_of given = elim given [ None ↦ negsuc 0 | Some bytes ↦ pos (length byt
 
 -- as many items as a number tells; told says how a fault of the encoding is told
 abbrev pub counted_items : {E A : Type 0} → (BinaryFault → E) → Format E A → ℤ → Format E (List A)
-counted_items told f v = elim v [ pos n ↦ at_least n (told Short) (items n f) | negsuc zero ↦ nothing [] | negsuc (suc n) ↦ no_format (told BadLength) ]
+counted_items told f v = elim v [
+  | pos n ↦ at_least n (told Short) (items n f)
+  | negsuc zero ↦
+      nothing []
+  | negsuc (suc n) ↦ no_format (told BadLength)
+]
 
 -- the kind that is written
 abbrev pub body_kind : Body → ℕ
@@ -62,13 +74,17 @@ body_kind body = elim body [ Absent ↦ 0 | Binary b ↦ 1 | Xml b ↦ 2 ]
 abbrev pub localized_fields : ℕ → Format BinaryFault LocalizedText
 localized_fields mask =
     chosen (nat_lt 3 mask) (no_format BadEncodingByte) (
-    standing_for (λ p. record { locale = option_flatten p.0; text = option_flatten p.1 }) (λ v. (option_map Some v.locale, option_map Some v.text))
+    standing_for (λ p. record { locale = option_flatten p.0; text = option_flatten p.1 })
+    (λ v. (option_map Some v.locale, option_map Some v.text))
     (flagged (not (bit_and mask 1 == 0)) text ▸ flagged (not (bit_and mask 2 == 0)) text))
 
--- what the kind of a body calls for: a ByteString in the binary encoding, or the bytes of an XML text; a null one is empty
+-- what the kind of a body calls for: a ByteString in the binary encoding, or the bytes of an XML
+-- text; a null one is empty
 abbrev pub body_form : ℕ → Format BinaryFault Body
 body_form kind =
     chosen (kind == 0) (nothing Absent) (
-    chosen (kind == 1) (standing_for (λ b. Binary (unwrap_or b [])) (λ v. elim v [ Binary b ↦ Some b | _ ↦ None ]) byte_string) (
-    chosen (kind == 2) (standing_for (λ b. Xml (unwrap_or b [])) (λ v. elim v [ Xml b ↦ Some b | _ ↦ None ]) byte_string) (
+    chosen (kind == 1) (standing_for (λ b. Binary (unwrap_or b []))
+    (λ v. elim v [ Binary b ↦ Some b | _ ↦ None ]) byte_string) (
+    chosen (kind == 2) (standing_for (λ b. Xml (unwrap_or b []))
+    (λ v. elim v [ Xml b ↦ Some b | _ ↦ None ]) byte_string) (
     no_format BadEncodingByte)))

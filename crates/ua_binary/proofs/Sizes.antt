@@ -25,7 +25,11 @@ count_length n = refl
 
 pub byte_string_length : (b : List ℕ) → length (byte_string.canon (Some b)) ≡ 4 + length b
 unfolding byte_string
-byte_string_length b = omega (arith, length-append ((signed w32).canon (pos (length b))) b, count_length (length b))
+byte_string_length b = omega (
+  arith,
+  length-append ((signed w32).canon (pos (length b))) b,
+  count_length (length b),
+)
 
 pub no_byte_string_length : length (byte_string.canon None) ≡ 4
 unfolding byte_string signed unsigned
@@ -43,11 +47,25 @@ pub guid_length : (g : Guid) → length (guid.canon g) ≡ 8 + length g.last
 unfolding guid unsigned
 guid_length g = omega arith
 
-pub array_length : {E A : Type 0} (told : BinaryFault → E) (f : Format E A) (vs : List A) → length ((array told f).canon vs) ≡ 4 + length (flat_map f.canon vs)
+pub array_length : {E A : Type 0} (told : BinaryFault → E) (f : Format E A) (vs : List A)
+    → length ((array told f).canon vs) ≡ 4 + length (flat_map f.canon vs)
 unfolding array
-array_length told f vs = omega (arith, length-append ((signed w32).canon (pos (length vs))) (flat_map f.canon vs), count_length (length vs))
+array_length told f vs = omega (
+  arith,
+  length-append ((signed w32).canon (pos (length vs))) (flat_map f.canon vs),
+  count_length (length vs),
+)
 
-pub ruleset sizes = (count_length, byte_string_length, no_byte_string_length, text_length, no_text_length, guid_length, array_length, length-append)
+pub ruleset sizes = (
+  count_length,
+  byte_string_length,
+  no_byte_string_length,
+  text_length,
+  no_text_length,
+  guid_length,
+  array_length,
+  length-append,
+)
 
 -- ---- what has few bytes is few enough to be counted
 
@@ -77,12 +95,20 @@ pub qualified_short : (v : QualifiedName) → length (qualified.canon v) < 2 ^ 3
 unfolding qualified unsigned
 qualified_short v h = text_short v.name (omega (arith, h))
 
-localized_parts : (l t : Option (List ℕ)) → let v : LocalizedText = record { locale = l; text = t } in length (localized.canon v) < 2 ^ 31 → IsCounted l × IsCounted t
+localized_parts : (l t : Option (List ℕ)) → let v : LocalizedText =
+    record { locale = l; text = t } in length (localized.canon v) < 2 ^ 31
+    → IsCounted l × IsCounted t
 unfolding localized
 localized_parts None None h = (tt, tt)
 localized_parts None (Some t) h = (tt, omega (arith, h, text_length t))
-localized_parts (Some l) None h = (omega (arith, h, text_length l, length-append (text.canon (Some l)) []), tt)
-localized_parts (Some l) (Some t) h = let both = length-append (text.canon (Some l)) (text.canon (Some t)) in (omega (arith, h, text_length l, both), omega (arith, h, text_length t, both))
+localized_parts (Some l) None h = (
+  omega
+      (arith, h, text_length l, length-append (text.canon (Some l)) []),
+  tt,
+)
+localized_parts (Some l) (Some t) h = let both =
+    length-append (text.canon (Some l)) (text.canon (Some t)) in
+    (omega (arith, h, text_length l, both), omega (arith, h, text_length t, both))
 
 pub localized_short : (v : LocalizedText) → length (localized.canon v) < 2 ^ 31 → IsShortLocalized v
 localized_short v h = localized_parts v.locale v.text h
@@ -92,13 +118,21 @@ body_short Absent h = tt
 body_short (Binary b) h = omega (arith, h, byte_string_length b)
 body_short (Xml b) h = omega (arith, h, byte_string_length b)
 
-pub extension_short : (v : ExtensionObject) → length (extension.canon v) < 2 ^ 31 → IsShortNode v.type_id × IsBody v.body
+pub extension_short : (v : ExtensionObject) → length (extension.canon v) < 2 ^ 31
+    → IsShortNode v.type_id × IsBody v.body
 unfolding extension
 extension_short v h =
     let both = length-append (node_id.canon v.type_id) (body.canon v.body) in
     (node_short v.type_id (omega (arith, h, both)), body_short v.body (omega (arith, h, both)))
 
-pub ruleset short = (byte_string_short, text_short, node_short, qualified_short, localized_short, extension_short)
+pub ruleset short = (
+  byte_string_short,
+  text_short,
+  node_short,
+  qualified_short,
+  localized_short,
+  extension_short,
+)
 
 -- a byte at least is written of it
 abbrev pub IsSome : {E A V : Type 0} → (V → A) → Format E A → V → Type 0
@@ -108,15 +142,24 @@ IsSome view f v = 0 < length (f.canon (view v))
 abbrev pub IsShort : {E A V : Type 0} → (V → Type 0) → (V → A) → Format E A → V → Type 0
 IsShort P view f v = length (f.canon (view v)) < 2 ^ 31 → P v
 
-items_short : {E A V : Type 0} (P : V → Type 0) (view : V → A) (f : Format E A) (vs : List V) → AllByRecursion (IsSome view f) vs → AllByRecursion (IsShort P view f) vs → length (flat_map f.canon (map view vs)) < 2 ^ 31 → (length vs ≤ length (flat_map f.canon (map view vs))) × All P vs
+items_short : {E A V : Type 0} (P : V → Type 0) (view : V → A) (f : Format E A) (vs : List V)
+    → AllByRecursion (IsSome view f) vs → AllByRecursion (IsShort P view f) vs
+    → length (flat_map f.canon (map view vs)) < 2 ^ 31
+    → (length vs ≤ length (flat_map f.canon (map view vs))) × All P vs
 items_short P view f [] some short h = (omega arith, All-nil P)
 items_short P view f (v ∷ vs) some short h =
-    let both : length (flat_map f.canon (map view (v ∷ vs))) ≡ length (f.canon (view v)) + length (flat_map f.canon (map view vs)) = ap length (flat_map-cons f.canon (view v) (map view vs)) ∙ length-append (f.canon (view v)) (flat_map f.canon (map view vs)) in
+    let both : length (flat_map f.canon (map view (v ∷ vs)))
+    ≡ length (f.canon (view v)) + length (flat_map f.canon (map view vs)) =
+    ap length (flat_map-cons f.canon (view v) (map view vs))
+    ∙ length-append (f.canon (view v)) (flat_map f.canon (map view vs)) in
     let rest = items_short P view f vs some.1 short.1 (omega (arith, h, both)) in
     (omega (arith, both, rest.0, some.0), All-cons P v vs (short.0 (omega (arith, h, both))) rest.1)
 
-pub array_short : {E A V : Type 0} (told : BinaryFault → E) (P : V → Type 0) (view : V → A) (f : Format E A) (vs : List V) → All (IsSome view f) vs → All (IsShort P view f) vs → length ((array told f).canon (map view vs)) < 2 ^ 31 → (length vs < 2 ^ 31) × All P vs
+pub array_short : {E A V : Type 0} (told : BinaryFault → E) (P : V → Type 0) (view : V → A)
+    (f : Format E A) (vs : List V) → All (IsSome view f) vs → All (IsShort P view f) vs
+    → length ((array told f).canon (map view vs)) < 2 ^ 31 → (length vs < 2 ^ 31) × All P vs
 array_short told P view f vs some short h =
     let len = array_length told f (map view vs) in
-    let each = items_short P view f vs (recursion_from_All (IsSome view f) vs some) (recursion_from_All (IsShort P view f) vs short) (omega (arith, h, len)) in
+    let each = items_short P view f vs (recursion_from_All (IsSome view f) vs some)
+    (recursion_from_All (IsShort P view f) vs short) (omega (arith, h, len)) in
     (omega (arith, h, len, each.0), each.1)

@@ -35,7 +35,7 @@ use Rattle.counted_io.specs.declared.fault.ServeFault.TheVariants.{Read, Write, 
 use Rattle.ua_connection.specs.declared.outcome.Served.TheVariants.{EndOfInput, Closed, Refused}
 use Rattle.ua_connection.specs.Environments.{Environment, before, WithEnvironment, by_marks, or_out_of_memory, clock}
 use Rattle.ua_connection.specs.Run.{Reply, stream_answered, joined, AnswersStream}
-use Rattle.ua_connection.specs.Client.{ClientState, Item, whole, ill, partial, Ending, Answering, ends, goes, refuse, acknowledged, greeted, opened, outcome_response, responded, answer_to_taken, placed_answer, channel_chunk_answer, chunk_answer, item_answer, answer, found, chunks, next}
+use Rattle.ua_connection.specs.Client.{ClientState, Item, whole, malformed, partial, Ending, Answering, ends, goes, refuse, acknowledged, greeted, opened, outcome_response, responded, answer_to_taken, placed_answer, channel_chunk_answer, chunk_answer, item_answer, answer, found, chunks, next}
 use Rattle.ua_connection.specs.Serving.{new_standing, IsServed}
 use Rattle.ua_connection.specs.Conversation.{limits_by, IsGranted, opening_behind, had, well_placed_answer, answer_behind, counted_chunk_answer, taken_with, channel_answer, rest_answer, chunks_answer, Chunked, stream_answer, IsConversed}
 use Rattle.ua_connection.proofs.RunParts.{joined_by}
@@ -120,39 +120,39 @@ open-leaves standing state past request knows =
     (λ marks readings. leaves-goes standing _ _ past knows)
     (refuse-leaves standing.client.limit past standing BAD_OUT_OF_MEMORY))
 
-message-leaves : (site : ServerConfig) (standing : ClientState) (state : ChannelState)
+message-leaves : (config : ServerConfig) (standing : ClientState) (state : ChannelState)
     (past : List Placed) (request : ℕ) (message : List ℕ) → state.heard ≡ heard_of past
     → Leaving standing.client.limit past (and_then clock
-    (responded site standing state request message))
-message-leaves site standing state past request message knows =
-    then-leaves standing.client.limit past clock (responded site standing state request message)
+    (responded config standing state request message))
+message-leaves config standing state past request message knows =
+    then-leaves standing.client.limit past clock (responded config standing state request message)
     (λ now. then-leaves standing.client.limit past
-    (by_marks (performed site now message standing.client.sessions standing.content))
+    (by_marks (performed config now message standing.client.sessions standing.content))
     (outcome_response standing state request message now)
     (λ outcome. told-leaves standing state past request message now outcome knows))
 
-well-leaves : (site : ServerConfig) (standing : ClientState) (state : ChannelState)
+well-leaves : (config : ServerConfig) (standing : ClientState) (state : ChannelState)
     (past : List Placed) (placed : Placed) → state.heard ≡ heard_of (placed ∷ past)
     → Leaving standing.client.limit (placed ∷ past)
-    (well_placed_answer site standing state past placed)
-well-leaves site standing state past (Opens sequence asked) knows =
+    (well_placed_answer config standing state past placed)
+well-leaves config standing state past (Opens sequence asked) knows =
     open-leaves standing state (Opens sequence asked ∷ past)
     (opening_behind past sequence.1 asked.handle asked.lifetime) knows
-well-leaves site standing state past (Says Final numbers body) knows =
-    message-leaves site standing state (Says Final numbers body ∷ past) numbers.request_id
+well-leaves config standing state past (Says Final numbers body) knows =
+    message-leaves config standing state (Says Final numbers body ∷ past) numbers.request_id
     (bodies_of (open_run past) ++ body) knows
-well-leaves site standing state past (Says More numbers body) knows =
+well-leaves config standing state past (Says More numbers body) knows =
     λ marks readings. leaves-goes standing [] state (Says More numbers body ∷ past) knows
-well-leaves site standing state past (Says Abort numbers body) knows =
+well-leaves config standing state past (Says Abort numbers body) knows =
     λ marks readings. leaves-goes standing [] state (Says Abort numbers body ∷ past) knows
-well-leaves site standing state past (Closes numbers) knows =
+well-leaves config standing state past (Closes numbers) knows =
     λ marks readings. leaves-end standing.client.limit (Closes numbers ∷ past) standing [] _
 
 -- the answer to a judged chunk, and the chunks that were taken with it
 abbrev answered_judged : ServerConfig → List Placed → ClientState → ChannelState
     → Result Placed ChannelFault → Answering
-answered_judged site past standing state given = elim given [
-  | Ok placed ↦ well_placed_answer site standing
+answered_judged config past standing state given = elim given [
+  | Ok placed ↦ well_placed_answer config standing
       (record state { heard = heard_of (placed ∷ past) }) past placed
   | Err fault ↦ refuse standing (channel.channel_fault_status fault)
 ]
@@ -160,95 +160,96 @@ answered_judged site past standing state given = elim given [
 abbrev with_placed : List Placed → Result Placed ChannelFault → List Placed
 with_placed past given = elim given [ Ok placed ↦ placed ∷ past | Err fault ↦ past ]
 
-judged-leaves : (site : ServerConfig) (standing : ClientState) (state : ChannelState)
+judged-leaves : (config : ServerConfig) (standing : ClientState) (state : ChannelState)
     (past : List Placed) (given : Result Placed ChannelFault)
     → Leaving standing.client.limit (with_placed past given)
-    (answered_judged site past standing state given)
-judged-leaves site standing state past (Ok placed) =
-    well-leaves site standing (record state { heard = heard_of (placed ∷ past) }) past placed refl
-judged-leaves site standing state past (Err fault) =
+    (answered_judged config past standing state given)
+judged-leaves config standing state past (Ok placed) =
+    well-leaves config standing (record state { heard = heard_of (placed ∷ past) }) past placed refl
+judged-leaves config standing state past (Err fault) =
     refuse-leaves standing.client.limit past standing (channel.channel_fault_status fault)
 
 -- the answer over a channel, if there is one
 abbrev answered_over : ServerConfig → List Placed → ClientState → ChunkContent → Option ChannelState
     → Answering
-answered_over site past standing piece given =
+answered_over config past standing piece given =
     elim given [
       | None ↦ refuse standing BAD_TCP_MESSAGE_TYPE_INVALID
       | Some state ↦
-          answer_behind site past standing state piece
+          answer_behind config past standing state piece
     ]
 
-over-leaves : (site : ServerConfig) (standing : ClientState) (past : List Placed)
+over-leaves : (config : ServerConfig) (standing : ClientState) (past : List Placed)
     (piece : ChunkContent) (given : Option ChannelState)
     → Leaving standing.client.limit (taken_with past piece)
-    (answered_over site past standing piece given)
-over-leaves site standing past piece None =
+    (answered_over config past standing piece given)
+over-leaves config standing past piece None =
     refuse-leaves standing.client.limit
     (taken_with past piece) standing BAD_TCP_MESSAGE_TYPE_INVALID
-over-leaves site standing past piece (Some state) =
-    judged-leaves site standing state past (placed_chunk (heard_of past) piece)
+over-leaves config standing past piece (Some state) =
+    judged-leaves config standing state past (placed_chunk (heard_of past) piece)
 
 either-leaves : (limit : ℕ) (past : List Placed) (test : Bool) (f g : Answering)
     → Leaving limit past f → Leaving limit past g → Leaving limit past (if test then f else g)
 either-leaves limit past true f g a b = a
 either-leaves limit past false f g a b = b
 
-next-leaves : (site : ServerConfig) (standing : ClientState) (past : List Placed)
+next-leaves : (config : ServerConfig) (standing : ClientState) (past : List Placed)
     (piece : ChunkContent) → Leaving standing.client.limit (taken_with past piece)
-    (had standing (counted_chunk_answer site past standing piece))
-next-leaves site standing past piece =
+    (had standing (counted_chunk_answer config past standing piece))
+next-leaves config standing past piece =
     let limit = standing.client.limit in
     let all = taken_with past piece in
     made-leaves limit all _ _
     (either-leaves limit all (standing.client.taken == 1000000) _ _
     (λ marks readings. leaves-end limit all standing [] (Err TooLong))
-    (over-leaves site standing past piece standing.client.channel))
+    (over-leaves config standing past piece standing.client.channel))
     (refuse-leaves limit all standing BAD_OUT_OF_MEMORY)
 
 -- ---- the same answers
 
 -- a well placed chunk comes to its answer
-well-same : (site : ServerConfig) (standing : ClientState) (state : ChannelState)
+well-same : (config : ServerConfig) (standing : ClientState) (state : ChannelState)
     (past : List Placed) (placed : Placed)
-    → answer_to_taken site standing state (taken_answer (heard_of past) placed)
-    ≡ well_placed_answer site standing state past placed
-well-same site standing state past (Opens sequence asked) = refl
-well-same site standing state past (Says Final numbers body) = refl
-well-same site standing state past (Says More numbers body) = refl
-well-same site standing state past (Says Abort numbers body) = refl
-well-same site standing state past (Closes numbers) = refl
+    → answer_to_taken config standing state (taken_answer (heard_of past) placed)
+    ≡ well_placed_answer config standing state past placed
+well-same config standing state past (Opens sequence asked) = refl
+well-same config standing state past (Says Final numbers body) = refl
+well-same config standing state past (Says More numbers body) = refl
+well-same config standing state past (Says Abort numbers body) = refl
+well-same config standing state past (Closes numbers) = refl
 
-judged-same : (site : ServerConfig) (standing : ClientState) (state : ChannelState)
+judged-same : (config : ServerConfig) (standing : ClientState) (state : ChannelState)
     (past : List Placed) (given : Result Placed ChannelFault)
-    → placed_answer site standing (record state { heard = heard_of past }) given
-    ≡ answered_judged site past standing state given
-judged-same site standing state past (Ok placed) =
-    ap (λ (h : Heard). answer_to_taken site standing (record state { heard = h })
+    → placed_answer config standing (record state { heard = heard_of past }) given
+    ≡ answered_judged config past standing state given
+judged-same config standing state past (Ok placed) =
+    ap (λ (h : Heard). answer_to_taken config standing (record state { heard = h })
     (taken_answer (heard_of past) placed)) (after-heard past placed)
-    ∙ well-same site standing (record state { heard = heard_of (placed ∷ past) }) past placed
-judged-same site standing state past (Err fault) = refl
+    ∙ well-same config standing (record state { heard = heard_of (placed ∷ past) }) past placed
+judged-same config standing state past (Err fault) = refl
 
 -- over a channel that knows these chunks
-over-same : (site : ServerConfig) (standing : ClientState) (past : List Placed)
+over-same : (config : ServerConfig) (standing : ClientState) (past : List Placed)
     (piece : ChunkContent) (given : Option ChannelState)
     → ((state : ChannelState) → given ≡ Some state → state.heard ≡ heard_of past)
-    → channel_chunk_answer site standing given piece ≡ answered_over site past standing piece given
-over-same site standing past piece None knows = refl
-over-same site standing past piece (Some state) knows =
-    ap (λ (h : Heard). placed_answer site standing (record state { heard = h })
+    → channel_chunk_answer config standing given piece
+    ≡ answered_over config past standing piece given
+over-same config standing past piece None knows = refl
+over-same config standing past piece (Some state) knows =
+    ap (λ (h : Heard). placed_answer config standing (record state { heard = h })
     (placed_chunk h piece)) (knows state refl)
-    ∙ judged-same site standing state past (placed_chunk (heard_of past) piece)
+    ∙ judged-same config standing state past (placed_chunk (heard_of past) piece)
 
 -- a chunk of the channel is answered by its place
-next-same : (site : ServerConfig) (standing : ClientState) (past : List Placed)
+next-same : (config : ServerConfig) (standing : ClientState) (past : List Placed)
     (piece : ChunkContent) → Knows standing past → (piece.kind ≡ Hello → ⊥)
-    → item_answer site standing (whole piece) ≡ counted_chunk_answer site past standing piece
-next-same site standing past piece knows other =
+    → item_answer config standing (whole piece) ≡ counted_chunk_answer config past standing piece
+next-same config standing past piece knows other =
     ap (λ (f : Answering). if standing.client.taken == 1000000 then give
     (ends standing [] (Err TooLong)) else f)
-    (tried-same site standing piece.kind piece other
-    ∙ over-same site standing past piece standing.client.channel knows)
+    (tried-same config standing piece.kind piece other
+    ∙ over-same config standing past piece standing.client.channel knows)
 
 -- ---- what goes on
 
@@ -296,35 +297,37 @@ always-alone f later outside always = go (f outside).0.ending refl
 -- ---- the rest
 
 -- what stands first always ends the connection
-item-ends : (site : ServerConfig) (standing : ClientState) (bytes : List ℕ) (item : Item × ℕ)
-    (outside : Environment) → next standing bytes ≡ Some item → Always (answer site standing item.0)
-    → stream_answered (chunks site) standing bytes outside ≡ answer site standing item.0 outside
-item-ends site standing bytes item outside stands always =
-    first_item site standing bytes item outside stands
-    ∙ always-alone (answer site standing item.0)
-    (λ reply. stream_answered (chunks site) reply.state (drop item.1 bytes)) outside always
+item-ends : (config : ServerConfig) (standing : ClientState) (bytes : List ℕ) (item : Item × ℕ)
+    (outside : Environment) → next standing bytes ≡ Some item
+    → Always (answer config standing item.0)
+    → stream_answered (chunks config) standing bytes outside ≡ answer config standing item.0 outside
+item-ends config standing bytes item outside stands always =
+    first_item config standing bytes item outside stands
+    ∙ always-alone (answer config standing item.0)
+    (λ reply. stream_answered (chunks config) reply.state (drop item.1 bytes)) outside always
 
 no-fault : (greeted : Bool) (limit : ℕ) (fault : UacpFault)
     → chunk_header greeted limit [] ≡ Err fault → ⊥
 no-fault greeted limit fault cuts = let long = cut-fault greeted limit [] fault cuts in
     omega (arith, long)
 
-rest-answered : (site : ServerConfig) (standing : ClientState) (rest : List ℕ)
+rest-answered : (config : ServerConfig) (standing : ClientState) (rest : List ℕ)
     (fault : Option UacpFault) (outside : Environment)
     → IsRest standing.client.greeted standing.client.limit rest fault
-    → stream_answered (chunks site) standing rest outside ≡ rest_answer fault rest standing outside
-rest-answered site standing [] None outside ends_so = no_item site standing [] outside refl
-rest-answered site standing (b ∷ bytes) None outside ends_so =
-    item-ends site standing (b ∷ bytes) (partial, length (b ∷ bytes)) outside
+    → stream_answered (chunks config) standing rest outside
+    ≡ rest_answer fault rest standing outside
+rest-answered config standing [] None outside ends_so = no_item config standing [] outside refl
+rest-answered config standing (b ∷ bytes) None outside ends_so =
+    item-ends config standing (b ∷ bytes) (partial, length (b ∷ bytes)) outside
     (next-some standing (b ∷ bytes) (omega arith)
     ∙ ap (λ o. Some (found (b ∷ bytes) o))
     (rest-cut standing.client.greeted standing.client.limit (b ∷ bytes) None ends_so))
     (made-always _ _ (λ marks readings. (_, refl)) (refuse-always standing BAD_OUT_OF_MEMORY))
-rest-answered site standing [] (Some fault) outside ends_so =
+rest-answered config standing [] (Some fault) outside ends_so =
     absurd (no-fault standing.client.greeted standing.client.limit fault
     (rest-cut standing.client.greeted standing.client.limit [] (Some fault) ends_so))
-rest-answered site standing (b ∷ bytes) (Some fault) outside ends_so =
-    item-ends site standing (b ∷ bytes) (ill fault, length (b ∷ bytes)) outside
+rest-answered config standing (b ∷ bytes) (Some fault) outside ends_so =
+    item-ends config standing (b ∷ bytes) (malformed fault, length (b ∷ bytes)) outside
     (next-some standing (b ∷ bytes) (omega arith)
     ∙ ap (λ o. Some (found (b ∷ bytes) o))
     (rest-cut standing.client.greeted standing.client.limit (b ∷ bytes) (Some fault) ends_so))
@@ -353,56 +356,57 @@ may-not Close letter may is = cc
 may-not Message letter may is = cc
 
 -- a chunk stands first, and its answer is known; behind it the rest is answered so
-chunk-answered : (site : ServerConfig) (standing : ClientState) (piece : ChunkContent)
+chunk-answered : (config : ServerConfig) (standing : ClientState) (piece : ChunkContent)
     (chunk more : List ℕ) (f : Answering) (later : ClientState → Answering) (outside : Environment)
     → IsChunk standing.client.greeted standing.client.limit piece chunk
-    → item_answer site standing (whole piece) ≡ f
+    → item_answer config standing (whole piece) ≡ f
     → ((had standing f outside).0.ending ≡ None
-    → stream_answered (chunks site) (had standing f outside).0.state more (had standing f outside).1
+    → stream_answered (chunks config) (had standing f outside).0.state more
+    (had standing f outside).1
     ≡ later (had standing f outside).0.state (had standing f outside).1)
-    → stream_answered (chunks site) standing (chunk ++ more) outside
+    → stream_answered (chunks config) standing (chunk ++ more) outside
     ≡ and_then (had standing f) (λ reply. joined (later reply.state) reply) outside
-chunk-answered site standing piece chunk more f later outside one is behind =
+chunk-answered config standing piece chunk more f later outside one is behind =
     let r = had standing f outside in
-    first_item site standing (chunk ++ more) (whole piece, length chunk) outside
+    first_item config standing (chunk ++ more) (whole piece, length chunk) outside
     (stands-first standing piece chunk more one)
     ∙ ap (λ (g : Answering). and_then (had standing g)
-    (λ reply. joined (stream_answered (chunks site) reply.state
+    (λ reply. joined (stream_answered (chunks config) reply.state
     (drop (length chunk) (chunk ++ more))) reply) outside) is
-    ∙ ap (λ (b : List ℕ). joined (stream_answered (chunks site) r.0.state b) r.0 r.1)
+    ∙ ap (λ (b : List ℕ). joined (stream_answered (chunks config) r.0.state b) r.0 r.1)
     (drop-append_seam chunk more)
-    ∙ joined-on r.0 (stream_answered (chunks site) r.0.state more) (later r.0.state) r.1 behind
+    ∙ joined-on r.0 (stream_answered (chunks config) r.0.state more) (later r.0.state) r.1 behind
 
 -- ---- the chunks of the channel
 
-channel-answered : (site : ServerConfig) (granted : ℕ) (rest : List ℕ) (fault : Option UacpFault)
+channel-answered : (config : ServerConfig) (granted : ℕ) (rest : List ℕ) (fault : Option UacpFault)
     (pieces : List ChunkContent) (past : List Placed) (standing : ClientState) (bytes : List ℕ)
     (outside : Environment)
     → AreChunks true (λ k. granted) bytes pieces rest → IsRest true granted rest fault
     → standing.client.greeted ≡ true → standing.client.limit ≡ granted → Knows standing past
-    → stream_answered (chunks site) standing bytes outside
-    ≡ channel_answer site (rest_answer fault rest) past standing pieces outside
-channel-answered site granted rest fault [] past standing bytes outside are ends_so greets limits
+    → stream_answered (chunks config) standing bytes outside
+    ≡ channel_answer config (rest_answer fault rest) past standing pieces outside
+channel-answered config granted rest fault [] past standing bytes outside are ends_so greets limits
     knows =
     let P : Bool → Type 0 = λ g. IsRest g standing.client.limit rest fault in
     let Q : ℕ → Type 0 = λ l. IsRest true l rest fault in
-    ap (λ (b : List ℕ). stream_answered (chunks site) standing b outside) are
-    ∙ rest-answered site standing rest fault outside
+    ap (λ (b : List ℕ). stream_answered (chunks config) standing b outside) are
+    ∙ rest-answered config standing rest fault outside
     (subst P (sym greets) (subst Q (sym limits) ends_so))
-channel-answered site granted rest fault (piece ∷ pieces) past standing bytes outside
+channel-answered config granted rest fault (piece ∷ pieces) past standing bytes outside
     (chunk, more, is, one, later) ends_so greets limits knows =
     let P : Bool → Type 0 = λ g. IsChunk g standing.client.limit piece chunk in
     let Q : ℕ → Type 0 = λ l. IsChunk true l piece chunk in
     let here = subst P (sym greets) (subst Q (sym limits) one) in
-    let f : Answering = counted_chunk_answer site past standing piece in
+    let f : Answering = counted_chunk_answer config past standing piece in
     let r = had standing f outside in
-    let leaves = next-leaves site standing past piece outside.marks outside.readings in
-    ap (λ (b : List ℕ). stream_answered (chunks site) standing b outside) is
-    ∙ chunk-answered site standing piece chunk more f
-    (λ s. channel_answer site (rest_answer fault rest) (taken_with past piece) s pieces) outside
+    let leaves = next-leaves config standing past piece outside.marks outside.readings in
+    ap (λ (b : List ℕ). stream_answered (chunks config) standing b outside) is
+    ∙ chunk-answered config standing piece chunk more f
+    (λ s. channel_answer config (rest_answer fault rest) (taken_with past piece) s pieces) outside
     here
-    (next-same site standing past piece knows (may-not piece.kind piece.letter one.heads.stands))
-    (λ goes_on. channel-answered site granted rest fault pieces
+    (next-same config standing past piece knows (may-not piece.kind piece.letter one.heads.stands))
+    (λ goes_on. channel-answered config granted rest fault pieces
     (taken_with past piece) r.0.state more r.1 later ends_so (leaves.greeted goes_on)
     (leaves.limit goes_on ∙ limits) (leaves.knows goes_on))
 
@@ -443,20 +447,20 @@ limits-on : (granted : ℕ) (pieces : List ChunkContent) (first : ChunkContent)
 limits-on granted pieces first = refl
 
 -- the Hello is answered
-hello-same : (site : ServerConfig) (R : Content) (piece : ChunkContent) → piece.kind ≡ Hello
-    → item_answer site (new_standing R) (whole piece)
+hello-same : (config : ServerConfig) (R : Content) (piece : ChunkContent) → piece.kind ≡ Hello
+    → item_answer config (new_standing R) (whole piece)
     ≡ greeted (new_standing R) (hello_at piece.body)
-hello-same site R piece is = ap (λ (k : Kind). chunk_answer site (new_standing R) k piece) is
+hello-same config R piece is = ap (λ (k : Kind). chunk_answer config (new_standing R) k piece) is
 
-connection-answered : (site : ServerConfig) (R : Content) (granted : ℕ) (bytes rest : List ℕ)
+connection-answered : (config : ServerConfig) (R : Content) (granted : ℕ) (bytes rest : List ℕ)
     (fault : Option UacpFault) (pieces : List ChunkContent) (outside : Environment)
     → AreChunksThenRest (limits_by granted) bytes pieces rest fault → IsGranted pieces granted
-    → stream_answered (chunks site) (new_standing R) bytes outside
-    ≡ chunks_answer site (rest_answer fault rest) (new_standing R) pieces outside
-connection-answered site R granted bytes rest fault [] outside splits grants =
-    ap (λ (b : List ℕ). stream_answered (chunks site) (new_standing R) b outside) splits.chunks
-    ∙ rest-answered site (new_standing R) rest fault outside splits.ends
-connection-answered site R granted bytes rest fault (piece ∷ pieces) outside splits grants =
+    → stream_answered (chunks config) (new_standing R) bytes outside
+    ≡ chunks_answer config (rest_answer fault rest) (new_standing R) pieces outside
+connection-answered config R granted bytes rest fault [] outside splits grants =
+    ap (λ (b : List ℕ). stream_answered (chunks config) (new_standing R) b outside) splits.chunks
+    ∙ rest-answered config (new_standing R) rest fault outside splits.ends
+connection-answered config R granted bytes rest fault (piece ∷ pieces) outside splits grants =
     let are = splits.chunks in
     let standing = new_standing R in
     let f : Answering = greeted standing (hello_at piece.body) in
@@ -468,19 +472,21 @@ connection-answered site R granted bytes rest fault (piece ∷ pieces) outside s
     let Q : ℕ → Type 0 = λ l. IsRest (greeted_by true pieces) l rest fault in
     let ends_so = subst P (greeted-on pieces)
     (subst Q (limits-on granted pieces piece) splits.ends) in
-    ap (λ (b : List ℕ). stream_answered (chunks site) standing b outside) are.2
-    ∙ chunk-answered site standing piece are.0 are.1 f
-    (λ s. channel_answer site (rest_answer fault rest) [] s pieces) outside are.3
-    (hello-same site R piece (hello-first piece.kind piece.letter are.3.heads.stands))
-    (λ goes_on. channel-answered site granted rest fault pieces [] r.0.state are.1 r.1 are.4 ends_so
+    ap (λ (b : List ℕ). stream_answered (chunks config) standing b outside) are.2
+    ∙ chunk-answered config standing piece are.0 are.1 f
+    (λ s. channel_answer config (rest_answer fault rest) [] s pieces) outside are.3
+    (hello-same config R piece (hello-first piece.kind piece.letter are.3.heads.stands))
+    (λ goes_on. channel-answered config granted rest fault pieces [] r.0.state are.1 r.1 are.4
+    ends_so
     (leaves.greeted goes_on) (leaves.limit goes_on) (leaves.knows goes_on))
 
 -- the answer to a stream is the answer to its chunks
-pub stream-answered : (site : ServerConfig) (R : Content) (bytes : List ℕ) (stream : Chunked bytes)
-    (outside : Environment) → stream_answered (chunks site) (new_standing R) bytes outside
-    ≡ stream_answer site R bytes stream outside
-stream-answered site R bytes stream outside =
-    connection-answered site R stream.granted bytes stream.rest stream.fault stream.pieces outside
+pub stream-answered : (config : ServerConfig) (R : Content) (bytes : List ℕ)
+    (stream : Chunked bytes)
+    (outside : Environment) → stream_answered (chunks config) (new_standing R) bytes outside
+    ≡ stream_answer config R bytes stream outside
+stream-answered config R bytes stream outside =
+    connection-answered config R stream.granted bytes stream.rest stream.fault stream.pieces outside
     stream.splits stream.grants
 
 -- ---- each stream is split so
@@ -585,46 +591,47 @@ stream-chunked bytes = splits-as bytes (chunk_header false 65536 bytes) refl
 
 -- ---- what serving a client comes to
 
-conversed-by : (site : ServerConfig) (R : Content) (came out : List ℕ) (used : Environment)
+conversed-by : (config : ServerConfig) (R : Content) (came out : List ℕ) (used : Environment)
     (ending : Ending) (last : ClientState)
-    → ((later : Environment) → stream_answered (chunks site) (new_standing R) came
+    → ((later : Environment) → stream_answered (chunks config) (new_standing R) came
     (before used later) ≡ (record { out = out; ending = Some ending; state = last }, later))
-    → IsConversed site R came used out ending last
-conversed-by site R came out used ending last is =
+    → IsConversed config R came used out ending last
+conversed-by config R came out used ending last is =
     let stream = stream-chunked came in
     record {
       stream = stream;
       answers =
-          λ later. sym (stream-answered site R came stream (before used later)) ∙ is later;
+          λ later. sym (stream-answered config R came stream (before used later)) ∙ is later;
     }
 
 -- an end of the answer's own
-conversed-end : (site : ServerConfig) (R : Content) (came out : List ℕ) (used : Environment)
+conversed-end : (config : ServerConfig) (R : Content) (came out : List ℕ) (used : Environment)
     (ending : Ending) (last : ClientState)
-    → (rest : List ℕ) × AnswersStream (chunks site) (new_standing R) came used
+    → (rest : List ℕ) × AnswersStream (chunks config) (new_standing R) came used
     (record { out = out; ending = Some ending; state = last }) rest
-    → IsConversed site R came used out ending last
-conversed-end site R came out used ending last ends_so =
-    conversed-by site R came out used ending last
-    (λ later. ap (λ (b : List ℕ). stream_answered (chunks site) (new_standing R) b
+    → IsConversed config R came used out ending last
+conversed-end config R came out used ending last ends_so =
+    conversed-by config R came out used ending last
+    (λ later. ap (λ (b : List ℕ). stream_answered (chunks config) (new_standing R) b
     (before used later)) (sym (append-nil came)) ∙ ends_so.1.goes [] later)
 
-pub served-conversed : (site : ServerConfig) (R : Content) (came out : List ℕ) (used : Environment)
+pub served-conversed : (config : ServerConfig) (R : Content) (came out : List ℕ)
+    (used : Environment)
     (ending : Ending) (last : ClientState)
-    → IsServed (chunks site) (new_standing R) came used out ending last
+    → IsServed (chunks config) (new_standing R) came used out ending last
     → (ending ≡ Err Read → ⊥) → (ending ≡ Err Write → ⊥)
-    → IsConversed site R came used out ending last
-served-conversed site R came out used (Ok EndOfInput) last served read write =
-    conversed-by site R came out used (Ok EndOfInput) last served
-served-conversed site R came out used (Ok Closed) last served read write =
-    conversed-end site R came out used (Ok Closed) last served
-served-conversed site R came out used (Ok (Refused code)) last served read write =
-    conversed-end site R came out used (Ok (Refused code)) last served
-served-conversed site R came out used (Err Read) last served read write = absurd (read refl)
-served-conversed site R came out used (Err Write) last served read write = absurd (write refl)
-served-conversed site R came out used (Err TooLong) last served read write =
-    conversed-end site R came out used (Err TooLong) last served
-served-conversed site R came out used (Err OutOfMemory) last served read write =
-    conversed-end site R came out used (Err OutOfMemory) last served
+    → IsConversed config R came used out ending last
+served-conversed config R came out used (Ok EndOfInput) last served read write =
+    conversed-by config R came out used (Ok EndOfInput) last served
+served-conversed config R came out used (Ok Closed) last served read write =
+    conversed-end config R came out used (Ok Closed) last served
+served-conversed config R came out used (Ok (Refused code)) last served read write =
+    conversed-end config R came out used (Ok (Refused code)) last served
+served-conversed config R came out used (Err Read) last served read write = absurd (read refl)
+served-conversed config R came out used (Err Write) last served read write = absurd (write refl)
+served-conversed config R came out used (Err TooLong) last served read write =
+    conversed-end config R came out used (Err TooLong) last served
+served-conversed config R came out used (Err OutOfMemory) last served read write =
+    conversed-end config R came out used (Err OutOfMemory) last served
 
 pub ruleset conversing = (stream-chunked, stream-answered)

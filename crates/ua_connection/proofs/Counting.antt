@@ -26,15 +26,16 @@ use Rattle.archive.specs.Steps.{give, and_then}
 use Rattle.ua_connection.specs.Environments.{Environment, WithEnvironment, by_marks, or_out_of_memory, clock}
 use Rattle.ua_connection.specs.Run.{Reply, stream_answered, joined, ended}
 use Rattle.ua_connection.proofs.RunParts.{stepped}
-use Rattle.ua_connection.specs.Client.{ClientState, Item, whole, ill, partial, Ending, Answering, ends, goes, refuse, acknowledged, greeted, opened, outcome_response, responded, answer_to_taken, chunk_answer, item_answer, answer, chunks, next}
+use Rattle.ua_connection.specs.Client.{ClientState, Item, whole, malformed, partial, Ending, Answering, ends, goes, refuse, acknowledged, greeted, opened, outcome_response, responded, answer_to_taken, chunk_answer, item_answer, answer, chunks, next}
 use Rattle.ua_connection.specs.Client.{placed_answer, channel_chunk_answer}
 use Rattle.ua_connection.proofs.Runs.{answered-step}
 use Rattle.ua_connection.proofs.Cutting.{falls}
 
-pub one_too_many : (site : ServerConfig) (standing : ClientState) (piece : ChunkContent)
+pub one_too_many : (config : ServerConfig) (standing : ClientState) (piece : ChunkContent)
     (later : Environment) → standing.client.taken ≡ 1000000
-    → item_answer site standing (whole piece) later ≡ (ends standing [] (Err TooLong), later)
-one_too_many site standing piece later many = let test : (standing.client.taken == 1000000) ≡ true =
+    → item_answer config standing (whole piece) later ≡ (ends standing [] (Err TooLong), later)
+one_too_many config standing piece later many =
+    let test : (standing.client.taken == 1000000) ≡ true =
     eq-eqb standing.client.taken 1000000 many in rw test refl
 
 -- a reply that doesn't end by TooLong, and counts one where it doesn't end
@@ -95,103 +96,106 @@ told-counts standing state request message now outcome =
     record { sooner = λ e. absurd cc; each = λ e. refl })
     (λ marks readings. record { sooner = λ e. absurd cc; each = λ e. absurd cc }))
 
-come-counts : (site : ServerConfig) (standing : ClientState) (state : ChannelState) (come : Taken)
-    → Counted standing.client.taken (answer_to_taken site standing state come)
-come-counts site standing state taken.Nothing = goes-counts standing [] (Some state)
-come-counts site standing state (taken.Opening request) =
+come-counts : (config : ServerConfig) (standing : ClientState) (state : ChannelState) (come : Taken)
+    → Counted standing.client.taken (answer_to_taken config standing state come)
+come-counts config standing state taken.Nothing = goes-counts standing [] (Some state)
+come-counts config standing state (taken.Opening request) =
     then-counts standing.client.taken clock (opened standing state request)
     (λ now. made-counts standing.client.taken _ _ (λ marks readings.
     record { sooner = λ e. absurd cc; each = λ e. refl })
     (refuse-counts standing.client.taken standing BAD_OUT_OF_MEMORY))
-come-counts site standing state (taken.Message request message) =
-    then-counts standing.client.taken clock (responded site standing state request message)
+come-counts config standing state (taken.Message request message) =
+    then-counts standing.client.taken clock (responded config standing state request message)
     (λ now. then-counts standing.client.taken (by_marks
-    (performed site now message standing.client.sessions standing.content))
+    (performed config now message standing.client.sessions standing.content))
     (outcome_response standing state request message now)
     (λ outcome. told-counts standing state request message now outcome))
-come-counts site standing state (taken.Aborted request) = goes-counts standing [] (Some state)
-come-counts site standing state taken.Closed =
+come-counts config standing state (taken.Aborted request) = goes-counts standing [] (Some state)
+come-counts config standing state taken.Closed =
     λ marks readings. record { sooner = λ e. absurd cc; each = λ e. absurd cc }
 
-placed-counts : (site : ServerConfig) (standing : ClientState) (state : ChannelState)
+placed-counts : (config : ServerConfig) (standing : ClientState) (state : ChannelState)
     (placed : Result Placed ChannelFault)
-    → Counted standing.client.taken (placed_answer site standing state placed)
-placed-counts site standing state (Ok placed) =
-    come-counts site standing (record state { heard = heard_after state.heard placed })
+    → Counted standing.client.taken (placed_answer config standing state placed)
+placed-counts config standing state (Ok placed) =
+    come-counts config standing (record state { heard = heard_after state.heard placed })
     (taken_answer state.heard placed)
-placed-counts site standing state (Err fault) =
+placed-counts config standing state (Err fault) =
     refuse-counts standing.client.taken standing (channel.channel_fault_status fault)
 
-on-counts : (site : ServerConfig) (standing : ClientState) (channel : Option ChannelState)
+on-counts : (config : ServerConfig) (standing : ClientState) (channel : Option ChannelState)
     (piece : ChunkContent) → Counted standing.client.taken
-    (channel_chunk_answer site standing channel piece)
-on-counts site standing None piece =
+    (channel_chunk_answer config standing channel piece)
+on-counts config standing None piece =
     refuse-counts standing.client.taken standing BAD_TCP_MESSAGE_TYPE_INVALID
-on-counts site standing (Some state) piece =
-    placed-counts site standing state (placed_chunk state.heard piece)
+on-counts config standing (Some state) piece =
+    placed-counts config standing state (placed_chunk state.heard piece)
 
-piece-counts : (site : ServerConfig) (standing : ClientState) (kind : Kind) (piece : ChunkContent)
-    → Counted standing.client.taken (chunk_answer site standing kind piece)
-piece-counts site standing Hello piece = greeted-counts standing (hello_at piece.body)
-piece-counts site standing Open piece = on-counts site standing standing.client.channel piece
-piece-counts site standing Close piece = on-counts site standing standing.client.channel piece
-piece-counts site standing Message piece = on-counts site standing standing.client.channel piece
+piece-counts : (config : ServerConfig) (standing : ClientState) (kind : Kind) (piece : ChunkContent)
+    → Counted standing.client.taken (chunk_answer config standing kind piece)
+piece-counts config standing Hello piece = greeted-counts standing (hello_at piece.body)
+piece-counts config standing Open piece = on-counts config standing standing.client.channel piece
+piece-counts config standing Close piece = on-counts config standing standing.client.channel piece
+piece-counts config standing Message piece = on-counts config standing standing.client.channel piece
 
-tested-counts : (site : ServerConfig) (standing : ClientState) (piece : ChunkContent) (test : Bool)
+tested-counts : (config : ServerConfig) (standing : ClientState) (piece : ChunkContent)
+    (test : Bool)
     → (standing.client.taken == 1000000) ≡ test
-    → Counted standing.client.taken (item_answer site standing (whole piece))
-tested-counts site standing piece true is marks readings =
+    → Counted standing.client.taken (item_answer config standing (whole piece))
+tested-counts config standing piece true is marks readings =
     rw is (record {
       sooner = λ e. eqb-true standing.client.taken 1000000 is;
       each =
           λ e. absurd cc;
     })
-tested-counts site standing piece false is marks readings =
-    rw is (piece-counts site standing piece.kind piece marks readings)
+tested-counts config standing piece false is marks readings =
+    rw is (piece-counts config standing piece.kind piece marks readings)
 
-item-counts : (site : ServerConfig) (standing : ClientState) (item : Item)
-    → Counted standing.client.taken (item_answer site standing item)
-item-counts site standing (whole piece) =
-    tested-counts site standing piece (standing.client.taken == 1000000) refl
-item-counts site standing (ill fault) =
+item-counts : (config : ServerConfig) (standing : ClientState) (item : Item)
+    → Counted standing.client.taken (item_answer config standing item)
+item-counts config standing (whole piece) =
+    tested-counts config standing piece (standing.client.taken == 1000000) refl
+item-counts config standing (malformed fault) =
     refuse-counts standing.client.taken standing (uacp_fault_status fault)
-item-counts site standing partial =
+item-counts config standing partial =
     λ marks readings. record { sooner = λ e. absurd cc; each = λ e. absurd cc }
 
-counts : (site : ServerConfig) (standing : ClientState) (item : Item)
-    → Counted standing.client.taken (answer site standing item)
-counts site standing item = made-counts standing.client.taken (item_answer site standing item)
-    (refuse standing BAD_OUT_OF_MEMORY) (item-counts site standing item)
+counts : (config : ServerConfig) (standing : ClientState) (item : Item)
+    → Counted standing.client.taken (answer config standing item)
+counts config standing item = made-counts standing.client.taken (item_answer config standing item)
+    (refuse standing BAD_OUT_OF_MEMORY) (item-counts config standing item)
     (refuse-counts standing.client.taken standing BAD_OUT_OF_MEMORY)
 
-pub no_sooner : (site : ServerConfig) (standing : ClientState) (item : Item) (outside : Environment)
-    → (answer site standing item outside).0.ending ≡ Some (Err TooLong)
+pub no_sooner : (config : ServerConfig) (standing : ClientState) (item : Item)
+    (outside : Environment)
+    → (answer config standing item outside).0.ending ≡ Some (Err TooLong)
     → standing.client.taken ≡ 1000000
-no_sooner site standing item outside e =
-    (counts site standing item outside.marks outside.readings).sooner e
+no_sooner config standing item outside e =
+    (counts config standing item outside.marks outside.readings).sooner e
 
-pub each : (site : ServerConfig) (standing : ClientState) (item : Item) (outside : Environment)
-    → (answer site standing item outside).0.ending ≡ None
-    → (answer site standing item outside).0.state.client.taken ≡ standing.client.taken + 1
-each site standing item outside e =
-    (counts site standing item outside.marks outside.readings).each e
+pub each : (config : ServerConfig) (standing : ClientState) (item : Item) (outside : Environment)
+    → (answer config standing item outside).0.ending ≡ None
+    → (answer config standing item outside).0.state.client.taken ≡ standing.client.taken + 1
+each config standing item outside e =
+    (counts config standing item outside.marks outside.readings).each e
 
-pub first_item : (site : ServerConfig) (standing : ClientState) (bytes : List ℕ) (item : Item × ℕ)
+pub first_item : (config : ServerConfig) (standing : ClientState) (bytes : List ℕ) (item : Item × ℕ)
     (outside : Environment) → next standing bytes ≡ Some item
-    → stream_answered (chunks site) standing bytes outside
-    ≡ and_then (answer site standing item.0) (λ reply.
-    joined (stream_answered (chunks site) reply.state (drop item.1 bytes)) reply) outside
-first_item site standing bytes item outside stands =
-    answered-step (chunks site) (falls site) standing bytes outside
+    → stream_answered (chunks config) standing bytes outside
+    ≡ and_then (answer config standing item.0) (λ reply.
+    joined (stream_answered (chunks config) reply.state (drop item.1 bytes)) reply) outside
+first_item config standing bytes item outside stands =
+    answered-step (chunks config) (falls config) standing bytes outside
     ∙ ap (λ (o : Option (Item × ℕ)).
-    stepped (stream_answered (chunks site)) (chunks site) standing bytes o outside) stands
+    stepped (stream_answered (chunks config)) (chunks config) standing bytes o outside) stands
 
-pub no_item : (site : ServerConfig) (standing : ClientState) (bytes : List ℕ)
+pub no_item : (config : ServerConfig) (standing : ClientState) (bytes : List ℕ)
     (outside : Environment) → next standing bytes ≡ None
-    → stream_answered (chunks site) standing bytes outside ≡ ended (chunks site) standing outside
-no_item site standing bytes outside none =
-    answered-step (chunks site) (falls site) standing bytes outside
+    → stream_answered (chunks config) standing bytes outside
+    ≡ ended (chunks config) standing outside
+no_item config standing bytes outside none =
+    answered-step (chunks config) (falls config) standing bytes outside
     ∙ ap (λ (o : Option (Item × ℕ)).
-    stepped (stream_answered (chunks site)) (chunks site) standing bytes o outside) none
+    stepped (stream_answered (chunks config)) (chunks config) standing bytes o outside) none
 
 pub ruleset counting = (one_too_many, no_sooner, each, first_item, no_item)

@@ -11,7 +11,7 @@ use Rattle.uacp.specs.Stream.{ChunkContent}
 use Rattle.uacp.specs.Chunks.{chunk_header}
 use Rattle.uacp.proofs.Cuts.{cut-append, cut-within, cut-fault}
 use Rattle.historian.specs.Services.{ServerConfig}
-use Rattle.ua_connection.specs.Client.{ClientState, Item, whole, ill, found, next, chunks}
+use Rattle.ua_connection.specs.Client.{ClientState, Item, whole, malformed, found, next, chunks}
 use Rattle.ua_connection.proofs.Runs.{Falls}
 
 found-falls : (standing : ClientState) (bytes : List ℕ) (o : Result (Option Header) UacpFault)
@@ -35,8 +35,8 @@ next-falls standing (b ∷ bytes) item e =
     ∷ bytes) (chunk_header standing.client.greeted standing.client.limit (b ∷ bytes)) refl
     (omega arith))
 
-pub falls : (site : ServerConfig) → Falls (chunks site)
-falls site = record { falls = next-falls }
+pub falls : (config : ServerConfig) → Falls (chunks config)
+falls config = record { falls = next-falls }
 
 -- where there are bytes, something stands first
 pub next-some : (standing : ClientState) (bytes : List ℕ) → 0 < length bytes
@@ -81,7 +81,7 @@ chunk-stands standing bytes more header cuts =
 -- a fault stands before more bytes too
 pub fault-stands : (standing : ClientState) (bytes more : List ℕ) (fault : UacpFault)
     → chunk_header standing.client.greeted standing.client.limit bytes ≡ Err fault
-    → next standing (bytes ++ more) ≡ Some (ill fault, length (bytes ++ more))
+    → next standing (bytes ++ more) ≡ Some (malformed fault, length (bytes ++ more))
 fault-stands standing bytes more fault cuts =
     let long = cut-fault standing.client.greeted standing.client.limit bytes fault cuts in
     let nothing : Result (Option Header) UacpFault = Ok None in

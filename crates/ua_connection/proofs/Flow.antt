@@ -49,22 +49,22 @@ standing_same last client S e f =
     ∙ ap (λ (r : Content). let s : ClientState = record { client = client; content = r } in s) e
 
 -- one stretch after another
-reaches-then : (site : ServerConfig) (link middle next : ConnectionState) (R S T : Content)
+reaches-then : (config : ServerConfig) (link middle next : ConnectionState) (R S T : Content)
     (used more : Environment) (xs ys : List ℕ) (ending : Option Ending)
-    → AnswersBytes site link R used xs None middle S
-    → AnswersBytes site middle S more ys ending next T
-    → AnswersBytes site link R (before used more) (xs ++ ys) ending next T
-reaches-then site link middle next R S T used more xs ys ending first second =
+    → AnswersBytes config link R used xs None middle S
+    → AnswersBytes config middle S more ys ending next T
+    → AnswersBytes config link R (before used more) (xs ++ ys) ending next T
+reaches-then config link middle next R S T used more xs ys ending first second =
     let start : ClientState = record { client = link.client; content = R } in
     let between : ClientState = record { client = middle.client; content = S } in
     let P : ClientState → Type 0 =
-    λ s. AnswersStream (chunks site) start link.waiting used
+    λ s. AnswersStream (chunks config) start link.waiting used
     (record { out = xs; ending = None; state = s }) middle.waiting in
     record {
       last = second.last;
       content = second.content;
       goes = second.goes;
-      answers = answers-then (chunks site) start link.waiting used xs between middle.waiting more
+      answers = answers-then (chunks config) start link.waiting used xs between middle.waiting more
           (record { out = ys; ending = ending; state = second.last }) next.waiting
           (subst P (standing_same first.last middle.client S first.content (first.goes refl))
           first.answers) second.answers;

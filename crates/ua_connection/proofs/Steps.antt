@@ -363,26 +363,27 @@ closes a client next sessions bytes =
 -- ---- messages
 
 -- what a service did, and then how that is told
-pub tells : (a b : Store) (site : ServerConfig) (client next : Client)
+pub tells : (a b : Store) (config : ServerConfig) (client next : Client)
     (sessions : session.SessionsState) (state : ChannelState) (request : ℕ) (message : List ℕ)
     (now : Ticks) (ms vs : List StepResult) (answer : Response × session.SessionsState)
     (old new out : List ℕ) (ending : Option Ending) → faults_of vs ≡ []
-    → Refines a b ms (performed site now message sessions) answer → new ≡ old ++ out
+    → Refines a b ms (performed config now message sessions) answer → new ≡ old ++ out
     → ((R S : Content) → Replies (outcome_response
     (standing_of client sessions R) state request message now (answer, S))
     (marked vs) out ending next S)
     → (used : List StepResult) × Answered a b (λ R.
-    responded site (standing_of client sessions R) state request message now)
+    responded config (standing_of client sessions R) state request message now)
     (marked used) old new ending next
-tells a b site client next sessions state request message now ms vs answer old new out ending quiet
+tells a b config client next sessions state request message now ms vs answer old new out ending
+    quiet
     acts appended so = (
       ms ++ vs,
       record {
         made = out;
         appended = appended;
         moves = moves-before-quiet a b ms vs (λ marks R S.
-            DoesMarked (performed site now message sessions R) marks (answer, S))
-            (λ marks R S. Replies (responded site
+            DoesMarked (performed config now message sessions R) marks (answer, S))
+            (λ marks R S. Replies (responded config
             (standing_of client sessions R) state request message now)
             (marked marks) out ending next S) quiet (λ ks R S d.
             let f : MessageOutcome → Answering =
@@ -392,37 +393,38 @@ tells a b site client next sessions state request message now ms vs answer old n
               last = r.last;
               content = r.content;
               goes = r.goes;
-              does = does-then (by_marks (performed site now message sessions R)) f (marked ks)
+              does = does-then (by_marks (performed config now message sessions R)) f (marked ks)
                   (marked vs) (answer, S) (record { out = out; ending = ending; state = r.last })
-                  (does-marked (performed site now message sessions R) ks (answer, S) d) r.does;
+                  (does-marked (performed config now message sessions R) ks (answer, S) d) r.does;
             }) acts;
       },
     )
 
 -- a response was sent
-pub sends-response : (a b : Store) (site : ServerConfig) (client : Client)
+pub sends-response : (a b : Store) (config : ServerConfig) (client : Client)
     (sessions : session.SessionsState) (state new_state : ChannelState) (request : ℕ)
     (message : List ℕ) (now : Ticks) (handle : ℕ) (ms : List StepResult) (response_told : Response)
     (left : session.SessionsState)
     (old new body : List ℕ) → handle ≡ handle_of message
     → body ≡ response now (handle_of message) response_told
-    → Refines a b ms (performed site now message sessions) (response_told, left)
+    → Refines a b ms (performed config now message sessions) (response_told, left)
     → new ≡ old ++ message_bytes state request (fitted state now handle body)
     → new_state ≡ record state {
       next =
           number_after state.next (chunk_count state (fitted state now handle body));
     }
     → (used : List StepResult) × Answered a b (λ R.
-    responded site (standing_of client sessions R) state request message now)
+    responded config (standing_of client sessions R) state request message now)
     (marked used) old new None (went client client.limit (Some new_state) left)
-sends-response a b site client sessions state new_state request message now handle ms response_told
+sends-response a b config client sessions state new_state request message now handle ms
+    response_told
     left old new body is made acts appended after =
     let text = fitted state now (handle_of message)
     (response now (handle_of message) response_told) in
     let same : fitted state now handle body ≡ text =
     ap (λ (h : ℕ). fitted state now h body) is
     ∙ ap (λ (b : List ℕ). fitted state now (handle_of message) b) made in
-    tells a b site client (went client client.limit (Some new_state) left) sessions state request
+    tells a b config client (went client client.limit (Some new_state) left) sessions state request
     message now ms (Done ∷ []) (response_told, left) old new
     (message_bytes state request text) None refl acts
     (appended ∙ ap (λ (t : List ℕ). old ++ message_bytes state request t) same)
@@ -440,27 +442,29 @@ sends-response a b site client sessions state new_state request message now hand
     })
 
 -- memory for the response was wanting, and that was told, or memory for that too
-pub sends-starved : (a b : Store) (site : ServerConfig) (client : Client)
+pub sends-starved : (a b : Store) (config : ServerConfig) (client : Client)
     (sessions : session.SessionsState) (state new_state : ChannelState) (request : ℕ)
     (message : List ℕ) (now : Ticks) (handle : ℕ) (ms : List StepResult)
     (answer : Response × session.SessionsState)
     (old new : List ℕ) (result : Result Step ServeFault) → handle ≡ handle_of message
-    → Refines a b ms (performed site now message sessions) answer
+    → Refines a b ms (performed config now message sessions) answer
     → SendsTurn state request (service_fault now handle BAD_OUT_OF_MEMORY) result old new new_state
     → (used : List StepResult) × Answered a b (λ R.
-    responded site (standing_of client sessions R) state request message now) (marked used) old new
+    responded config (standing_of client sessions R) state request message now)
+    (marked used) old new
     (ending_of result) (client_after client result (Some new_state) answer.1)
-sends-starved a b site client sessions state new_state request message now handle ms answer old new
+sends-starved a b config client sessions state new_state request message now handle ms answer old
+    new
     (Ok turn) is acts sends =
     let text = service_fault now (handle_of message) BAD_OUT_OF_MEMORY in
     let same : service_fault now handle BAD_OUT_OF_MEMORY ≡ text =
     ap (λ (h : ℕ). service_fault now h BAD_OUT_OF_MEMORY) is in
     let P : Step → Type 0 = λ t. (used : List StepResult)
-    × Answered a b (λ R. responded site
+    × Answered a b (λ R. responded config
     (standing_of client sessions R) state request message now) (marked used) old new
     (ending_of (Ok t)) (client_after client (Ok t) (Some new_state) answer.1) in
     subst P (sym sends.0)
-    (tells a b site client (went client client.limit (Some new_state) answer.1) sessions state
+    (tells a b config client (went client client.limit (Some new_state) answer.1) sessions state
     request message now ms (NoMemory ∷ Done ∷ []) answer old new
     (message_bytes state request text) None refl acts
     (sends.1 ∙ ap (λ (t : List ℕ). old ++ message_bytes state request t) same)
@@ -477,14 +481,15 @@ sends-starved a b site client sessions state new_state request message now handl
           record state { next = number_after state.next (chunk_count state t) } in s) same));
       does = record { does = λ later. refl };
     }))
-sends-starved a b site client sessions state new_state request message now handle ms answer old new
+sends-starved a b config client sessions state new_state request message now handle ms answer old
+    new
     (Err fault) is acts sends =
     let P : ServeFault → Type 0 = λ f. (used : List StepResult)
-    × Answered a b (λ R. responded site
+    × Answered a b (λ R. responded config
     (standing_of client sessions R) state request message now) (marked used) old new
     (ending_of (Err f)) (client_after client (Err f) (Some new_state) answer.1) in
     subst P (sym sends.0)
-    (tells a b site client (client_after client (Err OutOfMemory) (Some new_state) answer.1)
+    (tells a b config client (client_after client (Err OutOfMemory) (Some new_state) answer.1)
     sessions state request message now ms (NoMemory ∷ NoMemory ∷ []) answer old new []
     (Some (Err OutOfMemory)) refl acts (sends.1 ∙ sym (append-nil old))
     (λ R S. record {
@@ -519,24 +524,24 @@ behind-channel client old channel left (Ok (Ended served)) = refl
 behind-channel client old channel left (Err fault) = refl
 
 -- a chunk came where there is no channel
-pub unopened : (a : Store) (site : ServerConfig) (client next : Client)
+pub unopened : (a : Store) (config : ServerConfig) (client next : Client)
     (sessions : session.SessionsState) (channel : Option ChannelState) (piece : ChunkContent)
     (code : Status) (old new : List ℕ) (result : Result Step ServeFault) → channel ≡ None
     → code ≡ BAD_TCP_MESSAGE_TYPE_INVALID → RefusesTurn code result old new
     → (used : List StepResult) × Answered a a (λ R.
-    channel_chunk_answer_or_starved site (standing_of client sessions R) channel piece)
+    channel_chunk_answer_or_starved config (standing_of client sessions R) channel piece)
     (marked used) old new (ending_of result) next
-unopened a site client next sessions channel piece code old new result is told refuses =
+unopened a config client next sessions channel piece code old new result is told refuses =
     let Q : Status → Type 0 = λ c. RefusesTurn c result old new in
     let P : Option ChannelState → Type 0 =
     λ c. (used : List StepResult)
-    × Answered a a (λ R. channel_chunk_answer_or_starved site
+    × Answered a a (λ R. channel_chunk_answer_or_starved config
     (standing_of client sessions R) c piece) (marked used) old new (ending_of result) next in
     let h = here-refused BAD_TCP_MESSAGE_TYPE_INVALID
     (standing_of client sessions) next old new result (λ R. refl) (subst Q told refuses) in
     subst P (sym is) (
       Done ∷ h.0,
-      answered-here a (λ R. channel_chunk_answer_or_starved site
+      answered-here a (λ R. channel_chunk_answer_or_starved config
           (standing_of client sessions R) None piece) (Done ∷ h.0) old new (ending_of result) next
           (here-fine (λ R. refuse (standing_of client sessions R) BAD_TCP_MESSAGE_TYPE_INVALID)
           (λ R. refuse (standing_of client sessions R) BAD_OUT_OF_MEMORY) h.0 old new
@@ -544,101 +549,101 @@ unopened a site client next sessions channel piece code old new result is told r
     )
 
 -- a chunk that isn't taken
-refused-by : (a : Store) (site : ServerConfig) (client next : Client)
+refused-by : (a : Store) (config : ServerConfig) (client next : Client)
     (sessions : session.SessionsState) (state new_state : ChannelState) (piece : ChunkContent)
     (fault : ChannelFault) (old new : List ℕ) (result : Result Step ServeFault)
     → RefusesChunk state piece fault new_state
     → RefusesTurn (channel.channel_fault_status fault) result old new
     → (used : List StepResult) × Answered a a (λ R.
-    channel_chunk_answer_or_starved site (standing_of client sessions R) (Some state) piece)
+    channel_chunk_answer_or_starved config (standing_of client sessions R) (Some state) piece)
     (marked used) old new (ending_of result) next
-refused-by a site client next sessions state new_state piece fault.OutOfMemory old new result
+refused-by a config client next sessions state new_state piece fault.OutOfMemory old new result
     refuses sends =
     let f : Content → Answering = λ R.
-    channel_chunk_answer site (standing_of client sessions R) (Some state) piece in
+    channel_chunk_answer config (standing_of client sessions R) (Some state) piece in
     let h = here-memory f (standing_of client sessions) next old new result (λ R. refl) sends in (
       h.0,
-      answered-here a (λ R. channel_chunk_answer_or_starved site (standing_of client sessions R)
+      answered-here a (λ R. channel_chunk_answer_or_starved config (standing_of client sessions R)
           (Some state) piece) h.0 old new (ending_of result) next h.1,
     )
-refused-by a site client next sessions state new_state piece fault old new result refuses sends =
+refused-by a config client next sessions state new_state piece fault old new result refuses sends =
     let h = here-refused (channel.channel_fault_status fault)
     (standing_of client sessions) next old new result (λ R. refl) sends in
     let G : Result Placed ChannelFault → Type 0 =
-    λ j. AnsweredHere (λ R. placed_answer site (standing_of client sessions R) state j) h.0 old
+    λ j. AnsweredHere (λ R. placed_answer config (standing_of client sessions R) state j) h.0 old
     new (ending_of result) next in (
       Done ∷ h.0,
-      answered-here a (λ R. channel_chunk_answer_or_starved site (standing_of client sessions R)
+      answered-here a (λ R. channel_chunk_answer_or_starved config (standing_of client sessions R)
           (Some state) piece) (Done ∷ h.0) old new (ending_of result) next
-          (here-fine (λ R. channel_chunk_answer site (standing_of client sessions R)
+          (here-fine (λ R. channel_chunk_answer config (standing_of client sessions R)
           (Some state) piece) (λ R. refuse (standing_of client sessions R) BAD_OUT_OF_MEMORY)
           h.0 old new (ending_of result) next (subst G (sym refuses.0) h.1)),
     )
 
-pub untaken : (a : Store) (site : ServerConfig) (client next : Client)
+pub untaken : (a : Store) (config : ServerConfig) (client next : Client)
     (sessions : session.SessionsState) (channel_old : Option ChannelState)
     (state new_state : ChannelState) (piece : ChunkContent) (fault : ChannelFault) (code : Status)
     (old new : List ℕ) (result : Result Step ServeFault)
     → channel_old ≡ Some state → RefusesChunk state piece fault new_state
     → code ≡ channel.channel_fault_status fault → RefusesTurn code result old new
     → (used : List StepResult) × Answered a a (λ R.
-    channel_chunk_answer_or_starved site (standing_of client sessions R) channel_old piece)
+    channel_chunk_answer_or_starved config (standing_of client sessions R) channel_old piece)
     (marked used) old new (ending_of result) next
-untaken a site client next sessions channel_old state new_state piece fault code old new result is
+untaken a config client next sessions channel_old state new_state piece fault code old new result is
     refuses told sends =
     let Q : Status → Type 0 = λ c. RefusesTurn c result old new in
     let P : Option ChannelState → Type 0 =
     λ c. (used : List StepResult)
-    × Answered a a (λ R. channel_chunk_answer_or_starved site
+    × Answered a a (λ R. channel_chunk_answer_or_starved config
     (standing_of client sessions R) c piece) (marked used) old new (ending_of result) next in
-    subst P (sym is) (refused-by a site client next sessions state new_state piece fault old new
+    subst P (sym is) (refused-by a config client next sessions state new_state piece fault old new
     result refuses (subst Q told sends))
 
 -- a chunk that is taken
-pub taken-answered : (a b : Store) (site : ServerConfig) (client next : Client)
+pub taken-answered : (a b : Store) (config : ServerConfig) (client next : Client)
     (sessions : session.SessionsState) (channel_old : Option ChannelState)
     (state new_state : ChannelState) (piece : ChunkContent) (come : Taken) (used : Environment)
     (old new : List ℕ) (ending : Option Ending)
     → channel_old ≡ Some state → TakesChunk state piece (Ok come) new_state
-    → Answered a b (λ R. answer_to_taken site (standing_of client sessions R) new_state come) used
+    → Answered a b (λ R. answer_to_taken config (standing_of client sessions R) new_state come) used
     old new ending next
-    → Answered a b (λ R. channel_chunk_answer_or_starved site
+    → Answered a b (λ R. channel_chunk_answer_or_starved config
     (standing_of client sessions R) channel_old piece)
     (before (marked (Done ∷ [])) used) old new ending next
-taken-answered a b site client next sessions channel_old state new_state piece come used old new
+taken-answered a b config client next sessions channel_old state new_state piece come used old new
     ending is takes so =
     let placed = takes.0 in
     let P : Option ChannelState → Type 0 =
-    λ c. Answered a b (λ R. channel_chunk_answer_or_starved site
+    λ c. Answered a b (λ R. channel_chunk_answer_or_starved config
     (standing_of client sessions R) c piece)
     (before (marked (Done ∷ [])) used) old new ending next in
     let A : ChannelState → Type 0 =
-    λ s. Answered a b (λ R. answer_to_taken site (standing_of client sessions R) s come) used
+    λ s. Answered a b (λ R. answer_to_taken config (standing_of client sessions R) s come) used
     old new ending next in
     let B : Taken → Type 0 = λ t. Answered a b (λ R.
-    answer_to_taken site (standing_of client sessions R)
+    answer_to_taken config (standing_of client sessions R)
     (record state { heard = heard_after state.heard placed }) t) used old new ending next in
     let G : Result Placed ChannelFault → Type 0 =
-    λ j. Answered a b (λ R. placed_answer site (standing_of client sessions R) state j) used old
+    λ j. Answered a b (λ R. placed_answer config (standing_of client sessions R) state j) used old
     new ending next in
     subst P (sym is)
-    (answered-fine a b (λ R. channel_chunk_answer site (standing_of client sessions R)
+    (answered-fine a b (λ R. channel_chunk_answer config (standing_of client sessions R)
     (Some state) piece) (λ R. refuse (standing_of client sessions R) BAD_OUT_OF_MEMORY) used old
     new ending next
     (subst G (sym takes.1) (subst B takes.2 (subst A takes.3 so))))
 
 -- any chunk, where no answer of the greeting stands behind a channel's
-pub tried-hello : (a : Store) (site : ServerConfig) (client next other : Client)
+pub tried-hello : (a : Store) (config : ServerConfig) (client next other : Client)
     (sessions : session.SessionsState) (kind : Kind) (piece : ChunkContent) (body : List ℕ)
     (used : List StepResult) (old new : List ℕ) (ending : Option Ending) → piece.kind ≡ Hello
     → piece.body ≡ body → next ≡ other
     → AnsweredHere (λ R. greeted (standing_of client sessions R) (hello_at body)) used old new
     ending next
-    → Answered a a (λ R. chunk_answer_or_starved site (standing_of client sessions R) piece)
+    → Answered a a (λ R. chunk_answer_or_starved config (standing_of client sessions R) piece)
     (before (marked (Done ∷ [])) (marked used)) old new ending other
-tried-hello a site client next other sessions kind piece body used old new ending is same to h =
+tried-hello a config client next other sessions kind piece body used old new ending is same to h =
     let P : Kind → Type 0 = λ k. Answered a a (λ R.
-    or_out_of_memory (chunk_answer site (standing_of client sessions R) k piece)
+    or_out_of_memory (chunk_answer config (standing_of client sessions R) k piece)
     (refuse (standing_of client sessions R) BAD_OUT_OF_MEMORY))
     (before (marked (Done ∷ [])) (marked used)) old new ending other in
     let Q : List ℕ → Type 0 = λ b. AnsweredHere (λ R.
@@ -652,29 +657,30 @@ tried-hello a site client next other sessions kind piece body used old new endin
     (answered-fine a a f g (marked used) old new ending next
     (answered-here a f used old new ending next (subst Q (sym same) h))))
 
-pub tried-same : (site : ServerConfig) (standing : ClientState) (kind : Kind) (piece : ChunkContent)
-    → (kind ≡ Hello → ⊥) → chunk_answer site standing kind piece
-    ≡ channel_chunk_answer site standing standing.client.channel piece
-tried-same site standing Hello piece other = absurd (other refl)
-tried-same site standing Open piece other = refl
-tried-same site standing Close piece other = refl
-tried-same site standing Message piece other = refl
+pub tried-same : (config : ServerConfig) (standing : ClientState) (kind : Kind)
+    (piece : ChunkContent)
+    → (kind ≡ Hello → ⊥) → chunk_answer config standing kind piece
+    ≡ channel_chunk_answer config standing standing.client.channel piece
+tried-same config standing Hello piece other = absurd (other refl)
+tried-same config standing Open piece other = refl
+tried-same config standing Close piece other = refl
+tried-same config standing Message piece other = refl
 
-pub tried-other : (a b : Store) (site : ServerConfig) (client next : Client)
+pub tried-other : (a b : Store) (config : ServerConfig) (client next : Client)
     (sessions : session.SessionsState) (piece : ChunkContent) (used : Environment)
     (old new : List ℕ) (ending : Option Ending) → (piece.kind ≡ Hello → ⊥)
-    → Answered a b (λ R. channel_chunk_answer_or_starved site
+    → Answered a b (λ R. channel_chunk_answer_or_starved config
     (standing_of client sessions R) client.channel piece) used old new ending next
-    → Answered a b (λ R. chunk_answer_or_starved site (standing_of client sessions R) piece) used
+    → Answered a b (λ R. chunk_answer_or_starved config (standing_of client sessions R) piece) used
     old new ending next
-tried-other a b site client next sessions piece used old new ending other h =
+tried-other a b config client next sessions piece used old new ending other h =
     let f : Content → Answering = λ R.
-    channel_chunk_answer_or_starved site (standing_of client sessions R) client.channel piece in
+    channel_chunk_answer_or_starved config (standing_of client sessions R) client.channel piece in
     let g : Content → Answering = λ R.
-    chunk_answer_or_starved site (standing_of client sessions R) piece in
+    chunk_answer_or_starved config (standing_of client sessions R) piece in
     answered-by a b f g empty_environment used old new ending next refl
     (λ ms R r does.
     let D : Answering → Type 0 = λ m.
     YieldsWith (or_out_of_memory m (refuse (standing_of client sessions R) BAD_OUT_OF_MEMORY))
     (record used { marks = ms }) r in
-    subst D (sym (tried-same site (standing_of client sessions R) piece.kind piece other)) does) h
+    subst D (sym (tried-same config (standing_of client sessions R) piece.kind piece other)) does) h

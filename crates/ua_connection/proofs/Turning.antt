@@ -27,7 +27,7 @@ use Rattle.ua_connection.specs.declared.turn.Step.TheVariants.{NeedsInput, Ackno
 use Rattle.archive.specs.Steps.{give}
 use Rattle.ua_connection.specs.Environments.{Environment, or_out_of_memory, YieldsWith}
 use Rattle.ua_connection.specs.Run.{Reply, AnswersStream}
-use Rattle.ua_connection.specs.Client.{Client, ClientState, Ending, Answering, Item, whole, ill, partial, ends, refuse, item_answer, chunk_answer, answer, found, next, chunks}
+use Rattle.ua_connection.specs.Client.{Client, ClientState, Ending, Answering, Item, whole, malformed, partial, ends, refuse, item_answer, chunk_answer, answer, found, next, chunks}
 use Rattle.ua_connection.specs.Turns.{chunk_answer_or_starved, ConnectionState, link_of, Replies, Answered, AnsweredHere, AnswersBytes, Advances, AdvancesInto, RefusesTurn, IsNextCurrent, GivesOne, LeavesIntake, IsOwn, IsCounted, ending_of}
 use Rattle.ua_connection.proofs.Outsides.{marked, empty_environment}
 use Rattle.ua_connection.proofs.Runs.{answers-start, answers-item, answers-end}
@@ -60,19 +60,19 @@ pub turned-item : (settings : SettingsValues) (a b : Store) (link : ConnectionSt
     → AdvancesInto settings a b link used old new ending
     (record { client = client; waiting = drop n link.waiting })
 turned-item settings a b link item n used old new ending client stands h =
-    let site = site_of settings a in
+    let config = site_of settings a in
     let f : Content → Answering = λ R.
-    answer site (record { client = link.client; content = R }) item in (
+    answer config (record { client = link.client; content = R }) item in (
       h.made,
       h.appended,
       moves-as a b used.marks (λ marks R S.
           Replies (f R) (record used { marks = marks }) h.made ending client S)
-          (λ marks R S. AnswersBytes site link R (record used { marks = marks }) h.made ending
+          (λ marks R S. AnswersBytes config link R (record used { marks = marks }) h.made ending
           (record { client = client; waiting = drop n link.waiting }) S) (λ ms R S r. record {
             last = r.last;
             content = r.content;
             goes = r.goes;
-            answers = answers-item (chunks site) (falls site)
+            answers = answers-item (chunks config) (falls config)
                 (record { client = link.client; content = R }) link.waiting (item, n)
                 (record used { marks = ms })
                 (record { out = h.made; ending = ending; state = r.last }) (stands R) r.does;
@@ -93,11 +93,11 @@ pub turned-end : (settings : SettingsValues) (a : Store) (link : ConnectionState
     → AnsweredHere f used old new (Some ending) left.client
     → AdvancesInto settings a a link (marked used) old new (Some ending) left
 turned-end settings a link item used old new ending left stands f same h =
-    let site = site_of settings a in (
+    let config = site_of settings a in (
       h.made,
       h.appended,
       moves-none-by a used h.quiet (λ marks R S.
-          AnswersBytes site link R (record (marked used) { marks = marks }) h.made
+          AnswersBytes config link R (record (marked used) { marks = marks }) h.made
           (Some ending) left S) (λ R.
           let r = h.replies R in
           let reply : Reply ClientState Ending =
@@ -106,7 +106,7 @@ turned-end settings a link item used old new ending left stands f same h =
             last = r.last;
             content = r.content;
             goes = λ e. absurd cc;
-            answers = answers-end (chunks site) (falls site)
+            answers = answers-end (chunks config) (falls config)
                 (record { client = link.client; content = R }) link.waiting left.waiting
                 (marked used) reply ending refl (λ more.
                 (item more, stands R more, same R more reply r.does));
@@ -119,15 +119,15 @@ pub into-ended : (settings : SettingsValues) (a b : Store) (link next other : Co
     → AdvancesInto settings a b link used old new (Some ending) next
     → AdvancesInto settings a b link used old new (Some ending) other
 into-ended settings a b link next other used old new ending same into =
-    let site = site_of settings a in (
+    let config = site_of settings a in (
       into.0,
       into.1,
       moves-as a b used.marks (λ marks R S.
-          AnswersBytes site link R (record used { marks = marks }) into.0 (Some ending) next S)
-          (λ marks R S. AnswersBytes site link R (record used { marks = marks }) into.0
+          AnswersBytes config link R (record used { marks = marks }) into.0 (Some ending) next S)
+          (λ marks R S. AnswersBytes config link R (record used { marks = marks }) into.0
           (Some ending) other S) (λ ms R S r.
           let P : List ℕ → Type 0 =
-          λ w. AnswersStream (chunks site)
+          λ w. AnswersStream (chunks config)
           (record { client = link.client; content = R }) link.waiting
           (record used { marks = ms })
           (record { out = into.0; ending = Some ending; state = r.last }) w in
@@ -218,10 +218,10 @@ pub chunk-turned : (settings : SettingsValues) (a b : Store) (held : IntakeState
 chunk-turned settings a b held taken channel sessions chunk left used old new ending client sound
     gives few leaves h =
     let link = link_of held taken channel sessions in
-    let site = site_of settings a in
+    let config = site_of settings a in
     let start : Content → ClientState = λ R. record { client = link.client; content = R } in
-    let f : Content → Answering = λ R. chunk_answer_or_starved site (start R) (piece_of chunk) in
-    let g : Content → Answering = λ R. answer site (start R) (whole (piece_of chunk)) in
+    let f : Content → Answering = λ R. chunk_answer_or_starved config (start R) (piece_of chunk) in
+    let g : Content → Answering = λ R. answer config (start R) (whole (piece_of chunk)) in
     let P : List ℕ → Type 0 = λ l.
     AdvancesInto settings a b link used old new ending
     (record { client = client; waiting = l }) in
@@ -233,7 +233,7 @@ chunk-turned settings a b held taken channel sessions chunk left used old new en
     (λ ms R r does.
     let D : Bool → Type 0 = λ t.
     YieldsWith (or_out_of_memory (if t then give
-    (ends (start R) [] (Err TooLong)) else chunk_answer site (start R) chunk.kind
+    (ends (start R) [] (Err TooLong)) else chunk_answer config (start R) chunk.kind
     (piece_of chunk)) (refuse (start R) BAD_OUT_OF_MEMORY)) (record used { marks = ms }) r in
     subst D (sym (few_test taken few)) does) h))
 
@@ -246,9 +246,9 @@ pub many-turned : (settings : SettingsValues) (a : Store) (held : IntakeState) (
     (Some (Err TooLong)) left
 many-turned settings a held taken channel sessions chunk left old sound gives many =
     let link = link_of held taken channel sessions in
-    let site = site_of settings a in
+    let config = site_of settings a in
     let start : Content → ClientState = λ R. record { client = link.client; content = R } in
-    let g : Content → Answering = λ R. answer site (start R) (whole (piece_of chunk)) in
+    let g : Content → Answering = λ R. answer config (start R) (whole (piece_of chunk)) in
     turned-end settings a link (λ more. (whole (piece_of chunk), 8 + length chunk.body.now))
     (Done ∷ []) old old (Err TooLong) left (λ R more.
     given-stands held taken channel sessions chunk R more sound gives)
@@ -263,7 +263,7 @@ many-turned settings a held taken channel sessions chunk left old sound gives ma
         goes = λ e. absurd cc;
         does = record {
           does = λ later. ap (λ (t : Bool).
-              (if t then give (ends (start R) [] (Err TooLong)) else chunk_answer site
+              (if t then give (ends (start R) [] (Err TooLong)) else chunk_answer config
               (start R) chunk.kind (piece_of chunk)) later) many;
         };
       };
@@ -286,12 +286,12 @@ fault-refused : (settings : SettingsValues) (a : Store) (held : IntakeState) (ta
     (marked used) old new (ending_of result) left
 fault-refused settings a held taken channel sessions fault left old new result sound gives refuses =
     let link = link_of held taken channel sessions in
-    let site = site_of settings a in
+    let config = site_of settings a in
     let start : Content → ClientState = λ R. record { client = link.client; content = R } in
     let h = here-refused (uacp_fault_status fault) start left.client old new result
     (λ R. refl) refuses in
     let end = refusal_ends (uacp_fault_status fault) result old new refuses in
-    let f : Content → Answering = λ R. answer site (start R) (ill fault) in
+    let f : Content → Answering = λ R. answer config (start R) (malformed fault) in
     let answered = here-fine (λ R. refuse (start R) (uacp_fault_status fault))
     (λ R. refuse (start R) BAD_OUT_OF_MEMORY) h.0 old new (ending_of result) left.client h.1 in
     let P : Option Ending → Type 0 = λ e. AnsweredHere f (Done ∷ h.0) old new e left.client in
@@ -299,7 +299,7 @@ fault-refused settings a held taken channel sessions fault left old new result s
     λ e. AdvancesInto settings a a link (marked (Done ∷ h.0)) old new e left in (
       Done ∷ h.0,
       subst Q (sym end.1)
-          (turned-end settings a link (λ more. (ill fault, length (held.waiting ++ more)))
+          (turned-end settings a link (λ more. (malformed fault, length (held.waiting ++ more)))
           (Done ∷ h.0) old new end.0 left (λ R more.
           fault-stands (start R) held.waiting more fault (sym sound ∙ gives)) f
           (λ R more r does. does)
@@ -326,7 +326,7 @@ pub starved-turned : (settings : SettingsValues) (a : Store) (link left : Connec
     → (used : List StepResult) × AdvancesInto settings a a link (marked used) old new
     (ending_of result) left
 starved-turned settings a link left old new result some refuses =
-    let site = site_of settings a in
+    let config = site_of settings a in
     let start : Content → ClientState = λ R. record { client = link.client; content = R } in
     let item : List ℕ → Item × ℕ =
     λ more. found (link.waiting
@@ -335,8 +335,8 @@ starved-turned settings a link left old new result some refuses =
     let end = refusal_ends BAD_OUT_OF_MEMORY result old new refuses in
     let f : Content → Answering = λ R. refuse (start R) BAD_OUT_OF_MEMORY in
     let starved : Content → Answering =
-    λ R. or_out_of_memory (item_answer site (start R) partial) (f R) in
-    let answered = here-starved (λ R. item_answer site (start R) partial) f h.0 old new
+    λ R. or_out_of_memory (item_answer config (start R) partial) (f R) in
+    let answered = here-starved (λ R. item_answer config (start R) partial) f h.0 old new
     (ending_of result) left.client h.1 in
     let P : Option Ending → Type 0 =
     λ e. AnsweredHere starved (NoMemory ∷ h.0) old new e left.client in

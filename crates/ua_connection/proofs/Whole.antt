@@ -70,29 +70,29 @@ over_answer standing later = (
   later,
 )
 
-ends-waiting : (site : ServerConfig) (standing : ClientState) (waiting : List ℕ)
+ends-waiting : (config : ServerConfig) (standing : ClientState) (waiting : List ℕ)
     (later : Environment) → chunk_header standing.client.greeted standing.client.limit waiting
     ≡ Ok None
-    → stream_answered (chunks site) standing waiting (before (marked (end_marks waiting)) later)
+    → stream_answered (chunks config) standing waiting (before (marked (end_marks waiting)) later)
     ≡ over_answer standing later
-ends-waiting site standing [] later short =
-    answered-step (chunks site) (falls site) standing [] later
-ends-waiting site standing (b ∷ waiting) later short =
+ends-waiting config standing [] later short =
+    answered-step (chunks config) (falls config) standing [] later
+ends-waiting config standing (b ∷ waiting) later short =
     let bytes = b ∷ waiting in
     let stands : next standing bytes ≡ Some (partial, length bytes) =
     next-some standing bytes (omega arith) ∙ ap (λ o. Some (found bytes o)) short in
-    answered-item (chunks site) (falls site) standing bytes (partial, length bytes)
+    answered-item (chunks config) (falls config) standing bytes (partial, length bytes)
     (marked (Done ∷ [])) (record { out = []; ending = Some (Ok EndOfInput); state = standing })
     later stands (record { does = λ more. refl })
 
-whole-of : (site : ServerConfig) (start last : ClientState) (came waiting out : List ℕ)
-    (used : Environment) → AnswersStream (chunks site) start came used
+whole-of : (config : ServerConfig) (start last : ClientState) (came waiting out : List ℕ)
+    (used : Environment) → AnswersStream (chunks config) start came used
     (record { out = out; ending = None; state = last }) waiting
     → chunk_header last.client.greeted last.client.limit waiting ≡ Ok None
-    → IsWhole (chunks site) start came (before used (marked (end_marks waiting))) out
+    → IsWhole (chunks config) start came (before used (marked (end_marks waiting))) out
     (Ok EndOfInput) last
-whole-of site start last came waiting out used answers short = λ later.
-    let p = chunks site in
+whole-of config start last came waiting out used answers short = λ later.
+    let p = chunks config in
     let ms = marked (end_marks waiting) in
     let reply : Reply ClientState Ending = record { out = out; ending = None; state = last } in
     ap (λ (b : List ℕ). stream_answered p start b (before (before used ms) later))
@@ -101,34 +101,35 @@ whole-of site start last came waiting out used answers short = λ later.
     ∙ answers.goes [] (before ms later)
     ∙ joined-same reply (stream_answered p last (waiting ++ [])) (λ o. over_answer last later)
     (before ms later) (ap (λ (b : List ℕ). stream_answered p last b (before ms later))
-    (append-nil waiting) ∙ ends-waiting site last waiting later short)
+    (append-nil waiting) ∙ ends-waiting config last waiting later short)
     ∙ ap (λ (o : List ℕ). let a : Reply ClientState Ending =
     record { out = o; ending = Some (Ok EndOfInput); state = last } in (a, later)) (append-nil out)
 
 -- ---- all that came was answered
 
 -- where no mark is left, nothing comes in the way of the end
-quiet-end : (site : ServerConfig) (standing : ClientState) (waiting : List ℕ)
+quiet-end : (config : ServerConfig) (standing : ClientState) (waiting : List ℕ)
     → chunk_header standing.client.greeted standing.client.limit waiting ≡ Ok None
-    → stream_answered (chunks site) standing waiting empty_environment
+    → stream_answered (chunks config) standing waiting empty_environment
     ≡ over_answer standing empty_environment
-quiet-end site standing [] short =
-    answered-step (chunks site) (falls site) standing [] empty_environment
-quiet-end site standing (b ∷ waiting) short =
+quiet-end config standing [] short =
+    answered-step (chunks config) (falls config) standing [] empty_environment
+quiet-end config standing (b ∷ waiting) short =
     let bytes = b ∷ waiting in
     let stands : next standing bytes ≡ Some (partial, length bytes) =
     next-some standing bytes (omega arith) ∙ ap (λ o. Some (found bytes o)) short in
-    answered-step (chunks site) (falls site) standing bytes empty_environment
+    answered-step (chunks config) (falls config) standing bytes empty_environment
     ∙ ap (λ (o : Option (Item × ℕ)).
-    stepped (stream_answered (chunks site)) (chunks site) standing bytes o empty_environment)
+    stepped (stream_answered (chunks config)) (chunks config) standing bytes o empty_environment)
     stands
 
 -- less than a chunk waits
-prompt-now : (site : ServerConfig) (came out : List ℕ) (used : Environment) (link : ConnectionState)
-    (R S : Content) → AnswersBytes site (start_of came) R used out None link S → NeedsBytes link
-    → IsPrompt site R used came out
-prompt-now site came out used link R S r short =
-    let p = chunks site in
+prompt-now : (config : ServerConfig) (came out : List ℕ) (used : Environment)
+    (link : ConnectionState)
+    (R S : Content) → AnswersBytes config (start_of came) R used out None link S → NeedsBytes link
+    → IsPrompt config R used came out
+prompt-now config came out used link R S r short =
+    let p = chunks config in
     let start : ClientState = record { client = new_client; content = R } in
     let reply : Reply ClientState Ending = record { out = out; ending = None; state = r.last } in
     let C : Client → Type 0 = λ c. chunk_header c.greeted c.limit link.waiting ≡ Ok None in
@@ -146,18 +147,18 @@ prompt-now site came out used link R S r short =
           (λ o. over_answer r.last empty_environment) empty_environment
           (ap (λ (b : List ℕ). stream_answered p r.last b empty_environment)
           (append-nil link.waiting)
-          ∙ quiet-end site r.last link.waiting (subst C (sym (r.goes refl)) short))
+          ∙ quiet-end config r.last link.waiting (subst C (sym (r.goes refl)) short))
           ∙ ap (λ (o : List ℕ). let a : Reply ClientState Ending =
           record { out = o; ending = Some (Ok EndOfInput); state = r.last } in
           (a, empty_environment)) (append-nil out);
     }
 
 -- it was, whatever was used since
-prompts-later : (site : ServerConfig) (R : Content) (used more : Environment) (came out : List ℕ)
-    (events : List LineEvent) → ArePrompt site R used came out events
-    → ArePrompt site R (before used more) came out events
-prompts-later site R used more came out [] p = tt
-prompts-later site R used more came out (Came piece ∷ events) p =
+prompts-later : (config : ServerConfig) (R : Content) (used more : Environment) (came out : List ℕ)
+    (events : List LineEvent) → ArePrompt config R used came out events
+    → ArePrompt config R (before used more) came out events
+prompts-later config R used more came out [] p = tt
+prompts-later config R used more came out (Came piece ∷ events) p =
     let now = p.0 in (
       record {
         now = now.now;
@@ -167,57 +168,57 @@ prompts-later site R used more came out (Came piece ∷ events) p =
         last = now.last;
         whole = now.whole;
       },
-      prompts-later site R used more (came ++ came_in (Came piece)) out events p.1,
+      prompts-later config R used more (came ++ came_in (Came piece)) out events p.1,
     )
-prompts-later site R used more came out (Went bytes ∷ events) p =
-    prompts-later site R used more came (out ++ bytes) events p
+prompts-later config R used more came out (Went bytes ∷ events) p =
+    prompts-later config R used more came (out ++ bytes) events p
 
-prompts-append : (site : ServerConfig) (R : Content) (used : Environment) (came out : List ℕ)
-    (xs ys : List LineEvent) → ArePrompt site R used came out xs
-    → ArePrompt site R used (came ++ came_of xs) (out ++ went_of xs) ys
-    → ArePrompt site R used came out (xs ++ ys)
-prompts-append site R used came out [] ys p q =
-    let P : List ℕ → Type 0 = λ c. ArePrompt site R used c (out ++ []) ys in
-    let Q : List ℕ → Type 0 = λ o. ArePrompt site R used came o ys in
+prompts-append : (config : ServerConfig) (R : Content) (used : Environment) (came out : List ℕ)
+    (xs ys : List LineEvent) → ArePrompt config R used came out xs
+    → ArePrompt config R used (came ++ came_of xs) (out ++ went_of xs) ys
+    → ArePrompt config R used came out (xs ++ ys)
+prompts-append config R used came out [] ys p q =
+    let P : List ℕ → Type 0 = λ c. ArePrompt config R used c (out ++ []) ys in
+    let Q : List ℕ → Type 0 = λ o. ArePrompt config R used came o ys in
     subst Q (append-nil out) (subst P (append-nil came) q)
-prompts-append site R used came out (Came piece ∷ xs) ys p q =
-    let P : List ℕ → Type 0 = λ c. ArePrompt site R used c (out ++ went_of xs) ys in (
+prompts-append config R used came out (Came piece ∷ xs) ys p q =
+    let P : List ℕ → Type 0 = λ c. ArePrompt config R used c (out ++ went_of xs) ys in (
       p.0,
-      prompts-append site R used (came ++ came_in (Came piece)) out xs ys p.1
+      prompts-append config R used (came ++ came_in (Came piece)) out xs ys p.1
           (subst P (sym (append_assoc came (came_in (Came piece)) (came_of xs))) q),
     )
-prompts-append site R used came out (Went bytes ∷ xs) ys p q =
-    let P : List ℕ → Type 0 = λ o. ArePrompt site R used (came ++ came_of xs) o ys in
-    prompts-append site R used came (out ++ bytes) xs ys p
+prompts-append config R used came out (Went bytes ∷ xs) ys p q =
+    let P : List ℕ → Type 0 = λ o. ArePrompt config R used (came ++ came_of xs) o ys in
+    prompts-append config R used came (out ++ bytes) xs ys p
     (subst P (sym (append_assoc out bytes (went_of xs))) q)
 
-prompts-writes : (site : ServerConfig) (R : Content) (used : Environment) (came out : List ℕ)
-    (events : List LineEvent) → AreWrites events → ArePrompt site R used came out events
-prompts-writes site R used came out [] p = tt
-prompts-writes site R used came out (Came piece ∷ events) p = absurd p
-prompts-writes site R used came out (Went bytes ∷ events) p =
-    prompts-writes site R used came (out ++ bytes) events p
+prompts-writes : (config : ServerConfig) (R : Content) (used : Environment) (came out : List ℕ)
+    (events : List LineEvent) → AreWrites events → ArePrompt config R used came out events
+prompts-writes config R used came out [] p = tt
+prompts-writes config R used came out (Came piece ∷ events) p = absurd p
+prompts-writes config R used came out (Went bytes ∷ events) p =
+    prompts-writes config R used came (out ++ bytes) events p
 
 -- then more was written, while other things were used
-prompts-written : (site : ServerConfig) (R : Content) (used more : Environment) (first : List ℕ)
-    (events writes : List LineEvent) → AreWrites writes → ArePrompt site R used first [] events
-    → ArePrompt site R (before used more) first [] (events ++ writes)
-prompts-written site R used more first events writes only p =
-    prompts-append site R (before used more) first [] events writes
-    (prompts-later site R used more first [] events p)
-    (prompts-writes site R (before used more) (first ++ came_of events)
+prompts-written : (config : ServerConfig) (R : Content) (used more : Environment) (first : List ℕ)
+    (events writes : List LineEvent) → AreWrites writes → ArePrompt config R used first [] events
+    → ArePrompt config R (before used more) first [] (events ++ writes)
+prompts-written config R used more first events writes only p =
+    prompts-append config R (before used more) first [] events writes
+    (prompts-later config R used more first [] events p)
+    (prompts-writes config R (before used more) (first ++ came_of events)
     (went_of events) writes only)
 
 -- then more was read
-prompts-read : (site : ServerConfig) (R S : Content) (used : Environment) (first : List ℕ)
+prompts-read : (config : ServerConfig) (R S : Content) (used : Environment) (first : List ℕ)
     (events : List LineEvent) (piece : Option (List ℕ)) (link : ConnectionState)
-    → AnswersBytes site (start_of (first ++ came_of events)) R used (went_of events) None link S
+    → AnswersBytes config (start_of (first ++ came_of events)) R used (went_of events) None link S
     → NeedsBytes link
-    → ArePrompt site R used first [] events
-    → ArePrompt site R used first [] (events ++ Came piece ∷ [])
-prompts-read site R S used first events piece link r short p =
-    prompts-append site R used first [] events (Came piece ∷ []) p
-    (prompt-now site (first ++ came_of events) (went_of events) used link R S r short, tt)
+    → ArePrompt config R used first [] events
+    → ArePrompt config R used first [] (events ++ Came piece ∷ [])
+prompts-read config R S used first events piece link r short p =
+    prompts-append config R used first [] events (Came piece ∷ []) p
+    (prompt-now config (first ++ came_of events) (went_of events) used link R S r short, tt)
 
 -- ---- what came and what went
 
@@ -266,15 +267,17 @@ so-as settings a b first events came more out also used ending link e f so =
     subst P e (subst Q f so)
 
 -- more bytes came
-reaches-more : (site : ServerConfig) (came piece out : List ℕ) (link : ConnectionState)
-    (used : Environment) (R S : Content) → AnswersBytes site (start_of came) R used out None link S
-    → AnswersBytes site (start_of (came ++ piece)) R used out None
+reaches-more : (config : ServerConfig) (came piece out : List ℕ) (link : ConnectionState)
+    (used : Environment) (R S : Content)
+    → AnswersBytes config (start_of came) R used out None link S
+    → AnswersBytes config (start_of (came ++ piece)) R used out None
     (record link { waiting = link.waiting ++ piece }) S
-reaches-more site came piece out link used R S r = record {
+reaches-more config came piece out link used R S r = record {
   last = r.last;
   content = r.content;
   goes = r.goes;
-  answers = answers-more (chunks site) (record { client = new_client; content = R }) came piece used
+  answers = answers-more (chunks config)
+      (record { client = new_client; content = R }) came piece used
       (record { out = out; ending = None; state = r.last }) link.waiting r.answers;
 }
 
@@ -284,7 +287,7 @@ pub serves-fed : (settings : SettingsValues) (a b : Store) (first : List ℕ)
     → fed ≡ record link { waiting = link.waiting ++ piece }
     → ServesSoFar settings a b first (events ++ Came (Some piece) ∷ []) used fed
 serves-fed settings a b first events used link fed piece so short is =
-    let site = site_of settings a in
+    let config = site_of settings a in
     let came = first ++ came_of events in
     let more : ConnectionState = record link { waiting = link.waiting ++ piece } in
     let after = events ++ Came (Some piece) ∷ [] in
@@ -296,16 +299,16 @@ serves-fed settings a b first events used link fed piece so short is =
     ∙ ap (λ (c : List ℕ). first ++ c) (sym (came-read events (Some piece))))
     (sym (went-read events (Some piece)))
     (moves-as a b used.marks (λ marks R S.
-    AnswersBytes site (start_of came) R (record used { marks = marks })
+    AnswersBytes config (start_of came) R (record used { marks = marks })
     (went_of events) None link S
-    × ArePrompt site R (record used { marks = marks }) first [] events)
-    (λ marks R S. AnswersBytes site (start_of (came ++ piece)) R (record used { marks = marks })
+    × ArePrompt config R (record used { marks = marks }) first [] events)
+    (λ marks R S. AnswersBytes config (start_of (came ++ piece)) R (record used { marks = marks })
     (went_of events) None more S
-    × ArePrompt site R (record used { marks = marks }) first [] after)
+    × ArePrompt config R (record used { marks = marks }) first [] after)
     (λ ms R S r. (
-      reaches-more site came piece (went_of events) link
+      reaches-more config came piece (went_of events) link
           (record used { marks = ms }) R S r.0,
-      prompts-read site R S (record used { marks = ms }) first events
+      prompts-read config R S (record used { marks = ms }) first events
           (Some piece) link r.0 short r.1,
     )) so))
 
@@ -318,15 +321,15 @@ serves-then : (settings : SettingsValues) (a b c : Store) (first : List ℕ)
     → SoFar settings a c first (events ++ writes) (first ++ came_of (events ++ writes))
     (went_of events ++ out) (before used more) ending next
 serves-then settings a b c first events writes used more link next out ending so only turned =
-    let site = site_of settings a in
+    let config = site_of settings a in
     let came = first ++ came_of events in
     so-as settings a c first (events ++ writes) came (first ++ came_of (events ++ writes))
     (went_of events ++ out) (went_of events ++ out) (before used more) ending next
     (ap (λ (c : List ℕ). first ++ c) (sym (came-written events writes only))) refl
     (kept-then settings a b c (start_of came) link next used more (went_of events) out ending
-    (λ o R. ArePrompt site R o first [] events)
-    (λ o R. ArePrompt site R o first [] (events ++ writes))
-    (λ o m R p. prompts-written site R o m first events writes only p) so turned)
+    (λ o R. ArePrompt config R o first [] events)
+    (λ o R. ArePrompt config R o first [] (events ++ writes))
+    (λ o m R p. prompts-written config R o m first events writes only p) so turned)
 
 pub serves-drained : (settings : SettingsValues) (a b c : Store) (first : List ℕ)
     (events writes : List LineEvent) (used more : Environment) (link next : ConnectionState)
@@ -353,21 +356,22 @@ IsFinal (Err Write) = ⊥
 IsFinal (Err TooLong) = Unit {0}
 IsFinal (Err OutOfMemory) = Unit {0}
 
-final-served : (site : ServerConfig) (came out : List ℕ) (used : Environment) (ending : Ending)
+final-served : (config : ServerConfig) (came out : List ℕ) (used : Environment) (ending : Ending)
     (next : ConnectionState) (R S : Content) → IsFinal ending
-    → AnswersBytes site (start_of came) R used out (Some ending) next S
+    → AnswersBytes config (start_of came) R used out (Some ending) next S
     → (last : ClientState) × (last.content ≡ S)
-    × IsServed (chunks site) (record { client = new_client; content = R }) came used out ending last
-final-served site came out used (Ok EndOfInput) next R S final r = absurd final
-final-served site came out used (Ok Closed) next R S final r =
+    × IsServed (chunks config) (record { client = new_client; content = R }) came used out ending
+    last
+final-served config came out used (Ok EndOfInput) next R S final r = absurd final
+final-served config came out used (Ok Closed) next R S final r =
     (r.last, r.content, (next.waiting, r.answers))
-final-served site came out used (Ok (Refused code)) next R S final r =
+final-served config came out used (Ok (Refused code)) next R S final r =
     (r.last, r.content, (next.waiting, r.answers))
-final-served site came out used (Err Read) next R S final r = absurd final
-final-served site came out used (Err Write) next R S final r = absurd final
-final-served site came out used (Err TooLong) next R S final r =
+final-served config came out used (Err Read) next R S final r = absurd final
+final-served config came out used (Err Write) next R S final r = absurd final
+final-served config came out used (Err TooLong) next R S final r =
     (r.last, r.content, (next.waiting, r.answers))
-final-served site came out used (Err OutOfMemory) next R S final r =
+final-served config came out used (Err OutOfMemory) next R S final r =
     (r.last, r.content, (next.waiting, r.answers))
 
 final-over : (ending : Ending) → IsFinal ending → ending ≡ Ok EndOfInput → ⊥
@@ -379,22 +383,22 @@ serves-final : (settings : SettingsValues) (a b c : Store) (first : List ℕ)
     → Advances settings b c link more (went_of writes) (Some ending) next → IsFinal ending
     → ServesPromptly settings a c first (events ++ writes) (before used more) ending
 serves-final settings a b c first events writes used more link next ending so only turned final =
-    let site = site_of settings a in
+    let config = site_of settings a in
     let all = events ++ writes in
     let came = first ++ came_of all in
     record {
       over = λ e. absurd (final-over ending final e);
       served = moves-as a c (before used more).marks
-          (λ marks R S. AnswersBytes site (start_of came) R
+          (λ marks R S. AnswersBytes config (start_of came) R
           (record (before used more) { marks = marks }) (went_of all) (Some ending) next S
-          × ArePrompt site R (record (before used more) { marks = marks }) first [] all)
+          × ArePrompt config R (record (before used more) { marks = marks }) first [] all)
           (λ marks R S. (last : ClientState) × (last.content ≡ S)
-          × IsServed (chunks site) (record { client = new_client; content = R }) came
+          × IsServed (chunks config) (record { client = new_client; content = R }) came
           (record (before used more) { marks = marks }) (went_of all) ending last
-          × ArePrompt site R (record (before used more) { marks = marks }) first [] all)
+          × ArePrompt config R (record (before used more) { marks = marks }) first [] all)
           (λ ms R S r.
           let (last, content, served) =
-          final-served site came (went_of all)
+          final-served config came (went_of all)
           (record (before used more) { marks = ms }) ending next R S final r.0 in
           (last, content, served, r.1))
           (so-as settings a c first all came came (went_of events ++ went_of writes) (went_of all)
@@ -411,19 +415,19 @@ serves-part : (settings : SettingsValues) (a b c : Store) (first : List ℕ)
     → Advances settings b c link more (went_of writes ++ unsent) ending next
     → ServesPromptly settings a c first (events ++ writes) (before used more) (Err Write)
 serves-part settings a b c first events writes used more link next unsent ending so only turned =
-    let site = site_of settings a in
+    let config = site_of settings a in
     let all = events ++ writes in
     let came = first ++ came_of all in
     record {
       over = λ e. absurd cc;
       served = moves-as a c (before used more).marks
-          (λ marks R S. AnswersBytes site (start_of came) R
+          (λ marks R S. AnswersBytes config (start_of came) R
           (record (before used more) { marks = marks }) (went_of all ++ unsent) ending next S
-          × ArePrompt site R (record (before used more) { marks = marks }) first [] all)
+          × ArePrompt config R (record (before used more) { marks = marks }) first [] all)
           (λ marks R S. (last : ClientState) × (last.content ≡ S)
-          × IsServed (chunks site) (record { client = new_client; content = R }) came
+          × IsServed (chunks config) (record { client = new_client; content = R }) came
           (record (before used more) { marks = marks }) (went_of all) (Err Write) last
-          × ArePrompt site R (record (before used more) { marks = marks }) first [] all)
+          × ArePrompt config R (record (before used more) { marks = marks }) first [] all)
           (λ ms R S r. (r.0.last, r.0.content, (unsent, next.waiting, ending, r.0.answers), r.1))
           (so-as settings a c first all came came (went_of events ++ (went_of writes ++ unsent))
           (went_of all ++ unsent) (before used more) ending next refl
@@ -481,7 +485,7 @@ serves-over : (settings : SettingsValues) (a b : Store) (first : List ℕ) (even
     → (more : Environment) × (more.readings ≡ [])
     × ServesPromptly settings a b first (events ++ Came piece ∷ []) (before used more) ending
 serves-over settings a b first events piece used link ending so none over short is =
-    let site = site_of settings a in
+    let config = site_of settings a in
     let ms = end_marks link.waiting in
     let all = events ++ Came piece ∷ [] in
     let came = first ++ came_of events in
@@ -492,9 +496,9 @@ serves-over settings a b first events piece used link ending so none over short 
     let Goal : (cs out : List ℕ) → Type 0 =
     λ cs out. Transitions a b (used.marks ++ ms)
     (λ marks R S. (last : ClientState) × (last.content ≡ S)
-    × IsServed (chunks site) (record { client = new_client; content = R }) cs
+    × IsServed (chunks config) (record { client = new_client; content = R }) cs
     (record (before used (marked ms)) { marks = marks }) out ending last
-    × ArePrompt site R (record (before used (marked ms)) { marks = marks }) first [] all) in
+    × ArePrompt config R (record (before used (marked ms)) { marks = marks }) first [] all) in
     let P : List ℕ → Type 0 = λ c. Goal c (went_of all) in
     let Q : List ℕ → Type 0 = λ o. Goal came o in (
       marked ms,
@@ -503,25 +507,25 @@ serves-over settings a b first events piece used link ending so none over short 
         over = λ e. (events, ap (λ (p : Option (List ℕ)). events ++ Came p ∷ []) (over e));
         served = subst P same (subst Q (sym (went-read events piece))
             (moves-before-quiet a b used.marks ms (λ marks R S.
-            AnswersBytes site (start_of came) R (record used { marks = marks })
+            AnswersBytes config (start_of came) R (record used { marks = marks })
             (went_of events) None link S
-            × ArePrompt site R (record used { marks = marks }) first [] events)
+            × ArePrompt config R (record used { marks = marks }) first [] events)
             (λ marks R S. (last : ClientState) × (last.content ≡ S)
-            × IsServed (chunks site) (record { client = new_client; content = R }) came
+            × IsServed (chunks config) (record { client = new_client; content = R }) came
             (record (before used (marked ms)) { marks = marks }) (went_of events) ending last
-            × ArePrompt site R (record (before used (marked ms)) { marks = marks }) first [] all)
+            × ArePrompt config R (record (before used (marked ms)) { marks = marks }) first [] all)
             (end-quiet link.waiting)
             (λ ks R S r.
             let outside : Environment = record used { marks = ks } in
             let C : Client → Type 0 = λ c. chunk_header c.greeted c.limit link.waiting ≡ Ok None in
-            let whole = whole-of site
+            let whole = whole-of config
             (record { client = new_client; content = R }) r.0.last came link.waiting
             (went_of events) outside r.0.answers (subst C (sym (r.0.goes refl)) short) in (
               r.0.last,
               r.0.content,
               is R came (went_of events) (before outside (marked ms)) r.0.last whole,
-              prompts-later site R outside (marked ms) first [] all
-                  (prompts-read site R S outside first events piece link r.0 short r.1),
+              prompts-later config R outside (marked ms) first [] all
+                  (prompts-read config R S outside first events piece link r.0 short r.1),
             )) so));
       },
     )
@@ -676,7 +680,7 @@ pub behind_known : (settings : SettingsValues) (a b : Store) (first : List ℕ)
 behind_known settings a b first events old new used ending serves passes =
     let known = passed-known old new events passes in
     let P : List LineEvent → Type 0 = λ e. Passes old e new in
-    let site = site_of settings a in
+    let config = site_of settings a in
     record {
       came = came_of events;
       out = went_of events;
@@ -684,11 +688,11 @@ behind_known settings a b first events old new used ending serves passes =
       over = λ e. let end = serves.over e in passed-over old new end.0 (subst P end.1 passes);
       written = known.1;
       served = moves-as a b used.marks (λ marks R S. (last : ClientState) × (last.content ≡ S)
-          × IsServed (chunks site) (record { client = new_client; content = R })
+          × IsServed (chunks config) (record { client = new_client; content = R })
           (first ++ came_of events) (record used { marks = marks }) (went_of events) ending last
-          × ArePrompt site R (record used { marks = marks }) first [] events)
+          × ArePrompt config R (record used { marks = marks }) first [] events)
           (λ marks R S. (last : ClientState) × (last.content ≡ S)
-          × IsServed (chunks site) (record { client = new_client; content = R })
+          × IsServed (chunks config) (record { client = new_client; content = R })
           (first ++ came_of events) (record used { marks = marks })
           (went_of events) ending last)
           (λ ms R S r. (r.0, r.1, r.2)) serves.served;

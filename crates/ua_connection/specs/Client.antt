@@ -164,20 +164,20 @@ outcome_response standing state request message now outcome =
 
 -- a message that a channel gave is answered by its service
 abbrev pub responded : ServerConfig → ClientState → ChannelState → ℕ → List ℕ → Ticks → Answering
-responded site standing state request message now =
-    and_then (by_marks (performed site now message standing.client.sessions standing.content))
+responded config standing state request message now =
+    and_then (by_marks (performed config now message standing.client.sessions standing.content))
     (outcome_response standing state request message now)
 
 -- what a chunk came to is answered, by one reading of the clock for each opening and each whole
 -- message
 abbrev pub answer_to_taken : ServerConfig → ClientState → ChannelState → Taken → Answering
-answer_to_taken site standing state taken.Nothing = give (goes standing [] (Some state))
-answer_to_taken site standing state (taken.Opening request) =
+answer_to_taken config standing state taken.Nothing = give (goes standing [] (Some state))
+answer_to_taken config standing state (taken.Opening request) =
     and_then clock (opened standing state request)
-answer_to_taken site standing state (taken.Message request message) =
-    and_then clock (responded site standing state request message)
-answer_to_taken site standing state (taken.Aborted request) = give (goes standing [] (Some state))
-answer_to_taken site standing state taken.Closed = give (ends standing [] (Ok Closed))
+answer_to_taken config standing state (taken.Message request message) =
+    and_then clock (responded config standing state request message)
+answer_to_taken config standing state (taken.Aborted request) = give (goes standing [] (Some state))
+answer_to_taken config standing state taken.Closed = give (ends standing [] (Ok Closed))
 
 -- a channel that took a well placed chunk
 abbrev pub with_chunk : ChannelState → Placed → ChannelState
@@ -186,9 +186,9 @@ with_chunk state placed = record state { heard = heard_after state.heard placed 
 -- by its place among the chunks before it: a well placed one is answered, and another one refused
 abbrev pub placed_answer : ServerConfig → ClientState → ChannelState → Result Placed ChannelFault
     → Answering
-placed_answer site standing state given =
+placed_answer config standing state given =
     elim given [
-      | Ok placed ↦ answer_to_taken site standing (with_chunk state placed)
+      | Ok placed ↦ answer_to_taken config standing (with_chunk state placed)
           (taken_answer state.heard placed)
       | Err fault ↦ refuse standing (channel.channel_fault_status fault)
     ]
@@ -196,18 +196,18 @@ placed_answer site standing state given =
 -- a chunk that is no Hello: its channel takes it; without an Acknowledge before it, it is refused
 abbrev pub channel_chunk_answer : ServerConfig → ClientState → Option ChannelState → ChunkContent
     → Answering
-channel_chunk_answer site standing given piece =
+channel_chunk_answer config standing given piece =
     elim given [
       | None ↦ refuse standing BAD_TCP_MESSAGE_TYPE_INVALID
-      | Some state ↦ placed_answer site standing state (placed_chunk state.heard piece)
+      | Some state ↦ placed_answer config standing state (placed_chunk state.heard piece)
     ]
 
--- a whole chunk is answered, by its kind; a second Hello is ill (`chunk_header`)
+-- a whole chunk is answered, by its kind; a second Hello is malformed (`chunk_header`)
 abbrev pub chunk_answer : ServerConfig → ClientState → Kind → ChunkContent → Answering
-chunk_answer site standing kind piece =
+chunk_answer config standing kind piece =
     elim kind [
       | Hello ↦ greeted standing (hello_at piece.body)
-      | _ ↦ channel_chunk_answer site standing standing.client.channel piece
+      | _ ↦ channel_chunk_answer config standing standing.client.channel piece
     ]
 
 -- ---- connections
@@ -215,22 +215,22 @@ chunk_answer site standing kind piece =
 -- what stands first in the bytes that are left: a whole chunk, a fault, or less than a chunk
 pub data Item : Type 0 where
   whole : ChunkContent → Item
-  ill : UacpFault → Item
+  malformed : UacpFault → Item
   partial : Item
 
 -- a chunk is answered, but the 1,000,001st ends it unanswered; a fault is refused; a part of one at
 -- the end of the input ends it
 abbrev pub item_answer : ServerConfig → ClientState → Item → Answering
-item_answer site standing (whole piece) =
+item_answer config standing (whole piece) =
     if standing.client.taken == 1000000 then give (ends standing [] (Err TooLong))
-    else chunk_answer site standing piece.kind piece
-item_answer site standing (ill fault) = refuse standing (uacp_fault_status fault)
-item_answer site standing partial = give (ends standing [] (Ok EndOfInput))
+    else chunk_answer config standing piece.kind piece
+item_answer config standing (malformed fault) = refuse standing (uacp_fault_status fault)
+item_answer config standing partial = give (ends standing [] (Ok EndOfInput))
 
 -- memory for what stands first is had, and it is answered; or it is wanting
 abbrev pub answer : ServerConfig → ClientState → Item → Answering
-answer site standing item =
-    or_out_of_memory (item_answer site standing item) (refuse standing BAD_OUT_OF_MEMORY)
+answer config standing item =
+    or_out_of_memory (item_answer config standing item) (refuse standing BAD_OUT_OF_MEMORY)
 
 -- the item that this header, or its want, makes of some bytes, and how many of them it has
 abbrev pub found : List ℕ → Result (Option Header) UacpFault → Item × ℕ
@@ -238,7 +238,7 @@ found bytes result =
     elim result [
       | Ok None ↦ (partial, length bytes)
       | Ok (Some header) ↦ (whole (piece_at header bytes), header.size)
-      | Err fault ↦ (ill fault, length bytes)
+      | Err fault ↦ (malformed fault, length bytes)
     ]
 
 -- the header of the first chunk, none where that isn't whole, or the fault that stands there
@@ -255,4 +255,4 @@ next standing list =
 
 -- the protocol of a client's connection
 abbrev pub chunks : ServerConfig → Protocol ClientState Item Ending
-chunks site = record { next = next; answer = answer site; at_end = Ok EndOfInput }
+chunks config = record { next = next; answer = answer config; at_end = Ok EndOfInput }

@@ -60,33 +60,33 @@ opening_behind past request handle lifetime =
 -- the end.
 abbrev pub well_placed_answer : ServerConfig → ClientState → ChannelState → List Placed → Placed
     → Answering
-well_placed_answer site standing state past (Opens sequence asked) = and_then clock
+well_placed_answer config standing state past (Opens sequence asked) = and_then clock
     (opened standing state (opening_behind past sequence.1 asked.handle asked.lifetime))
-well_placed_answer site standing state past (Says Final numbers body) = and_then clock
-    (responded site standing state numbers.request_id (bodies_of (open_run past) ++ body))
-well_placed_answer site standing state past (Says letter numbers body) =
+well_placed_answer config standing state past (Says Final numbers body) = and_then clock
+    (responded config standing state numbers.request_id (bodies_of (open_run past) ++ body))
+well_placed_answer config standing state past (Says letter numbers body) =
     give (goes standing [] (Some state))
-well_placed_answer site standing state past (Closes numbers) = give (ends standing [] (Ok Closed))
+well_placed_answer config standing state past (Closes numbers) = give (ends standing [] (Ok Closed))
 
 -- Any chunk is answered by its place behind `past`, which is what the channel has heard; one that
 -- isn't well placed is refused.
 abbrev pub answer_behind : ServerConfig → List Placed → ClientState → ChannelState → ChunkContent
     → Answering
-answer_behind site past standing state piece = elim (placed_chunk (heard_of past) piece) [
+answer_behind config past standing state piece = elim (placed_chunk (heard_of past) piece) [
   | Ok placed ↦
       let with_placed : ChannelState = record state { heard = heard_of (placed ∷ past) } in
-      well_placed_answer site standing with_placed past placed
+      well_placed_answer config standing with_placed past placed
   | Err fault ↦ refuse standing (channel.channel_fault_status fault)
 ]
 
 -- 1,000,000 chunks are answered and no more
 abbrev pub counted_chunk_answer : ServerConfig → List Placed → ClientState → ChunkContent
     → Answering
-counted_chunk_answer site past standing piece =
+counted_chunk_answer config past standing piece =
     if standing.client.taken == 1000000 then give (ends standing [] (Err TooLong))
     else elim standing.client.channel [
       | None ↦ refuse standing BAD_TCP_MESSAGE_TYPE_INVALID
-      | Some state ↦ answer_behind site past standing state piece
+      | Some state ↦ answer_behind config past standing state piece
     ]
 
 -- ---- the connection
@@ -104,10 +104,10 @@ taken_with past piece =
 abbrev pub channel_answer
     : ServerConfig → (ClientState → Answering) → List Placed → ClientState → List ChunkContent
     → Answering
-channel_answer site end past standing [] = end standing
-channel_answer site end past standing (piece ∷ pieces) =
-    and_then (had standing (counted_chunk_answer site past standing piece))
-    (λ reply. joined (channel_answer site end (taken_with past piece) reply.state pieces) reply)
+channel_answer config end past standing [] = end standing
+channel_answer config end past standing (piece ∷ pieces) =
+    and_then (had standing (counted_chunk_answer config past standing piece))
+    (λ reply. joined (channel_answer config end (taken_with past piece) reply.state pieces) reply)
 
 -- the end of the stream: a fault is refused; less than a chunk, or nothing, is the input's end
 abbrev pub rest_answer : Option UacpFault → List ℕ → ClientState → Answering
@@ -118,21 +118,21 @@ rest_answer None (byte ∷ rest) standing = had standing (give (ends standing []
 -- a whole connection: its Hello is answered, then the chunks of the channel, then the end
 abbrev pub chunks_answer : ServerConfig → (ClientState → Answering) → ClientState
     → List ChunkContent → Answering
-chunks_answer site end standing [] = end standing
-chunks_answer site end standing (first ∷ pieces) =
+chunks_answer config end standing [] = end standing
+chunks_answer config end standing (first ∷ pieces) =
     and_then (had standing (greeted standing (hello_at first.body)))
-    (λ reply. joined (channel_answer site end [] reply.state pieces) reply)
+    (λ reply. joined (channel_answer config end [] reply.state pieces) reply)
 
 -- the same of a stream, of a client of whom nothing was answered, over what the archive holds
 abbrev pub stream_answer : ServerConfig → Content → (bytes : List ℕ) → Chunked bytes → Answering
-stream_answer site R bytes stream =
-    chunks_answer site (rest_answer stream.fault stream.rest) (new_standing R) stream.pieces
+stream_answer config R bytes stream =
+    chunks_answer config (rest_answer stream.fault stream.rest) (new_standing R) stream.pieces
 
 -- The bytes that came are such chunks and a rest. Their answer, which uses just what `used` has of
 -- the outside, is `out`; it ended so, and left `last`.
-pub record IsConversed (site : ServerConfig) (R : Content) (came : List ℕ) (used : Environment)
+pub record IsConversed (config : ServerConfig) (R : Content) (came : List ℕ) (used : Environment)
     (out : List ℕ) (ending : Ending) (last : ClientState) : Type 0 where
   pub stream : Chunked came
   pub answers : (later : Environment)
-      → stream_answer site R came stream (before used later)
+      → stream_answer config R came stream (before used later)
       ≡ (record { out = out; ending = Some ending; state = last }, later)

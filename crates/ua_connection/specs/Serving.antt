@@ -63,24 +63,24 @@ abbrev pub new_standing : Content → ClientState
 new_standing R = record { client = new_client; content = R }
 
 -- if no more had come, this would be the whole answer, by a first part of what the outside gave
-pub record IsPrompt (site : ServerConfig) (R : Content) (used : Environment)
+pub record IsPrompt (config : ServerConfig) (R : Content) (used : Environment)
     (came out : List ℕ) : Type 0 where
   pub now : Environment
   pub later : Environment
   pub first : before now later ≡ used
   pub last : ClientState
-  pub whole : stream_answered (chunks site) (new_standing R) came now
+  pub whole : stream_answered (chunks config) (new_standing R) came now
       ≡ (record { out = out; ending = Some (Ok EndOfInput); state = last }, empty_environment)
 
 -- whenever more was read, what was written was the whole answer to what had come
 abbrev pub ArePrompt : ServerConfig → Content → Environment → (came out : List ℕ) → List LineEvent
     → Type 0
-ArePrompt site R used came out [] = Unit {0}
-ArePrompt site R used came out (Came piece ∷ events) =
-    IsPrompt site R used came out
-    × ArePrompt site R used (came ++ came_in (Came piece)) out events
-ArePrompt site R used came out (Went bytes ∷ events) =
-    ArePrompt site R used came (out ++ bytes) events
+ArePrompt config R used came out [] = Unit {0}
+ArePrompt config R used came out (Came piece ∷ events) =
+    IsPrompt config R used came out
+    × ArePrompt config R used (came ++ came_in (Came piece)) out events
+ArePrompt config R used came out (Went bytes ∷ events) =
+    ArePrompt config R used came (out ++ bytes) events
 
 -- A client was served, of whom these first bytes were read before, and no answer waited for more to
 -- come: by what passed and what the outside gave, the archive holds what the answer left.
@@ -89,8 +89,9 @@ pub record ServesPromptly (settings : SettingsValues) (old new : Store) (first :
   pub over : ending ≡ Ok EndOfInput
       → (front : List LineEvent) × (events ≡ front ++ Came (Some []) ∷ [])
   pub served : Transitions old new used.marks (λ marks R S.
-      let site = site_of settings old in let given : Environment = record used { marks = marks } in
+      let config = site_of settings old in let given : Environment =
+      record used { marks = marks } in
       (last : ClientState) × (last.content ≡ S)
-      × IsServed (chunks site) (new_standing R) (first ++ came_of events) given
+      × IsServed (chunks config) (new_standing R) (first ++ came_of events) given
       (went_of events) ending last
-      × ArePrompt site R given first [] events)
+      × ArePrompt config R given first [] events)

@@ -144,14 +144,14 @@ pub record AnsweredHere (given : Content → Answering) (used : List StepResult)
 -- memory for a chunk of the channel is had, and it is answered; or it is wanting
 abbrev pub channel_chunk_answer_or_starved : ServerConfig → ClientState → Option ChannelState
     → ChunkContent → Answering
-channel_chunk_answer_or_starved site standing channel piece =
-    or_out_of_memory (channel_chunk_answer site standing channel piece)
+channel_chunk_answer_or_starved config standing channel piece =
+    or_out_of_memory (channel_chunk_answer config standing channel piece)
     (refuse standing BAD_OUT_OF_MEMORY)
 
 -- the same of any chunk
 abbrev pub chunk_answer_or_starved : ServerConfig → ClientState → ChunkContent → Answering
-chunk_answer_or_starved site standing piece =
-    or_out_of_memory (chunk_answer site standing piece.kind piece)
+chunk_answer_or_starved config standing piece =
+    or_out_of_memory (chunk_answer config standing piece.kind piece)
     (refuse standing BAD_OUT_OF_MEMORY)
 
 -- ---- stretches of the answer
@@ -159,13 +159,13 @@ chunk_answer_or_starved site standing piece =
 -- by this, and no more, of the outside the answer to the bytes that wait begins with these bytes,
 -- and with this end if there is one; then the archive holds S, and unless it is the end the
 -- connection goes on like this
-pub record AnswersBytes (site : ServerConfig) (link : ConnectionState) (R : Content)
+pub record AnswersBytes (config : ServerConfig) (link : ConnectionState) (R : Content)
     (used : Environment) (made : List ℕ) (ending : Option Ending) (next : ConnectionState)
     (S : Content) : Type 0 where
   pub last : ClientState
   pub content : last.content ≡ S
   pub goes : ending ≡ None → last.client ≡ next.client
-  pub answers : AnswersStream (chunks site)
+  pub answers : AnswersStream (chunks config)
       (record { client = link.client; content = R }) link.waiting used
       (record { out = made; ending = ending; state = last }) next.waiting
 

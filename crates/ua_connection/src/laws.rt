@@ -17,34 +17,35 @@ use counted_io::ServeFault;
 /// does, and each chunk that is answered and doesn't end the connection is counted.
 #[tactic(auto, using(crate::proofs::Counting::counting))]
 pub fn chunks_are_counted()
-    ensures one_too_many { (site : ServerConfig) (standing : ClientState) (piece : ChunkContent)
+    ensures one_too_many { (config : ServerConfig) (standing : ClientState) (piece : ChunkContent)
         (later : Environment) → standing.client.taken ≡ 1000000
-        → item_answer site standing (whole piece) later
+        → item_answer config standing (whole piece) later
         ≡ (ends standing [] (Err ServeFault.TooLong), later) }
-    ensures no_sooner { (site : ServerConfig) (standing : ClientState) (item : Item)
+    ensures no_sooner { (config : ServerConfig) (standing : ClientState) (item : Item)
         (outside : Environment)
-        → (answer site standing item outside).0.ending ≡ Some (Err ServeFault.TooLong)
+        → (answer config standing item outside).0.ending ≡ Some (Err ServeFault.TooLong)
         → standing.client.taken ≡ 1000000 }
-    ensures each { (site : ServerConfig) (standing : ClientState) (item : Item)
+    ensures each { (config : ServerConfig) (standing : ClientState) (item : Item)
         (outside : Environment)
-        → (answer site standing item outside).0.ending ≡ None
-        → (answer site standing item outside).0.state.client.taken ≡ standing.client.taken + 1 }
+        → (answer config standing item outside).0.ending ≡ None
+        → (answer config standing item outside).0.state.client.taken ≡ standing.client.taken + 1 }
 {}
 
 /// The answer to a stream is what stands first, answered, and then the answer to the rest; it doesn't stop before the stream does.
 #[tactic(auto, using(crate::proofs::Counting::counting))]
 pub fn answers_go_item_by_item()
-    ensures item { (site : ServerConfig) (standing : ClientState) (bytes : List ℕ) (item : Item × ℕ)
+    ensures item { (config : ServerConfig) (standing : ClientState) (bytes : List ℕ)
+        (item : Item × ℕ)
         (outside : Environment) → next standing bytes ≡ Some item
-        → stream_answered (chunks site) standing bytes outside
-        ≡ and_then (answer site standing item.0)
+        → stream_answered (chunks config) standing bytes outside
+        ≡ and_then (answer config standing item.0)
         (λ reply.
-        joined (stream_answered (chunks site) reply.state (drop item.1 bytes)) reply) outside }
-    ensures none { (site : ServerConfig) (standing : ClientState) (bytes : List ℕ)
+        joined (stream_answered (chunks config) reply.state (drop item.1 bytes)) reply) outside }
+    ensures none { (config : ServerConfig) (standing : ClientState) (bytes : List ℕ)
         (outside : Environment)
         → next standing bytes ≡ None
-        → stream_answered (chunks site) standing bytes outside
-        ≡ ended (chunks site) standing outside }
+        → stream_answered (chunks config) standing bytes outside
+        ≡ ended (chunks config) standing outside }
 {}
 
 /// A client's whole connection, in the words of the stream. All bytes are whole chunks, later ones judged by the size that the
@@ -53,13 +54,14 @@ pub fn answers_go_item_by_item()
 #[tactic(auto, using(crate::proofs::Conversing::conversing))]
 pub fn connections_are_answered_chunk_by_chunk()
     ensures chunked { (bytes : List ℕ) → Chunked bytes }
-    ensures answers { (site : ServerConfig) (R : Content) (bytes : List ℕ) (stream : Chunked bytes)
+    ensures answers { (config : ServerConfig) (R : Content) (bytes : List ℕ)
+        (stream : Chunked bytes)
         (outside : Environment)
-        → stream_answered (chunks site) (new_standing R) bytes outside
-        ≡ stream_answer site R bytes stream outside }
-    ensures served { (site : ServerConfig) (R : Content) (came out : List ℕ) (used : Environment)
+        → stream_answered (chunks config) (new_standing R) bytes outside
+        ≡ stream_answer config R bytes stream outside }
+    ensures served { (config : ServerConfig) (R : Content) (came out : List ℕ) (used : Environment)
         (ending : Ending) (last : ClientState)
-        → IsServed (chunks site) (new_standing R) came used out ending last
+        → IsServed (chunks config) (new_standing R) came used out ending last
         → (ending ≡ Err ServeFault.Read → ⊥) → (ending ≡ Err ServeFault.Write → ⊥)
-        → IsConversed site R came used out ending last }
+        → IsConversed config R came used out ending last }
 {}

@@ -21,12 +21,13 @@ use Rattle.exchange.specs.declared.message.Message.TheVariants.{Asks, Carries, E
 use Rattle.exchange.specs.declared.message.State.{State}
 use Rattle.exchange.specs.declared.message.State.TheVariants.{Pulling, Pushing, Serving, Done, Failed}
 use Rattle.exchange.specs.declared.message.Title.{Title}
-use Rattle.exchange.specs.Named.{Party, Message, end_frame, asking_frame}
+use Rattle.exchange.specs.declared.message.Party.{Party}
+use Rattle.exchange.specs.declared.message.Message.{Message}
+use Rattle.exchange.specs.Frames.{end_frame, kind_of, frame_body_of, frame_of, message_at, checked_sender, HasFrame}
+use Rattle.exchange.specs.Dialogs.{asking_frame, Turn, Way, Clear, Unread, Stopped, Starved, Met, title_by, failing, carrying, pushing, ended_by, turned, gone, unfit, received, records_in, records_read, learned_at, answered_to, party_of, Writes}
 use Rattle.exchange.specs.Fault.{exchange_number}
 use Rattle.exchange.specs.Batches.{batch_of, IsBatchFor}
-use Rattle.exchange.specs.Frames.{kind_of, frame_body_of, frame_of, message_at, checked_sender, HasFrame}
 use Rattle.exchange.specs.Streams.{AreFrames}
-use Rattle.exchange.specs.Dialogs.{Turn, Way, Clear, Unread, Stopped, Starved, Met, title_by, failing, carrying, pushing, ended_by, turned, gone, unfit, received, records_in, records_read, learned_at, answered_to, party_of, Writes}
 use Rattle.exchange.proofs.DialogsParts.{asking, learnt, bytes_of}
 use Rattle.exchange.specs.Meetings.{IsBetween, CanMeet, checked_title}
 use Rattle.exchange.specs.Worlds.{ReplicaState, World, Event, Sends, Delivers, IsReplicaAt, sent, after_event, run}

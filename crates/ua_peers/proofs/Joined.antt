@@ -21,11 +21,13 @@ use Rattle.exchange.specs.declared.message.FrameKind.TheVariants as kind
 use Rattle.exchange.specs.declared.message.Message.TheVariants.{Asks, Carries, Ends}
 use Rattle.exchange.specs.declared.message.State.{State}
 use Rattle.exchange.specs.declared.message.State.TheVariants.{Pulling, Pushing, Serving, Done, Failed}
-use Rattle.exchange.specs.Named.{Party, Header, Message, end_frame, asking_frame}
+use Rattle.exchange.specs.declared.message.Party.{Party}
+use Rattle.exchange.specs.declared.message.Header.{Header}
+use Rattle.exchange.specs.declared.message.Message.{Message}
+use Rattle.exchange.specs.Frames.{end_frame, frame_header, frame_letters, kind_of, frame_body_of, frame_of, message_at, HasFrame}
+use Rattle.exchange.specs.Dialogs.{asking_frame, Turn, Way, Clear, Unread, Stopped, Starved, Met, DialogState, failing, is_over, is_due, unfit, received, records_read, learned_at, turned, answered_to, title_by, party_of, IsHeld, Writes}
 use Rattle.exchange.specs.Fault.{exchange_number}
-use Rattle.exchange.specs.Frames.{frame_header, frame_letters, kind_of, frame_body_of, frame_of, message_at, HasFrame}
 use Rattle.exchange.specs.Streams.{FrameContent, AreFrames}
-use Rattle.exchange.specs.Dialogs.{Turn, Way, Clear, Unread, Stopped, Starved, Met, DialogState, failing, is_over, is_due, unfit, received, records_read, learned_at, turned, answered_to, title_by, party_of, IsHeld, Writes}
 use Rattle.exchange.proofs.DialogsParts.{bytes_of}
 use Rattle.exchange.specs.Meetings.{IsBetween, AreJoined, CanMeet, checked_title}
 use Rattle.exchange.proofs.FrameLemmas.{read_own, cut_own, body_own}
@@ -428,7 +430,8 @@ module _ (p q : Party) (R S : Content) (lawful : IsLawfulContent R) (lawful' : I
       ended_there same body = elim (taken_there a b n Done
           (Ends c) one other sent serving y same body answered.0.1) [
             | inl clear ↦ inl (clear_so
-                (turned q Serving b.content (Ends c)) y.result y.said Done _ responded refl clear.1).0
+                (turned q Serving b.content (Ends c)) y.result y.said Done _ responded refl
+                clear.1).0
             | inr faulty ↦ inr faulty
           ]
 
@@ -638,7 +641,8 @@ module _ (p q : Party) (R S : Content) (lawful : IsLawfulContent R) (lawful' : I
       both a b n m one other sent =
           elim (responds p q R S lawful lawful' compatible a.content b.content n Done m one other
           sent) [
-            | inl end ↦ meets p q R S lawful lawful' compatible a.content b.content n one other end.3
+            | inl end ↦ meets p q R S lawful lawful' compatible a.content b.content n one other
+                end.3
                 end.4 end.5
             | inr more ↦ absurd more.2
           ]

@@ -14,8 +14,8 @@ use Rattle.exchange.specs.declared.message.FrameKind.{FrameKind}
 use Rattle.exchange.specs.declared.message.State.{State}
 use Rattle.exchange.specs.declared.message.State.TheVariants.{Pulling, Pushing, Serving, Done, Failed}
 use Rattle.exchange.specs.Batches.{longest_frame}
-use Rattle.exchange.specs.Named.{Header, end_frame}
-use Rattle.exchange.specs.Frames.{frame_header, titled, kind_at, frame_size_at, no_frames, ReceivedFrames, Gives, next_of, after_next}
+use Rattle.exchange.specs.declared.message.Header.{Header}
+use Rattle.exchange.specs.Frames.{end_frame, frame_header, titled, kind_at, frame_size_at, no_frames, ReceivedFrames, Gives, next_of, after_next}
 use Rattle.exchange.specs.Streams.{FrameContent, header_of}
 use Rattle.exchange.specs.Dialogs.{DialogState, is_over, is_due, unfit, Takes, TellsFault}
 use Rattle.exchange.proofs.DialogsParts.{taken_after}
@@ -26,7 +26,7 @@ use Rattle.ua_peers.specs.declared.peers.PeerEnded.TheVariants as parted
 use Rattle.counted_io.specs.Bytes.{AppendsPart}
 use Rattle.ua_peers.specs.Peers.{failed_as, ended_as, is_silent, Talks, Speaks, MeetsTo}
 use Rattle.ua_peers.specs.Talking.{ending_of, stop_of, ending_in, IsReady, TakesOne, LeavesOne, IsNoLess, IsDrained, LeavesAll, AnswersAll, SentAllReplies, TellsWant, DrainedSoFar, MeetsSoFar}
-use Rattle.ua_peers.proofs.Talks.{talks-start, talks-then, talks-more, talks-starved, talks-frame, talks-ill}
+use Rattle.ua_peers.proofs.Talks.{talks-start, talks-then, talks-more, talks-starved, talks-frame, talks-malformed}
 
 -- ---- the ends of a dialog that the server spells itself
 
@@ -41,32 +41,32 @@ end-four = refl
 -- ---- what stands first
 
 -- no fault but Frame stands where a frame would
-ill-if : (b : Bool) (t : Result (Option Header) ExchangeFault) (fault : ExchangeFault)
+malformed-if : (b : Bool) (t : Result (Option Header) ExchangeFault) (fault : ExchangeFault)
     → ((f : ExchangeFault) → t ≡ Err f → f ≡ exchange.Frame) → cond b (Ok None) t ≡ Err fault
     → fault ≡ exchange.Frame
-ill-if true t fault all e = absurd (cc)
-ill-if false t fault all e = all fault e
+malformed-if true t fault all e = absurd (cc)
+malformed-if false t fault all e = all fault e
 
-ill-sized : (b c : Bool) (h : Header) (f : ExchangeFault)
+malformed-sized : (b c : Bool) (h : Header) (f : ExchangeFault)
     → ◌≡◌ {A = Result (Option Header) ExchangeFault}
     (cond b (Err exchange.Frame) (cond c (Ok None) (Ok (Some h)))) (Err f) → f ≡ exchange.Frame
-ill-sized true c h f e = cc
-ill-sized false true h f e = absurd (cc)
-ill-sized false false h f e = absurd (cc)
+malformed-sized true c h f e = cc
+malformed-sized false true h f e = absurd (cc)
+malformed-sized false false h f e = absurd (cc)
 
-ill-titled : (n : ℕ) (head : List ℕ) (kind : Option FrameKind) (f : ExchangeFault)
+malformed-titled : (n : ℕ) (head : List ℕ) (kind : Option FrameKind) (f : ExchangeFault)
     → titled n head kind ≡ Err f → f ≡ exchange.Frame
-ill-titled n head None f e = cc
-ill-titled n head (Some kind) f e =
-    ill-sized (nat_lt (frame_size_at head) 12 || nat_lt longest_frame (frame_size_at head))
+malformed-titled n head None f e = cc
+malformed-titled n head (Some kind) f e =
+    malformed-sized (nat_lt (frame_size_at head) 12 || nat_lt longest_frame (frame_size_at head))
     (nat_lt n (frame_size_at head)) (record { kind = kind; size = frame_size_at head }) f e
 
-ill-cut : (bytes : List ℕ) (fault : ExchangeFault) → frame_header bytes ≡ Err fault
+malformed-cut : (bytes : List ℕ) (fault : ExchangeFault) → frame_header bytes ≡ Err fault
     → fault ≡ exchange.Frame
 unfolding frame_header
-ill-cut bytes fault e = ill-if (nat_lt (length bytes) 8)
+malformed-cut bytes fault e = malformed-if (nat_lt (length bytes) 8)
     (titled (length bytes) (take 8 bytes) (kind_at (take 8 bytes))) fault
-    (ill-titled (length bytes) (take 8 bytes) (kind_at (take 8 bytes))) e
+    (malformed-titled (length bytes) (take 8 bytes) (kind_at (take 8 bytes))) e
 
 -- what is no whole frame is short
 short-if : (b : Bool) (t : Result (Option Header) ExchangeFault) (n : ℕ) → nat_lt n 8 ≡ b
@@ -202,20 +202,20 @@ leaves-some a b before next held left frame empty out (Ok state) sound gives is 
       few = few-so before frame.kind takes.fit;
     }
 
-pub first-ill : (a : Store) (s : DialogState) (held left : ReceivedFrames)
+pub first-malformed : (a : Store) (s : DialogState) (held left : ReceivedFrames)
     (fault told : ExchangeFault) (out : List ℕ) → held.failed ≡ false → next_of held ≡ Err fault
     → left ≡ after_next held (next_of held)
     → TellsFault exchange.Frame (Err told) [] out
     → Talks s a a held.waiting out left.waiting (ended_as s.code (is_silent out) (Err told)) s
-first-ill a s held left fault told out sound e is tells =
+first-malformed a s held left fault told out sound e is tells =
     let cuts : frame_header held.waiting ≡ Err fault = sym (next-cut held sound) ∙ e in
-    let ill : frame_header held.waiting ≡ Err exchange.Frame =
+    let malformed : frame_header held.waiting ≡ Err exchange.Frame =
     cuts ∙ ap (λ (f : ExchangeFault). let r : Result (Option Header) ExchangeFault = Err f in r)
-    (ill-cut held.waiting fault cuts) in
+    (malformed-cut held.waiting fault cuts) in
     let rest : left.waiting ≡ held.waiting =
     ap (λ (h : ReceivedFrames). h.waiting) (is ∙ ap (after_next held) e) in
     subst (λ (w : List ℕ). Talks s a a held.waiting out w (Some (failed_as (is_silent out) told)) s)
-    (sym rest) (talks-ill a s held.waiting out told ill tells)
+    (sym rest) (talks-malformed a s held.waiting out told malformed tells)
 
 -- ---- a stretch
 

@@ -14,8 +14,9 @@ use Rattle.exchange.specs.declared.fault.ExchangeFault.{ExchangeFault}
 use Rattle.exchange.specs.declared.fault.ExchangeFault.TheVariants as exchange
 use Rattle.exchange.specs.declared.message.State.{State}
 use Rattle.exchange.specs.declared.message.State.TheVariants.{Pulling, Pushing, Serving, Done, Failed}
-use Rattle.exchange.specs.Named.{Party, Message, end_frame}
-use Rattle.exchange.specs.Frames.{frame_header}
+use Rattle.exchange.specs.declared.message.Party.{Party}
+use Rattle.exchange.specs.declared.message.Message.{Message}
+use Rattle.exchange.specs.Frames.{end_frame, frame_header}
 use Rattle.exchange.specs.Streams.{FrameContent, AreFrames, header_of}
 use Rattle.exchange.specs.Dialogs.{Turn, Way, Clear, Unread, Stopped, Starved, Met, DialogState, fault_on, received, records_in, records_read, learned_at, answered_to, frame_answered, party_of, IsHeld, Writes, Takes, TellsFault}
 use Rattle.exchange.proofs.StreamLemmas.{given_frame}
@@ -81,7 +82,7 @@ end-behind xs ys code rest beside (Some ending) on e = elim e [
     | inl b ↦ inr (inl
         (record {
           goes = open-append xs ys on b.goes;
-          ill = b.ill;
+          malformed = b.malformed;
           fault = b.fault;
           told =
               b.told;
@@ -479,15 +480,23 @@ talks-frame a b before next frame waiting said result stands within body takes =
     }
 
 -- what came is no frame
-pub talks-ill : (a : Store) (before : DialogState) (waiting beside : List ℕ) (fault : ExchangeFault)
+pub talks-malformed : (a : Store) (before : DialogState) (waiting beside : List ℕ)
+    (fault : ExchangeFault)
     → frame_header waiting ≡ Err exchange.Frame → TellsFault exchange.Frame (Err fault) [] beside
     → Talks before a a waiting beside waiting (Some (failed_as (is_silent beside) fault)) before
-talks-ill a before waiting beside fault ill told = record {
+talks-malformed a before waiting beside fault malformed told = record {
   taken = [];
   beside = beside;
   frames = refl;
   wrote = refl;
-  ends = inr (inl (record { goes = tt; ill = ill; fault = fault; told = told; ends = refl }));
+  ends = inr (inl (record {
+    goes = tt;
+    malformed = malformed;
+    fault = fault;
+    told = told;
+    ends =
+        refl;
+  }));
   passes = passes-none a;
   answered = λ h R held. tt;
   stands = λ h R held. refl;

@@ -5,8 +5,7 @@ use Rattle.archive.specs.Store.{Store}
 use Rattle.exchange.specs.declared.fault.ExchangeFault.{ExchangeFault}
 use Rattle.exchange.specs.declared.fault.ExchangeFault.TheVariants.{Frame}
 use Rattle.exchange.specs.declared.message.State.TheVariants.{Pulling}
-use Rattle.exchange.specs.Named.{asking_frame}
-use Rattle.exchange.specs.Dialogs.{DialogState, party_of, Greets, capped}
+use Rattle.exchange.specs.Dialogs.{asking_frame, DialogState, party_of, Greets, capped}
 use Rattle.counted_io.specs.declared.fault.ServeFault.{ServeFault}
 use Rattle.counted_io.specs.declared.fault.ServeFault.TheVariants.{Write}
 use Rattle.ua_peers.specs.declared.peers.PeerEnded.{PeerEnded}

@@ -9,8 +9,9 @@ use Rattle.exchange.specs.declared.fault.ExchangeFault.{ExchangeFault}
 use Rattle.exchange.specs.declared.fault.ExchangeFault.TheVariants as exchange
 use Rattle.exchange.specs.declared.message.State.{State}
 use Rattle.exchange.specs.declared.message.State.TheVariants.{Done, Failed}
-use Rattle.exchange.specs.Named.{Party, Message, end_frame}
-use Rattle.exchange.specs.Frames.{frame_header}
+use Rattle.exchange.specs.declared.message.Party.{Party}
+use Rattle.exchange.specs.declared.message.Message.{Message}
+use Rattle.exchange.specs.Frames.{end_frame, frame_header}
 use Rattle.exchange.specs.Streams.{FrameContent, AreFrames}
 use Rattle.exchange.specs.Dialogs.{Turn, Way, IsWay, DialogState, fault_on, is_over, received, records_read, learned_at, frame_answered, standing_after, party_of, IsHeld, Writes, TellsFault}
 use Rattle.counted_io.specs.declared.fault.ServeFault.{ServeFault}
@@ -121,7 +122,7 @@ abbrev pub EndsByNoFrame : List Taken → (rest beside : List ℕ) → Result Pe
     → Type 0
 EndsByNoFrame taken rest beside ending = record {
   goes : AreOpen taken;
-  ill : frame_header rest ≡ Err exchange.Frame;
+  malformed : frame_header rest ≡ Err exchange.Frame;
   fault : ExchangeFault;
   told : TellsFault exchange.Frame (Err fault) [] beside;
   ends : failed_as (is_silent beside) fault ≡ ending;

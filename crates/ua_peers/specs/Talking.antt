@@ -5,8 +5,7 @@ use Rattle.archive.specs.Store.{Store}
 use Rattle.exchange.specs.declared.fault.ExchangeFault.{ExchangeFault}
 use Rattle.exchange.specs.declared.fault.ExchangeFault.TheVariants as exchange
 use Rattle.exchange.specs.declared.message.State.{State}
-use Rattle.exchange.specs.Named.{end_frame}
-use Rattle.exchange.specs.Frames.{frame_header, ReceivedFrames}
+use Rattle.exchange.specs.Frames.{end_frame, frame_header, ReceivedFrames}
 use Rattle.exchange.specs.Dialogs.{DialogState}
 use Rattle.counted_io.specs.declared.fault.ServeFault.{ServeFault}
 use Rattle.counted_io.specs.declared.fault.ServeFault.TheVariants.{Read, Write}

@@ -4,4 +4,11 @@ use Rattle.ua_services.specs.declared.attributes.TimestampsToReturn.{TimestampsT
 use Rattle.ua_services.specs.declared.attributes.TimestampsToReturn.TheVariants.{Source, Server, Both, Neither}
 
 abbrev pub timestamps_number : Option TimestampsToReturn → ℤ
-timestamps_number given = elim given [ Some Source ↦ pos 0 | Some Server ↦ pos 1 | Some Both ↦ pos 2 | Some Neither ↦ pos 3 | None ↦ pos 4 ]
+timestamps_number given = elim given [
+  | Some Source ↦ pos 0
+  | Some Server ↦ pos 1
+  | Some Both ↦
+      pos 2
+  | Some Neither ↦ pos 3
+  | None ↦ pos 4
+]

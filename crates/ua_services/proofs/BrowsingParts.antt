@@ -4,4 +4,10 @@ use Rattle.ua_services.specs.declared.browsing.BrowseDirection.{BrowseDirection}
 use Rattle.ua_services.specs.declared.browsing.BrowseDirection.TheVariants.{Forward, Inverse, Both}
 
 abbrev pub direction_number : Option BrowseDirection → ℤ
-direction_number given = elim given [ Some Forward ↦ pos 0 | Some Inverse ↦ pos 1 | Some Both ↦ pos 2 | None ↦ pos 3 ]
+direction_number given = elim given [
+  | Some Forward ↦ pos 0
+  | Some Inverse ↦ pos 1
+  | Some Both ↦
+      pos 2
+  | None ↦ pos 3
+]

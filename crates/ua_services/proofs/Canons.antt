@@ -13,11 +13,18 @@ pub canon_nothing : history_data.canon Nothing ≡ node_id.canon (Numeric 0 0) +
 unfolding history_data
 canon_nothing = refl
 
-pub canon_raw : (values : List DataValue) → history_data.canon (Raw values) ≡ node_id.canon (Numeric 0 658) ++ (1 ∷ ((signed w32).canon (pos (length (history_bytes (Raw values)))) ++ data_values.canon values))
+pub canon_raw : (values : List DataValue)
+    → history_data.canon (Raw values)
+    ≡ node_id.canon (Numeric 0 658) ++ (1
+    ∷ ((signed w32).canon (pos (length (history_bytes (Raw values)))) ++ data_values.canon values))
 unfolding history_data binary_body byte_string
 canon_raw values = refl
 
-pub canon_modified : (values : List DataValue) (infos : List InfoFields) → history_data.canon (Modified (values, infos)) ≡ node_id.canon (Numeric 0 11227) ++ (1 ∷ ((signed w32).canon (pos (length (history_bytes (Modified (values, infos))))) ++ (data_values.canon values ++ (many modification_info).canon infos)))
+pub canon_modified : (values : List DataValue) (infos : List InfoFields)
+    → history_data.canon (Modified (values, infos))
+    ≡ node_id.canon (Numeric 0 11227) ++ (1
+    ∷ ((signed w32).canon (pos (length (history_bytes (Modified (values, infos)))))
+    ++ (data_values.canon values ++ (many modification_info).canon infos)))
 unfolding history_data binary_body byte_string
 canon_modified values infos = refl
 

@@ -48,26 +48,36 @@ pub token_fits : (t : UserTokenType) → FitsSigned w32 (token_number t)
 token_fits Anonymous = omega (arith, ints)
 token_fits UserName = omega (arith, ints)
 
-each_fits : {A V : Type 0} (P : A → Type 0) (view : V → A) (vs : List V) → AllByRecursion (λ v. P (view v)) vs → AllByRecursion P (map view vs)
+each_fits : {A V : Type 0} (P : A → Type 0) (view : V → A) (vs : List V)
+    → AllByRecursion (λ v. P (view v)) vs → AllByRecursion P (map view vs)
 each_fits P view [] h = tt
 each_fits P view (v ∷ vs) h = (h.0, each_fits P view vs h.1)
 
 -- few enough items, each with a spelling
-pub few_fit : {E A V : Type 0} (view : V → A) (f : Format E A) (vs : List V) → length vs < 2 ^ 31 → All (λ v. f.Fits (view v)) vs → AreFew f (map view vs)
-few_fit view f vs lt h = (omega (arith, lt, length-map vs view), each_fits f.Fits view vs (recursion_from_All (λ v. f.Fits (view v)) vs h))
+pub few_fit : {E A V : Type 0} (view : V → A) (f : Format E A) (vs : List V) → length vs < 2 ^ 31
+    → All (λ v. f.Fits (view v)) vs → AreFew f (map view vs)
+few_fit view f vs lt h = (
+  omega (arith, lt, length-map vs view),
+  each_fits f.Fits view vs (recursion_from_All (λ v. f.Fits (view v)) vs h),
+)
 
 -- few enough items, each of which may be written
-pub written_few : {E F T A V : Type 0} (view : V → A) (f : Format E A) (vs : List V) (r : Result T F) → length vs < 2 ^ 31 → IfOk r (λ _. All (λ v. f.Fits (view v)) vs) → IfOk r (λ _. AreFew f (map view vs))
+pub written_few : {E F T A V : Type 0} (view : V → A) (f : Format E A) (vs : List V)
+    (r : Result T F) → length vs < 2 ^ 31 → IfOk r (λ _. All (λ v. f.Fits (view v)) vs)
+    → IfOk r (λ _. AreFew f (map view vs))
 written_few view f vs (Ok v) lt h = few_fit view f vs lt h
 written_few view f vs (Err e) lt h = tt
 
-may_be : {V : Type 0} (P Q : V → Type 0) (vs : List V) → AllByRecursion (λ v. P v → Q v) vs → AllByRecursion P vs → AllByRecursion Q vs
+may_be : {V : Type 0} (P Q : V → Type 0) (vs : List V) → AllByRecursion (λ v. P v → Q v) vs
+    → AllByRecursion P vs → AllByRecursion Q vs
 may_be P Q [] h p = tt
 may_be P Q (v ∷ vs) h p = (h.0 p.0, may_be P Q vs h.1 p.1)
 
-pub may_fit : {E A V : Type 0} (P : V → Type 0) (view : V → A) (f : Format E A) (vs : List V) → All (λ v. P v → f.Fits (view v)) vs → length vs < 2 ^ 31 → All P vs → AreFew f (map view vs)
+pub may_fit : {E A V : Type 0} (P : V → Type 0) (view : V → A) (f : Format E A) (vs : List V)
+    → All (λ v. P v → f.Fits (view v)) vs → length vs < 2 ^ 31 → All P vs → AreFew f (map view vs)
 may_fit P view f vs h lt p =
-    let each = may_be P (λ v. f.Fits (view v)) vs (recursion_from_All (λ v. P v → f.Fits (view v)) vs h) (recursion_from_All P vs p) in
+    let each = may_be P (λ v. f.Fits (view v)) vs (recursion_from_All
+    (λ v. P v → f.Fits (view v)) vs h) (recursion_from_All P vs p) in
     (omega (arith, lt, length-map vs view), each_fits f.Fits view vs each)
 
 -- what a built-in type's writer promises of its value
@@ -125,7 +135,20 @@ pub history_fits : (v : HistoryFields) → IsHistoryRead v → history_read_resu
 unfolding history_read_result
 history_fits v h = h
 
-pub ruleset fits = (update_fits, ticks_is, qualified_is, class_fits, status_is, application_fits, mode_fits, token_fits, text_is, localized_is, node_is, u32_is)
+pub ruleset fits = (
+  update_fits,
+  ticks_is,
+  qualified_is,
+  class_fits,
+  status_is,
+  application_fits,
+  mode_fits,
+  token_fits,
+  text_is,
+  localized_is,
+  node_is,
+  u32_is,
+)
 
 -- what stands for itself
 pub all_same : {A : Type 0} (l : List A) → map (λ x. x) l ≡ l
@@ -137,19 +160,37 @@ pub number_length : (n : ℤ) → length ((signed w32).canon n) ≡ 4
 unfolding signed unsigned
 number_length n = refl
 
-pub application_length : (v : ApplicationFields) → length (application_description.canon v) ≡ length (text.canon v.0) + (length (text.canon v.1.0) + (length (localized.canon v.1.1.0) + (12 + length ((many text).canon v.1.1.1.1))))
+pub application_length : (v : ApplicationFields)
+    → length (application_description.canon v)
+    ≡ length (text.canon v.0) + (length (text.canon v.1.0)
+    + (length (localized.canon v.1.1.0) + (12 + length ((many text).canon v.1.1.1.1))))
 unfolding application_description
 application_length v =
     let urls = (many text).canon v.1.1.1.1 in
     let more = text.canon None ++ (text.canon None ++ urls) in
     let kind = (signed w32).canon v.1.1.1.0 in
-    omega (arith, number_length v.1.1.1.0, no_text_length, length-append (text.canon None) urls, length-append (text.canon None) (text.canon None ++ urls), length-append kind more, length-append (localized.canon v.1.1.0) (kind ++ more), length-append (text.canon v.1.0) (localized.canon v.1.1.0 ++ (kind ++ more)), length-append (text.canon v.0) (text.canon v.1.0 ++ (localized.canon v.1.1.0 ++ (kind ++ more))))
+    omega (
+      arith,
+      number_length v.1.1.1.0,
+      no_text_length,
+      length-append (text.canon None) urls,
+      length-append (text.canon None) (text.canon None ++ urls),
+      length-append kind more,
+      length-append (localized.canon v.1.1.0) (kind ++ more),
+      length-append (text.canon v.1.0) (localized.canon v.1.1.0 ++ (kind ++ more)),
+      length-append (text.canon v.0) (text.canon v.1.0
+          ++ (localized.canon v.1.1.0 ++ (kind ++ more))),
+    )
 
 pub boolean_length : (b : Bool) → length (boolean.canon b) ≡ 1
 unfolding boolean
 boolean_length b = refl
 
-pub reference_length : (v : ReferenceFields) → length (reference_description.canon v) ≡ length (node_id.canon v.0) + (5 + (length (node_id.canon v.1.1.0) + (length (qualified.canon v.1.1.1.0) + (length (localized.canon v.1.1.1.1.0) + length (node_id.canon v.1.1.1.1.1.1)))))
+pub reference_length : (v : ReferenceFields)
+    → length (reference_description.canon v)
+    ≡ length (node_id.canon v.0) + (5
+    + (length (node_id.canon v.1.1.0) + (length (qualified.canon v.1.1.1.0)
+    + (length (localized.canon v.1.1.1.1.0) + length (node_id.canon v.1.1.1.1.1.1)))))
 unfolding reference_description
 reference_length v =
     let last = node_id.canon v.1.1.1.1.1.1 in
@@ -158,10 +199,32 @@ reference_length v =
     let name = qualified.canon v.1.1.1.0 in
     let node = node_id.canon v.1.1.0 in
     let way = boolean.canon v.1.0 in
-    omega (arith, number_length v.1.1.1.1.1.0, boolean_length v.1.0, length-append kind last, length-append display (kind ++ last), length-append name (display ++ (kind ++ last)), length-append node (name ++ (display ++ (kind ++ last))), length-append way (node ++ (name ++ (display ++ (kind ++ last)))), length-append (node_id.canon v.0) (way ++ (node ++ (name ++ (display ++ (kind ++ last))))))
+    omega (
+      arith,
+      number_length v.1.1.1.1.1.0,
+      boolean_length v.1.0,
+      length-append kind last,
+      length-append display (kind ++ last),
+      length-append name (display ++ (kind ++ last)),
+      length-append node (name ++ (display ++ (kind ++ last))),
+      length-append way (node ++ (name ++ (display ++ (kind ++ last)))),
+      length-append (node_id.canon v.0) (way ++ (node ++ (name ++ (display ++ (kind ++ last))))),
+    )
 
 pub ticks_length : (t : Ticks) → length (ticks.canon t) ≡ 8
 unfolding ticks signed unsigned
 ticks_length t = refl
 
-pub ruleset lengths = (ticks_length, reference_length, boolean_length, application_length, byte_string_length, no_byte_string_length, text_length, no_text_length, array_length, length-append, number_length)
+pub ruleset lengths = (
+  ticks_length,
+  reference_length,
+  boolean_length,
+  application_length,
+  byte_string_length,
+  no_byte_string_length,
+  text_length,
+  no_text_length,
+  array_length,
+  length-append,
+  number_length,
+)

@@ -12,12 +12,21 @@ use Rattle.ua_services.specs.Updates.{DeleteAtTime, DeleteRawModified, Details, 
 
 -- the type that is written
 abbrev pub details_type : Details → NodeId
-details_type details = elim details [ UpdateData _ ↦ Numeric 0 682 | DeleteRawModified _ ↦ Numeric 0 688 | DeleteAtTime _ ↦ Numeric 0 691 | Other ↦ Numeric 0 0 ]
+details_type details = elim details [
+  | UpdateData _ ↦ Numeric 0 682
+  | DeleteRawModified _ ↦
+      Numeric 0 688
+  | DeleteAtTime _ ↦ Numeric 0 691
+  | Other ↦ Numeric 0 0
+]
 
 abbrev pub other_form : Format BinaryFault Details
 other_form = standing_for (λ _. Other) (λ _. Absent) body
 
--- what the type calls for: 682, 688 and 691 a structure that fills the body; the body of another type isn't looked into
+-- what the type calls for: 682, 688 and 691 a structure that fills the body; the body of another
+-- type isn't looked into
 abbrev pub details_form : NodeId → Format VariantFault Details
 details_form id =
-    chosen (is_standard_type 682 id) update_data_form (chosen (is_standard_type 688 id) (raise delete_raw_modified_form) (chosen (is_standard_type 691 id) (raise delete_at_time_form) (raise other_form)))
+    chosen (is_standard_type 682 id) update_data_form
+    (chosen (is_standard_type 688 id) (raise delete_raw_modified_form)
+    (chosen (is_standard_type 691 id) (raise delete_at_time_form) (raise other_form)))

@@ -7,7 +7,11 @@ use Rattle.ua_session.specs.declared.identity.User.{User}
 
 -- the user's name where the password is the user's, every byte of it
 abbrev pub judgement_of_user : Option User → List ℕ → Result (List ℕ) SessionFault
-judgement_of_user given password = elim given [ None ↦ Err IdentityRejected | Some user ↦ if pointwise nat_eq user.password password then Ok user.name else Err IdentityRejected ]
+judgement_of_user given password = elim given [
+  | None ↦ Err IdentityRejected
+  | Some user ↦
+      if pointwise nat_eq user.password password then Ok user.name else Err IdentityRejected
+]
 
 -- the answer where nothing was encrypted: the algorithm is empty
 abbrev pub unless_encrypted : List ℕ → Result (List ℕ) SessionFault → Result (List ℕ) SessionFault

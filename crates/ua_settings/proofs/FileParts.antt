@@ -12,10 +12,13 @@ or_else = option_or
 
 -- the key where there is one, else what is found later
 abbrev pub or_later : Section → ℕ → Option (List ℕ) → Option Spot → Option Spot
-or_later section number given later = option_or (option_map (λ key. record { section = section; number = number; key = key }) given) later
+or_later section number given later =
+    option_or (option_map (λ key. record { section = section; number = number; key = key }) given)
+    later
 
 abbrev pub name_of : Rule → List ℕ
 name_of rule = rule.name
 
 abbrev pub wrong_in : Members → Wrong → Section → Option Spot
-wrong_in document wrong section = wrong_from (names_in document) wrong section 1 (tables document section)
+wrong_in document wrong section = wrong_from (names_in document) wrong section 1
+    (tables document section)

@@ -30,19 +30,23 @@ use Rattle.ua_settings.specs.Settings.{SettingsValues}
 use Rattle.ua_settings.specs.Sound.{IsSound, IsSoundFolder, IsSoundVariable}
 use Rattle.ua_settings.proofs.Mapped.{any_of_mapped}
 
-pub map_twice : {A B C : Type 0} (g : B → C) (f : A → B) (xs : List A) → map g (map f xs) ≡ map (λ x. g (f x)) xs
+pub map_twice : {A B C : Type 0} (g : B → C) (f : A → B) (xs : List A)
+    → map g (map f xs) ≡ map (λ x. g (f x)) xs
 map_twice g f [] = refl
 map_twice g f (x ∷ xs) = ap (λ more. g (f x) ∷ more) (map_twice g f xs)
 
-pub all_under : {A B : Type 0} (f : A → B) (P : B → Type 0) (xs : List A) → AllByRecursion P (map f xs) → AllByRecursion (λ x. P (f x)) xs
+pub all_under : {A B : Type 0} (f : A → B) (P : B → Type 0) (xs : List A)
+    → AllByRecursion P (map f xs) → AllByRecursion (λ x. P (f x)) xs
 all_under f P [] all = tt
 all_under f P (x ∷ xs) all = (all.0, all_under f P xs all.1)
 
-all_to : {A B : Type 0} (f : A → B) (P : A → Type 0) (Q : B → Type 0) → ((x : A) → P x → Q (f x)) → (xs : List A) → AllByRecursion P xs → AllByRecursion Q (map f xs)
+all_to : {A B : Type 0} (f : A → B) (P : A → Type 0) (Q : B → Type 0) → ((x : A) → P x → Q (f x))
+    → (xs : List A) → AllByRecursion P xs → AllByRecursion Q (map f xs)
 all_to f P Q to [] all = tt
 all_to f P Q to (x ∷ xs) all = (to x all.0, all_to f P Q to xs all.1)
 
-all_from : {A B : Type 0} (f : A → B) (P : A → Type 0) (Q : B → Type 0) → ((x : A) → Q (f x) → P x) → (xs : List A) → AllByRecursion Q (map f xs) → AllByRecursion P xs
+all_from : {A B : Type 0} (f : A → B) (P : A → Type 0) (Q : B → Type 0) → ((x : A) → Q (f x) → P x)
+    → (xs : List A) → AllByRecursion Q (map f xs) → AllByRecursion P xs
 all_from f P Q from [] all = tt
 all_from f P Q from (x ∷ xs) all = (from x all.0, all_from f P Q from xs all.1)
 
@@ -66,12 +70,14 @@ IsIdentified : Entry → Type 0
 IsIdentified entry = (0 < length entry.id) × (length entry.id ≤ 256)
 
 IsAmong : List (List ℕ) → Entry → Type 0
-IsAmong ids entry = IfSome entry.folder (λ id. list_any (λ folder. pointwise nat_eq folder id) ids ≡ true)
+IsAmong ids entry = IfSome entry.folder (λ id. list_any (λ folder. pointwise nat_eq folder id) ids
+    ≡ true)
 
 HasCountable : Entry → Type 0
 HasCountable entry = IsCountable entry.name
 
-module _ (document : Members) (sound : IsSound document) (folders : List FolderPlan) (variables : List VariablePlan)
+module _ (document : Members) (sound : IsSound document) (folders : List FolderPlan)
+    (variables : List VariablePlan)
     (same_folders : map folder_of folders ≡ map folder_in (tables document Folder))
     (same_variables : map entry_of variables ≡ map variable_in (tables document Variable)) where
   pub ids_planned : AllByRecursion HasPlannedId variables
@@ -79,53 +85,72 @@ module _ (document : Members) (sound : IsSound document) (folders : List FolderP
   ids_planned =
       all_from entry_of HasPlannedId IsIdentified (λ variable held. held) variables
       (subst (AllByRecursion IsIdentified) (sym same_variables)
-      (all_to variable_in (IsSoundVariable (names_in document).folders) IsIdentified (λ members held. name_bounds _ held.id) (tables document Variable) sound.variables))
+      (all_to variable_in (IsSoundVariable (names_in document).folders) IsIdentified
+      (λ members held. name_bounds _ held.id) (tables document Variable) sound.variables))
 
   folder_ids : (names_in document).folders ≡ map (λ folder. folder.id.now) folders
   folder_ids =
-      sym (map_twice (λ folder. folder.id) folder_in (tables document Folder)) ∙ ap (map (λ folder. folder.id)) (sym same_folders) ∙ map_twice (λ folder. folder.id) folder_of folders
+      sym (map_twice (λ folder. folder.id) folder_in (tables document Folder))
+      ∙ ap (map (λ folder. folder.id)) (sym same_folders)
+      ∙ map_twice (λ folder. folder.id) folder_of folders
 
-  lent_folder : (folder : Option (Bor (List ℕ))) → IfSome (option_copied folder) (λ id. list_any (λ f. pointwise nat_eq f id) (names_in document).folders ≡ true)
+  lent_folder : (folder : Option (Bor (List ℕ)))
+      → IfSome (option_copied folder) (λ id.
+      list_any (λ f. pointwise nat_eq f id) (names_in document).folders ≡ true)
       → IfSome folder (λ id. list_any (λ f. pointwise nat_eq f.id.now id.now) folders ≡ true)
   lent_folder None held = tt
   lent_folder (Some id) held =
-      sym (any_of_mapped (λ f. f.id.now) (λ f. pointwise nat_eq f id.now) folders) ∙ ap (list_any (λ f. pointwise nat_eq f id.now)) (sym folder_ids) ∙ held
+      sym (any_of_mapped (λ f. f.id.now) (λ f. pointwise nat_eq f id.now) folders)
+      ∙ ap (list_any (λ f. pointwise nat_eq f id.now)) (sym folder_ids) ∙ held
 
   pub folders_planned : AllByRecursion (HasFolder folders) variables
   unfolding IsAmong
   folders_planned =
-      all_from entry_of (HasFolder folders) (IsAmong (names_in document).folders) (λ variable held. lent_folder variable.folder held) variables
+      all_from entry_of (HasFolder folders) (IsAmong (names_in document).folders)
+      (λ variable held. lent_folder variable.folder held) variables
       (subst (AllByRecursion (IsAmong (names_in document).folders)) (sym same_variables)
-      (all_to variable_in (IsSoundVariable (names_in document).folders) (IsAmong (names_in document).folders) (λ members held. held.folder) (tables document Variable) sound.variables))
+      (all_to variable_in (IsSoundVariable (names_in document).folders)
+      (IsAmong (names_in document).folders) (λ members held. held.folder)
+      (tables document Variable) sound.variables))
 
   folders_short : AllByRecursion (λ folder. HasShortTexts (folder_of folder)) folders
   folders_short =
       all_under folder_of HasShortTexts folders
       (subst (AllByRecursion HasShortTexts) (sym same_folders)
-      (all_to folder_in IsSoundFolder HasShortTexts (λ members held. (short_length _ held.id, short_length _ held.name)) (tables document Folder) sound.folders))
+      (all_to folder_in IsSoundFolder HasShortTexts
+      (λ members held. (short_length _ held.id, short_length _ held.name))
+      (tables document Folder) sound.folders))
 
   variables_short : AllByRecursion (λ variable. HasShortName (variable_of variable)) variables
   unfolding HasCountable
   variables_short =
-      all_from entry_of (λ variable. HasShortName (variable_of variable)) HasCountable (λ variable held. held) variables
+      all_from entry_of (λ variable. HasShortName (variable_of variable)) HasCountable
+      (λ variable held. held) variables
       (subst (AllByRecursion HasCountable) (sym same_variables)
-      (all_to variable_in (IsSoundVariable (names_in document).folders) HasCountable (λ members held. short_length _ held.name) (tables document Variable) sound.variables))
+      (all_to variable_in (IsSoundVariable (names_in document).folders) HasCountable
+      (λ members held. short_length _ held.name) (tables document Variable) sound.variables))
 
   pub plan_short : (plan : Plan) → plan.folders.now ≡ folders → plan.variables.now ≡ variables
-      → plan.namespace.now ≡ text_at (codes "namespace") (table_at (codes "server") document) → HasShortPlan plan
+      → plan.namespace.now ≡ text_at (codes "namespace") (table_at (codes "server") document)
+      → HasShortPlan plan
   plan_short plan f v n = record {
     namespace = subst IsCountable (sym n) (short_length _ sound.server.namespace);
-    folders = subst (AllByRecursion (λ folder. HasShortTexts (folder_of folder))) (sym f) folders_short;
-    variables = subst (AllByRecursion (λ variable. HasShortName (variable_of variable))) (sym v) variables_short;
+    folders = subst (AllByRecursion (λ folder. HasShortTexts (folder_of folder)))
+        (sym f) folders_short;
+    variables = subst (AllByRecursion (λ variable. HasShortName (variable_of variable)))
+        (sym v) variables_short;
   }
 
 -- ---- the space of a sound document
 
 -- memory isn't a fault of what is asked for
-never_starved : (namespace : List ℕ) (folders : List SpaceFolder) (entries : List Entry) → planned namespace folders entries ≢ Err build.OutOfMemory
+never_starved : (namespace : List ℕ) (folders : List SpaceFolder) (entries : List Entry)
+    → planned namespace folders entries ≢ Err build.OutOfMemory
 never_starved namespace folders entries = by (nat_lt 1000 (length folders + length entries)) _ _ _
   where
-    by : (a b c : Bool) (layout : Layout) → (if a then Err build.TooMany else if b then Err build.BadType else if c then Err build.DuplicateNode else Ok layout) ≢ Err build.OutOfMemory
+    by : (a b c : Bool) (layout : Layout)
+        → (if a then Err build.TooMany else if b then Err build.BadType else if c then Err
+        build.DuplicateNode else Ok layout) ≢ Err build.OutOfMemory
     by true b c layout is = cc
     by false true c layout is = cc
     by false false true layout is = cc
@@ -137,45 +162,76 @@ named build.BadType apart = refl
 named build.TooMany apart = refl
 named build.OutOfMemory apart = absurd (apart refl)
 
-built : (made : Result Layout BuildFault) → made ≢ Err build.OutOfMemory → (result : Result Layout BuildFault) → IsOrStarved build.OutOfMemory made result
-    → (result_map_both (λ space. space) space_fault result ≡ Err OutOfMemory) ⊎ (result_map_both (λ space. space) space_fault result ≡ result_map_both (λ space. space) Space made)
+built : (made : Result Layout BuildFault) → made ≢ Err build.OutOfMemory
+    → (result : Result Layout BuildFault) → IsOrStarved build.OutOfMemory made result
+    → (result_map_both (λ space. space) space_fault result ≡ Err OutOfMemory)
+    ⊎ (result_map_both (λ space. space) space_fault result
+    ≡ result_map_both (λ space. space) Space made)
 built (Ok answer) apart (Ok space) is = inr (ap Ok is)
 built (Ok answer) apart (Err fault) is = inl (ap (λ f. Err (space_fault f)) is)
-built (Err fault) apart result is = inr (ap (result_map_both (λ space. space) space_fault) is ∙ ap Err (named fault (λ is. apart (ap Err is))))
+built (Err fault) apart result is =
+    inr (ap (result_map_both (λ space. space) space_fault) is
+    ∙ ap Err (named fault (λ is. apart (ap Err is))))
 
-pub space_built : (document : Members) (plan : Plan) (result : Result Layout BuildFault) → plan.namespace.now ≡ text_at (codes "namespace") (table_at (codes "server") document)
-    → map folder_of plan.folders.now ≡ map folder_in (tables document Folder) → map entry_of plan.variables.now ≡ map variable_in (tables document Variable)
-    → IsOrStarved build.OutOfMemory (planned_by plan) result → IsSpaceOrStarved document (result_map_both (λ space. space) space_fault result)
+pub space_built : (document : Members) (plan : Plan) (result : Result Layout BuildFault)
+    → plan.namespace.now ≡ text_at (codes "namespace") (table_at (codes "server") document)
+    → map folder_of plan.folders.now ≡ map folder_in (tables document Folder)
+    → map entry_of plan.variables.now ≡ map variable_in (tables document Variable)
+    → IsOrStarved build.OutOfMemory (planned_by plan) result
+    → IsSpaceOrStarved document (result_map_both (λ space. space) space_fault result)
 space_built document plan result namespace folders variables is =
     let P : Result Layout BuildFault → Type 0 = λ made. IsOrStarved build.OutOfMemory made result in
-    let apart = never_starved (text_at (codes "namespace") (table_at (codes "server") document)) (map folder_in (tables document Folder)) (map variable_in (tables document Variable)) in
-    built (space_in document) apart result (subst P (λ i. planned (namespace i) (folders i) (variables i)) is)
+    let apart = never_starved (text_at (codes "namespace") (table_at (codes "server") document))
+    (map folder_in (tables document Folder)) (map variable_in (tables document Variable)) in
+    built (space_in document) apart result (subst P
+    (λ i. planned (namespace i) (folders i) (variables i)) is)
 
 -- ---- the settings of a sound document
 
-values_same : (document archive server : Members) (users : Allowed) (space : Layout) → archive ≡ table_at (codes "archive") document → server ≡ table_at (codes "server") document → users ≡ users_in document
-    → (record (values_of_tables archive server [] space) { users = users }) ≡ values_of_tables (table_at (codes "archive") document) (table_at (codes "server") document) (tables document User) space
-values_same document archive server users space a s u = λ i. record (values_of_tables (a i) (s i) [] space) { users = u i }
+values_same : (document archive server : Members) (users : Allowed) (space : Layout)
+    → archive ≡ table_at (codes "archive") document → server ≡ table_at (codes "server") document
+    → users ≡ users_in document
+    → (record (values_of_tables archive server [] space) { users = users })
+    ≡ values_of_tables (table_at (codes "archive") document) (table_at (codes "server") document)
+    (tables document User) space
+values_same document archive server users space a s u =
+    λ i. record (values_of_tables (a i) (s i) [] space) { users = u i }
 
-given : (values : Layout → SettingsValues) (space : Layout) (made : Result Layout BuildFault) → Ok space ≡ result_map_both (λ space. space) Space made → Ok (values space) ≡ result_map_both values Space made
+given : (values : Layout → SettingsValues) (space : Layout) (made : Result Layout BuildFault)
+    → Ok space ≡ result_map_both (λ space. space) Space made
+    → Ok (values space) ≡ result_map_both values Space made
 given values space (Ok other) is = ap (result_map_both values (λ fault. fault)) is
 given values space (Err fault) is = absurd (false≢true (sym (ap is_ok is)))
 
-has_space : (document : Members) (space : Layout) → IsSpaceOrStarved document (Ok space) → Ok space ≡ result_map_both (λ space. space) Space (space_in document)
+has_space : (document : Members) (space : Layout) → IsSpaceOrStarved document (Ok space)
+    → Ok space ≡ result_map_both (λ space. space) Space (space_in document)
 has_space document space (inl starved) = absurd (false≢true (sym (ap is_ok starved)))
 has_space document space (inr is) = is
 
-pub accepted : (document archive server : Members) (users : Allowed) (space : Layout) (result : Result SettingsValues SettingsFault)
-    → archive ≡ table_at (codes "archive") document → server ≡ table_at (codes "server") document → users ≡ users_in document
+pub accepted : (document archive server : Members) (users : Allowed) (space : Layout)
+    (result : Result SettingsValues SettingsFault)
+    → archive ≡ table_at (codes "archive") document → server ≡ table_at (codes "server") document
+    → users ≡ users_in document
     → IsSpaceOrStarved document (Ok space)
-    → IfOk result (λ settings. settings ≡ record (values_of_tables archive server [] space) { users = users }) → IfErr result (λ fault. fault ≡ OutOfMemory)
+    → IfOk result (λ settings. settings
+    ≡ record (values_of_tables archive server [] space) { users = users })
+    → IfErr result (λ fault. fault ≡ OutOfMemory)
     → IsAcceptedOrStarved document result
 accepted document archive server users space (Ok settings) a s u is_space ok err =
-    inr (ap Ok (ok ∙ values_same document archive server users space a s u) ∙ given (values_of_tables (table_at (codes "archive") document) (table_at (codes "server") document) (tables document User)) space (space_in document) (has_space document space is_space))
+    inr (ap Ok (ok ∙ values_same document archive server users space a s u)
+    ∙ given (values_of_tables (table_at (codes "archive") document)
+    (table_at (codes "server") document) (tables document User)) space (space_in document)
+    (has_space document space is_space))
 accepted document archive server users space (Err fault) a s u is_space ok err = inl (ap Err err)
 
-pub users_same : (document server : Members) (anonymous : Bool) (named : List SessionUser) → server ≡ table_at (codes "server") document
+pub users_same : (document server : Members) (anonymous : Bool) (named : List SessionUser)
+    → server ≡ table_at (codes "server") document
     → anonymous ≡ truth_at (codes "anonymous") server → named ≡ map user_in (tables document User)
     → record { anonymous = anonymous; named = named } ≡ users_in document
 users_same document server anonymous named s a n =
-    ap (λ b. record { anonymous = b; named = named }) (a ∙ ap (truth_at (codes "anonymous")) s) ∙ ap (λ l. record { anonymous = truth_at (codes "anonymous") (table_at (codes "server") document); named = l }) n
+    ap (λ b. record { anonymous = b; named = named }) (a ∙ ap (truth_at (codes "anonymous")) s)
+    ∙ ap (λ l. record {
+      anonymous =
+          truth_at (codes "anonymous") (table_at (codes "server") document);
+      named = l;
+    }) n

@@ -8,7 +8,16 @@ use Rattle.ua_session.specs.declared.identity.User.{User as SessionUser}
 use Rattle.ua_settings.specs.Reading.{table_at, truth_at}
 
 abbrev pub user_in : Members → SessionUser
-user_in user = record { name = text_at (codes "name") user; password = text_at (codes "password") user }
+user_in user = record {
+  name = text_at (codes "name") user;
+  password =
+      text_at (codes "password") user;
+}
 
 abbrev pub users_in : Members → Allowed
-users_in document = record { anonymous = truth_at (codes "anonymous") (table_at (codes "server") document); named = map user_in (tables document User) }
+users_in document = record {
+  anonymous =
+      truth_at (codes "anonymous") (table_at (codes "server") document);
+  named =
+      map user_in (tables document User);
+}

@@ -24,28 +24,34 @@ none_mapped : {A B : Type 0} (f : A → B) (x : Option A) → option_map f x ≡
 none_mapped f None none = refl
 none_mapped f (Some a) none = cc
 
-unfound_next : {A : Type 0} (b : Bool) (x : A) (more : Option A) → cond b (Some x) more ≡ None → (b ≡ false) × (more ≡ None)
+unfound_next : {A : Type 0} (b : Bool) (x : A) (more : Option A) → cond b (Some x) more ≡ None
+    → (b ≡ false) × (more ≡ None)
 unfound_next false x more none = (refl, none)
 unfound_next true x more none = cc
 
-all_unfound : {A : Type 0} (test : A → Bool) (xs : List A) → find test xs ≡ None → AllByRecursion (λ x. test x ≡ false) xs
+all_unfound : {A : Type 0} (test : A → Bool) (xs : List A) → find test xs ≡ None
+    → AllByRecursion (λ x. test x ≡ false) xs
 all_unfound test [] none = tt
 all_unfound test (x ∷ xs) none =
     let parts = unfound_next (test x) x (find test xs) none in
     (parts.0, all_unfound test xs parts.1)
 
-later_none : (section : Section) (n : ℕ) (key : Option (List ℕ)) (later : Option Spot) → or_later section n key later ≡ None → (key ≡ None) × (later ≡ None)
+later_none : (section : Section) (n : ℕ) (key : Option (List ℕ)) (later : Option Spot)
+    → or_later section n key later ≡ None → (key ≡ None) × (later ≡ None)
 later_none section n None later none = (refl, none)
 later_none section n (Some key) later none = cc
 
-all_right : (names : Names) (wrong : Wrong) (section : Section) (n : ℕ) (list : List Members) → wrong_from names wrong section n list ≡ None
+all_right : (names : Names) (wrong : Wrong) (section : Section) (n : ℕ) (list : List Members)
+    → wrong_from names wrong section n list ≡ None
     → AllByRecursion (λ members. wrong_key names wrong section members ≡ None) list
 all_right names wrong section n [] none = tt
 all_right names wrong section n (members ∷ more) none =
-    let parts = later_none section n (wrong_key names wrong section members) (wrong_from names wrong section (n + 1) more) none in
+    let parts = later_none section n (wrong_key names wrong section members)
+    (wrong_from names wrong section (n + 1) more) none in
     (parts.0, all_right names wrong section (n + 1) more parts.1)
 
-each_section : (document : Members) (wrong : Wrong) → wrong_at document wrong ≡ None → (section : Section) → wrong_in document wrong section ≡ None
+each_section : (document : Members) (wrong : Wrong) → wrong_at document wrong ≡ None
+    → (section : Section) → wrong_in document wrong section ≡ None
 each_section document wrong none section =
     let one = none_both (wrong_in document wrong Document) _ none in
     let two = none_both (wrong_in document wrong Archive) _ one.1 in
@@ -53,7 +59,15 @@ each_section document wrong none section =
     let four = none_both (wrong_in document wrong User) _ three.1 in
     let five = none_both (wrong_in document wrong Folder) _ four.1 in
     let six = none_both (wrong_in document wrong Variable) _ five.1 in
-    elim section as (λ s. wrong_in document wrong s ≡ None) [ Document ↦ one.0 | Archive ↦ two.0 | Server ↦ three.0 | User ↦ four.0 | Folder ↦ five.0 | Variable ↦ six.0 ]
+    elim section as (λ s. wrong_in document wrong s ≡ None) [
+      | Document ↦ one.0
+      | Archive ↦ two.0
+      | Server ↦ three.0
+      | User ↦ four.0
+      | Folder ↦
+          five.0
+      | Variable ↦ six.0
+    ]
 
 -- ---- a table in which nothing is wrong
 
@@ -61,76 +75,101 @@ record IsRight (names : Names) (section : Section) (members : Members) : Type 0 
   missing : wrong_key names Missing section members ≡ None
   bad : wrong_key names Bad section members ≡ None
 
-all_joined : {A : Type 0} (P Q R : A → Type 0) → ((x : A) → P x → Q x → R x) → (xs : List A) → AllByRecursion P xs → AllByRecursion Q xs → AllByRecursion R xs
+all_joined : {A : Type 0} (P Q R : A → Type 0) → ((x : A) → P x → Q x → R x) → (xs : List A)
+    → AllByRecursion P xs → AllByRecursion Q xs → AllByRecursion R xs
 all_joined P Q R join [] p q = tt
 all_joined P Q R join (x ∷ xs) p q = (join x p.0 q.0, all_joined P Q R join xs p.1 q.1)
 
-all_weaker : {A : Type 0} (P Q : A → Type 0) → ((x : A) → P x → Q x) → (xs : List A) → AllByRecursion P xs → AllByRecursion Q xs
+all_weaker : {A : Type 0} (P Q : A → Type 0) → ((x : A) → P x → Q x) → (xs : List A)
+    → AllByRecursion P xs → AllByRecursion Q xs
 all_weaker P Q weaker [] p = tt
 all_weaker P Q weaker (x ∷ xs) p = (weaker x p.0, all_weaker P Q weaker xs p.1)
 
-all_tables : (document : Members) → wrong_at document Missing ≡ None → wrong_at document Bad ≡ None → (section : Section)
+all_tables : (document : Members) → wrong_at document Missing ≡ None → wrong_at document Bad ≡ None
+    → (section : Section)
     → AllByRecursion (IsRight (names_in document) section) (tables document section)
 all_tables document missing bad section =
-    all_joined _ _ (IsRight (names_in document) section) (λ members p q. record { missing = p; bad = q }) (tables document section)
-    (all_right (names_in document) Missing section 1 (tables document section) (each_section document Missing missing section))
-    (all_right (names_in document) Bad section 1 (tables document section) (each_section document Bad bad section))
+    all_joined _ _ (IsRight (names_in document) section)
+    (λ members p q. record { missing = p; bad = q }) (tables document section)
+    (all_right (names_in document) Missing section 1 (tables document section)
+    (each_section document Missing missing section))
+    (all_right (names_in document) Bad section 1 (tables document section)
+    (each_section document Bad bad section))
 
-lacks_none : (names : Names) (section : Section) (members : Members) → IsRight names section members → AllByRecursion (λ rule. is_missing members rule ≡ false) (rules section)
-lacks_none names section members right = all_unfound (is_missing members) (rules section) (none_mapped name_of _ right.missing)
+lacks_none : (names : Names) (section : Section) (members : Members) → IsRight names section members
+    → AllByRecursion (λ rule. is_missing members rule ≡ false) (rules section)
+lacks_none names section members right =
+    all_unfound (is_missing members) (rules section) (none_mapped name_of _ right.missing)
 
-spoils_none : (names : Names) (section : Section) (members : Members) → IsRight names section members → AllByRecursion (λ rule. is_bad names members rule ≡ false) (rules section)
-spoils_none names section members right = all_unfound (is_bad names members) (rules section) (none_mapped name_of _ right.bad)
+spoils_none : (names : Names) (section : Section) (members : Members)
+    → IsRight names section members
+    → AllByRecursion (λ rule. is_bad names members rule ≡ false) (rules section)
+spoils_none names section members right =
+    all_unfound (is_bad names members) (rules section) (none_mapped name_of _ right.bad)
 
 was_true : (b : Bool) → not b ≡ false → b ≡ true
 was_true true e = refl
 was_true false e = cc
 
 -- a key that is there and isn't bad holds what it must
-held : (p : Data → Bool) (value : Option Data) → is_none value ≡ false → test (λ v. not (p v)) value ≡ false → test p value ≡ true
+held : (p : Data → Bool) (value : Option Data) → is_none value ≡ false
+    → test (λ v. not (p v)) value ≡ false → test p value ≡ true
 held p None there good = cc
 held p (Some v) there good = was_true (p v) good
 
-tested : {A B : Type 0} (p : B → Bool) (f : A → Option B) (value : Option A) → test (λ v. test p (f v)) value ≡ true → test p (option_and_then f value) ≡ true
+tested : {A B : Type 0} (p : B → Bool) (f : A → Option B) (value : Option A)
+    → test (λ v. test p (f v)) value ≡ true → test p (option_and_then f value) ≡ true
 tested p f None good = good
 tested p f (Some v) good = good
 
-passed : {A : Type 0} (p : A → Bool) (value : Option A) (d : A) → test p value ≡ true → p (unwrap_or value d) ≡ true
+passed : {A : Type 0} (p : A → Bool) (value : Option A) (d : A) → test p value ≡ true
+    → p (unwrap_or value d) ≡ true
 passed p None d good = absurd (false≢true good)
 passed p (Some v) d good = good
 
-some_tested : {A B : Type 0} (f : A → Option B) (value : Option A) → test (λ v. is_some (f v)) value ≡ true → is_some (option_and_then f value) ≡ true
+some_tested : {A B : Type 0} (f : A → Option B) (value : Option A)
+    → test (λ v. is_some (f v)) value ≡ true → is_some (option_and_then f value) ≡ true
 some_tested f None good = good
 some_tested f (Some v) good = good
 
-text_held : (p : List ℕ → Bool) (key : List ℕ) (members : Members) → is_none (get_member key members) ≡ false
-    → test (λ v. not (test p (as_str v))) (get_member key members) ≡ false → p (text_at key members) ≡ true
-text_held p key members there good = passed p _ [] (tested p as_str _ (held (λ v. test p (as_str v)) _ there good))
+text_held : (p : List ℕ → Bool) (key : List ℕ) (members : Members)
+    → is_none (get_member key members) ≡ false
+    → test (λ v. not (test p (as_str v))) (get_member key members) ≡ false
+    → p (text_at key members) ≡ true
+text_held p key members there good =
+    passed p _ [] (tested p as_str _ (held (λ v. test p (as_str v)) _ there good))
 
-optional_held : (p : List ℕ → Bool) (value : Option Data) → test (λ v. not (test p (as_str v))) value ≡ false → IfSome (option_and_then as_str value) (λ text. p text ≡ true)
+optional_held : (p : List ℕ → Bool) (value : Option Data)
+    → test (λ v. not (test p (as_str v))) value ≡ false
+    → IfSome (option_and_then as_str value) (λ text. p text ≡ true)
 optional_held p None good = tt
 optional_held p (Some v) good = some_held p (as_str v) (was_true (test p (as_str v)) good)
   where
-    some_held : (p : List ℕ → Bool) (text : Option (List ℕ)) → test p text ≡ true → IfSome text (λ text. p text ≡ true)
+    some_held : (p : List ℕ → Bool) (text : Option (List ℕ)) → test p text ≡ true
+        → IfSome text (λ text. p text ≡ true)
     some_held p None good = tt
     some_held p (Some text) good = good
 
-only_one : {A : Type 0} (P : A → Type 0) (value : Option A) (d : A) → is_some value ≡ true → AllByRecursion P (option_to_list value) → P (unwrap_or value d)
+only_one : {A : Type 0} (P : A → Type 0) (value : Option A) (d : A) → is_some value ≡ true
+    → AllByRecursion P (option_to_list value) → P (unwrap_or value d)
 only_one P None d there all = absurd (false≢true there)
 only_one P (Some v) d there all = all.0
 
 -- ---- each section
 
-archive_sound : (names : Names) (members : Members) → IsRight names Archive members → IsSoundArchive members
+archive_sound : (names : Names) (members : Members) → IsRight names Archive members
+    → IsSoundArchive members
 archive_sound names members right =
     let lacks = lacks_none names Archive members right in
     let spoils = spoils_none names Archive members right in
     record {
       id = text_held is_id (codes "id") members lacks.0 spoils.0;
-      replica = tested is_replica as_integer (get_member (codes "replica") members) (held (λ v. test is_replica (as_integer v)) _ lacks.1.0 spoils.1.0);
+      replica = tested is_replica as_integer (get_member (codes "replica") members)
+          (held (λ v. test is_replica (as_integer v)) _ lacks.1.0 spoils.1.0);
     }
 
-server_sound : (names : Names) (members : Members) → IsRight names Server members → IsSoundServer members
+server_sound : (names : Names) (members : Members) → IsRight names Server members
+    → IsSoundServer members
 server_sound names members right =
     let lacks = lacks_none names Server members right in
     let spoils = spoils_none names Server members right in
@@ -140,48 +179,65 @@ server_sound names members right =
       namespace = text_held is_short (codes "namespace") members lacks.1.1.1.0 spoils.1.1.1.0;
     }
 
-name_of_user : (users : List (List ℕ)) (name : List ℕ) (b : Bool) → (is_name name && b) ≡ true → is_name name ≡ true
+name_of_user : (users : List (List ℕ)) (name : List ℕ) (b : Bool) → (is_name name && b) ≡ true
+    → is_name name ≡ true
 name_of_user users name b good = (and_parts (is_name name) b good).0
 
 user_sound : (names : Names) (members : Members) → IsRight names User members → IsSoundUser members
 user_sound names members right =
     let lacks = lacks_none names User members right in
     let spoils = spoils_none names User members right in
-    record { name = name_of_user names.users (text_at (codes "name") members) _ (text_held _ (codes "name") members lacks.0 spoils.0) }
+    record {
+      name = name_of_user names.users (text_at (codes "name") members) _
+          (text_held _ (codes "name") members lacks.0 spoils.0);
+    }
 
-folder_sound : (names : Names) (members : Members) → IsRight names Folder members → IsSoundFolder members
+folder_sound : (names : Names) (members : Members) → IsRight names Folder members
+    → IsSoundFolder members
 folder_sound names members right =
     let lacks = lacks_none names Folder members right in
     let spoils = spoils_none names Folder members right in
-    record { id = text_held is_short (codes "id") members lacks.0 spoils.0; name = text_held is_short (codes "name") members lacks.1.0 spoils.1.0 }
+    record {
+      id = text_held is_short (codes "id") members lacks.0 spoils.0;
+      name =
+          text_held is_short (codes "name") members lacks.1.0 spoils.1.0;
+    }
 
-variable_sound : (names : Names) (members : Members) → IsRight names Variable members → IsSoundVariable names.folders members
+variable_sound : (names : Names) (members : Members) → IsRight names Variable members
+    → IsSoundVariable names.folders members
 variable_sound names members right =
     let lacks = lacks_none names Variable members right in
     let spoils = spoils_none names Variable members right in
     record {
       id = text_held is_name (codes "id") members lacks.0 spoils.0;
       name = text_held is_short (codes "name") members lacks.1.0 spoils.1.0;
-      folder = optional_held (λ id. list_any (λ folder. pointwise nat_eq folder id) names.folders) (get_member (codes "folder") members) spoils.1.1.1.1.0;
+      folder = optional_held (λ id. list_any (λ folder. pointwise nat_eq folder id) names.folders)
+          (get_member (codes "folder") members) spoils.1.1.1.1.0;
     }
 
 pub sound : (document : Members) → first_wrong document ≡ None → IsSound document
 sound document none =
-    let first = none_both (option_map (λ spot. (Unknown, spot)) (wrong_at document Unknown)) _ none in
-    let second = none_both (option_map (λ spot. (Missing, spot)) (wrong_at document Missing)) _ first.1 in
+    let first = none_both (option_map (λ spot. (Unknown, spot)) (wrong_at document Unknown)) _ none
+    in
+    let second = none_both (option_map (λ spot. (Missing, spot)) (wrong_at document Missing)) _
+    first.1 in
     let third = none_both (option_map (λ spot. (Bad, spot)) (wrong_at document Bad)) _ second.1 in
     let missing : wrong_at document Missing ≡ None = none_mapped _ _ second.0 in
     let bad : wrong_at document Bad ≡ None = none_mapped _ _ third.0 in
     let all = all_tables document missing bad in
     let lacks = lacks_none (names_in document) Document document (all Document).0 in
     let spoils = spoils_none (names_in document) Document document (all Document).0 in
-    let has_archive = some_tested as_table (get_member (codes "archive") document) (held (λ v. is_some (as_table v)) _ lacks.0 spoils.0) in
-    let has_server = some_tested as_table (get_member (codes "server") document) (held (λ v. is_some (as_table v)) _ lacks.1.0 spoils.1.0) in
+    let has_archive = some_tested as_table (get_member (codes "archive") document)
+    (held (λ v. is_some (as_table v)) _ lacks.0 spoils.0) in
+    let has_server = some_tested as_table (get_member (codes "server") document)
+    (held (λ v. is_some (as_table v)) _ lacks.1.0 spoils.1.0) in
     record {
       has_archive = has_archive;
       has_server = has_server;
-      archive = archive_sound (names_in document) _ (only_one (IsRight (names_in document) Archive) _ no_members has_archive (all Archive));
-      server = server_sound (names_in document) _ (only_one (IsRight (names_in document) Server) _ no_members has_server (all Server));
+      archive = archive_sound (names_in document) _
+          (only_one (IsRight (names_in document) Archive) _ no_members has_archive (all Archive));
+      server = server_sound (names_in document) _ (only_one
+          (IsRight (names_in document) Server) _ no_members has_server (all Server));
       users = all_weaker _ _ (user_sound (names_in document)) _ (all User);
       folders = all_weaker _ _ (folder_sound (names_in document)) _ (all Folder);
       variables = all_weaker _ _ (variable_sound (names_in document)) _ (all Variable);

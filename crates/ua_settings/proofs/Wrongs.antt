@@ -16,36 +16,51 @@ use Rattle.ua_settings.specs.Keys.{rule_of}
 use Rattle.ua_settings.proofs.Mapped.{find_of_mapped, found_rule}
 use Rattle.ua_settings.proofs.Tables.{keys_of_map}
 
-bytes_of_ref : (found : Option (Bor (String Global))) → option_map (λ key. string_bytes key.now) found ≡ option_map string_bytes (option_copied found)
+bytes_of_ref : (found : Option (Bor (String Global)))
+    → option_map (λ key. string_bytes key.now) found ≡ option_map string_bytes (option_copied found)
 bytes_of_ref None = refl
 bytes_of_ref (Some key) = refl
 
-pub unknown_found : (section : Section) (entries : List (String Global × Value)) (found : Option (Bor (String Global)))
+pub unknown_found : (section : Section) (entries : List (String Global × Value))
+    (found : Option (Bor (String Global)))
     → option_copied found ≡ find (λ key. not (is_key section (string_bytes key))) (keys_of entries)
-    → option_map (λ key. string_bytes key.now) found ≡ find (λ key. not (is_key section key)) (keys_in (members_view entries))
+    → option_map (λ key. string_bytes key.now) found
+    ≡ find (λ key. not (is_key section key)) (keys_in (members_view entries))
 unknown_found section entries found same =
-    bytes_of_ref found ∙ ap (option_map string_bytes) same ∙ sym (find_of_mapped string_bytes (λ key. not (is_key section key)) (keys_of entries)) ∙ ap (find (λ key. not (is_key section key))) (keys_of_map entries)
+    bytes_of_ref found ∙ ap (option_map string_bytes) same
+    ∙ sym (find_of_mapped string_bytes (λ key. not (is_key section key)) (keys_of entries))
+    ∙ ap (find (λ key. not (is_key section key))) (keys_of_map entries)
 
-name_of_ref : (found : Option (Bor Key)) → option_map (λ key. key.now.name.now) found ≡ option_map (λ key. name_of (rule_of key)) (option_copied found)
+name_of_ref : (found : Option (Bor Key))
+    → option_map (λ key. key.now.name.now) found
+    ≡ option_map (λ key. name_of (rule_of key)) (option_copied found)
 name_of_ref None = refl
 name_of_ref (Some key) = refl
 
-pub rule_found : (test : Rule → Bool) (section : Section) (keys : List Key) (found : Option (Bor Key))
+pub rule_found : (test : Rule → Bool) (section : Section) (keys : List Key)
+    (found : Option (Bor Key))
     → map rule_of keys ≡ rules section → option_copied found ≡ find (λ key. test (rule_of key)) keys
     → option_map (λ key. key.now.name.now) found ≡ option_map name_of (find test (rules section))
 rule_found test section keys found listed same =
-    name_of_ref found ∙ ap (option_map (λ key. name_of (rule_of key))) same ∙ sym (found_rule test section keys listed)
+    name_of_ref found ∙ ap (option_map (λ key. name_of (rule_of key))) same
+    ∙ sym (found_rule test section keys listed)
 
-pub goes_on : (names : Names) (wrong : Wrong) (section : Section) (n i : ℕ) (tables : List Members) (d : Members) → i < length tables
+pub goes_on : (names : Names) (wrong : Wrong) (section : Section) (n i : ℕ) (tables : List Members)
+    (d : Members) → i < length tables
     → wrong_key names wrong section (get_or tables i d) ≡ None
-    → wrong_from names wrong section n (drop i tables) ≡ wrong_from names wrong section (n + 1) (drop (i + 1) tables)
+    → wrong_from names wrong section n (drop i tables)
+    ≡ wrong_from names wrong section (n + 1) (drop (i + 1) tables)
 goes_on names wrong section n i tables d within none =
     ap (wrong_from names wrong section n) (drop_more tables i d within)
-    ∙ ap (λ key. or_later section n key (wrong_from names wrong section (n + 1) (drop (i + 1) tables))) none
+    ∙ ap (λ key. or_later section n key (wrong_from names wrong section (n + 1)
+    (drop (i + 1) tables))) none
 
-pub stops : (names : Names) (wrong : Wrong) (section : Section) (n i : ℕ) (tables : List Members) (d : Members) (key : List ℕ) → i < length tables
+pub stops : (names : Names) (wrong : Wrong) (section : Section) (n i : ℕ) (tables : List Members)
+    (d : Members) (key : List ℕ) → i < length tables
     → wrong_key names wrong section (get_or tables i d) ≡ Some key
-    → wrong_from names wrong section n (drop i tables) ≡ Some (record { section = section; number = n; key = key })
+    → wrong_from names wrong section n (drop i tables)
+    ≡ Some (record { section = section; number = n; key = key })
 stops names wrong section n i tables d key within found =
     ap (wrong_from names wrong section n) (drop_more tables i d within)
-    ∙ ap (λ key. or_later section n key (wrong_from names wrong section (n + 1) (drop (i + 1) tables))) found
+    ∙ ap (λ key. or_later section n key (wrong_from names wrong section (n + 1)
+    (drop (i + 1) tables))) found

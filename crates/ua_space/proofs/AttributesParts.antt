@@ -9,4 +9,7 @@ use Rattle.ua_space.specs.Attributes.{one}
 
 -- of all nodes (5.2): NodeId, NodeClass, BrowseName, DisplayName
 abbrev pub common_attributes : Node → List (ℕ × Answered)
-common_attributes node = (1, one (scalar.NodeId (id_of node))) ∷ (2, one (scalar.Int32 (pos (class_number (class_of node))))) ∷ (3, one (scalar.QualifiedName (browse_name_of node))) ∷ (4, one (scalar.LocalizedText (display_name_of node))) ∷ []
+common_attributes node = (1, one (scalar.NodeId (id_of node)))
+    ∷ (2, one (scalar.Int32 (pos (class_number (class_of node)))))
+    ∷ (3, one (scalar.QualifiedName (browse_name_of node)))
+    ∷ (4, one (scalar.LocalizedText (display_name_of node))) ∷ []

@@ -26,45 +26,65 @@ find_test : {X : Type 0} (p : X → Bool) (xs : List X) (x : X) → Some x ≡ f
 find_test p [] x is = absurd (none-some x (sym is))
 find_test p (first ∷ xs) x is = by (p first) refl is (find_test p xs x)
   where
-    by : (b : Bool) → p first ≡ b → Some x ≡ cond b (Some first) (find p xs) → (Some x ≡ find p xs → p x ≡ true) → p x ≡ true
-    by true here one later = let same : x ≡ first = ap (λ o. unwrap_or o first) one in ap p same ∙ here
+    by : (b : Bool) → p first ≡ b → Some x ≡ cond b (Some first) (find p xs)
+        → (Some x ≡ find p xs → p x ≡ true) → p x ≡ true
+    by true here one later = let same : x ≡ first = ap (λ o. unwrap_or o first) one in
+        ap p same ∙ here
     by false here rest later = later rest
 
-in_folder : (space : Layout) (variable : Variable) (id : List ℕ) (found : Option Folder) → variable.folder ≡ Some id → found ≡ find (has_folder_id id) space.folders → IfSome (option_map OfFolder found) (λ node. holds node variable ≡ true)
+in_folder : (space : Layout) (variable : Variable) (id : List ℕ) (found : Option Folder)
+    → variable.folder ≡ Some id → found ≡ find (has_folder_id id) space.folders
+    → IfSome (option_map OfFolder found) (λ node. holds node variable ≡ true)
 in_folder space variable id None is at = tt
 in_folder space variable id (Some folder) is at =
-    let same : folder.id ≡ id = (bytes_decides folder.id id).0 (find_test (has_folder_id id) space.folders folder at) in
+    let same : folder.id ≡ id = (bytes_decides folder.id id).0
+    (find_test (has_folder_id id) space.folders folder at) in
     let test : pointwise nat_eq id folder.id ≡ true = (bytes_decides id folder.id).1 (sym same) in
     rw is test
 
-pub below : (space : Layout) (variable : Variable) → IfSome (parent space (OfVariable variable)) (λ node. holds node variable ≡ true)
+pub below : (space : Layout) (variable : Variable)
+    → IfSome (parent space (OfVariable variable)) (λ node. holds node variable ≡ true)
 below space variable = by variable.folder refl
   where
-    by : (folder : Option (List ℕ)) → variable.folder ≡ folder → IfSome (folder_node space folder) (λ node. holds node variable ≡ true)
+    by : (folder : Option (List ℕ)) → variable.folder ≡ folder
+        → IfSome (folder_node space folder) (λ node. holds node variable ≡ true)
     by None is = rw is refl
     by (Some id) is = in_folder space variable id _ is refl
 
 -- ---- somewhere
 
-any_found : (id : List ℕ) (folders : List FolderPlan) → list_any (λ folder. pointwise nat_eq folder.id.now id) folders ≡ true → IsSome (option_map OfFolder (find (has_folder_id id) (map folder_of folders)))
+any_found : (id : List ℕ) (folders : List FolderPlan)
+    → list_any (λ folder. pointwise nat_eq folder.id.now id) folders ≡ true
+    → IsSome (option_map OfFolder (find (has_folder_id id) (map folder_of folders)))
 any_found id [] is = absurd (true≢false (sym is))
-any_found id (folder ∷ folders) is = by (pointwise nat_eq folder.id.now id) is (any_found id folders)
+any_found id (folder ∷ folders) is =
+    by (pointwise nat_eq folder.id.now id) is (any_found id folders)
   where
     by : (b : Bool) → (b || list_any (λ other. pointwise nat_eq other.id.now id) folders) ≡ true
-        → (list_any (λ other. pointwise nat_eq other.id.now id) folders ≡ true → IsSome (option_map OfFolder (find (has_folder_id id) (map folder_of folders))))
-        → IsSome (option_map OfFolder (cond b (Some (folder_of folder)) (find (has_folder_id id) (map folder_of folders))))
+        → (list_any (λ other. pointwise nat_eq other.id.now id) folders ≡ true
+        → IsSome (option_map OfFolder (find (has_folder_id id) (map folder_of folders))))
+        → IsSome (option_map OfFolder (cond b (Some (folder_of folder))
+        (find (has_folder_id id) (map folder_of folders))))
     by true one later = refl
     by false rest later = later rest
 
-has_parent : (plan : Plan) (folder : Option (Bor (List ℕ))) → IfSome folder (λ id. list_any (λ one. pointwise nat_eq one.id.now id.now) plan.folders.now ≡ true) → IsSome (folder_node (layout_of plan) (option_copied folder))
+has_parent : (plan : Plan) (folder : Option (Bor (List ℕ)))
+    → IfSome folder (λ id. list_any (λ one. pointwise nat_eq one.id.now id.now) plan.folders.now
+    ≡ true) → IsSome (folder_node (layout_of plan) (option_copied folder))
 has_parent plan None is = refl
 has_parent plan (Some id) is = any_found id.now plan.folders.now is
 
-have_parents : (plan : Plan) (variables : List VariablePlan) → AllByRecursion (HasFolder plan.folders.now) variables → AllByRecursion (λ variable. IsSome (parent (layout_of plan) (OfVariable variable))) (map variable_of variables)
+have_parents : (plan : Plan) (variables : List VariablePlan)
+    → AllByRecursion (HasFolder plan.folders.now) variables
+    → AllByRecursion (λ variable. IsSome (parent (layout_of plan) (OfVariable variable)))
+    (map variable_of variables)
 have_parents plan [] all = tt
-have_parents plan (variable ∷ variables) all = (has_parent plan variable.folder all.0, have_parents plan variables all.1)
+have_parents plan (variable ∷ variables) all =
+    (has_parent plan variable.folder all.0, have_parents plan variables all.1)
 
-pub somewhere : (plan : Plan) → AllByRecursion (HasFolder plan.folders.now) plan.variables.now → AllByRecursion (λ variable. IsSome (parent (layout_of plan) (OfVariable variable))) (layout_of plan).variables
+pub somewhere : (plan : Plan) → AllByRecursion (HasFolder plan.folders.now) plan.variables.now
+    → AllByRecursion (λ variable. IsSome (parent (layout_of plan) (OfVariable variable)))
+    (layout_of plan).variables
 somewhere plan all = have_parents plan plan.variables.now all
 
 pub ruleset hanging = (below, somewhere)

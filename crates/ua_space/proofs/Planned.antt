@@ -14,11 +14,14 @@ use Rattle.ua_space.specs.declared.layout.Layout.{Layout}
 use Rattle.ua_space.specs.Plan.{Entry, variable_for, type_number, have_equal}
 use Rattle.ua_space.specs.Lent.{folder_of, entry_of, planned_by, judged_by}
 
-map_twice : {A B C : Type 0} (g : B → C) (f : A → B) (xs : List A) → map g (map f xs) ≡ map (λ x. g (f x)) xs
+map_twice : {A B C : Type 0} (g : B → C) (f : A → B) (xs : List A)
+    → map g (map f xs) ≡ map (λ x. g (f x)) xs
 map_twice g f [] = refl
 map_twice g f (x ∷ xs) = ap (λ more. g (f x) ∷ more) (map_twice g f xs)
 
-typed : (plans : List VariablePlan) → list_all (λ (entry : Entry). is_some (type_number entry.type_name)) (map entry_of plans) ≡ list_all (λ plan. is_some (type_number plan.type_name.now)) plans
+typed : (plans : List VariablePlan)
+    → list_all (λ (entry : Entry). is_some (type_number entry.type_name)) (map entry_of plans)
+    ≡ list_all (λ plan. is_some (type_number plan.type_name.now)) plans
 typed [] = refl
 typed (plan ∷ plans) = ap (λ more. is_some (type_number plan.type_name.now) && more) (typed plans)
 
@@ -35,8 +38,13 @@ unfolding decided
 same_planned plan =
     let folders = plan.folders.now in
     let variables = plan.variables.now in
-    (λ i. decided plan.namespace.now (map folder_of folders) (length-map folders folder_of i + length-map variables entry_of i) (typed variables i)
-    (map_twice (λ (folder : Folder). folder.id) folder_of folders i ++ map_twice (λ (entry : Entry). entry.id) entry_of variables i) (map_twice variable_for entry_of variables i))
+    (λ i. decided plan.namespace.now (map folder_of folders)
+    (length-map folders folder_of i + length-map variables entry_of i) (typed variables i)
+    (map_twice (λ (folder : Folder). folder.id) folder_of folders i
+    ++ map_twice (λ (entry : Entry). entry.id) entry_of variables i)
+    (map_twice variable_for entry_of variables i))
 
-pub as_planned : (plan : Plan) (memory : BuildFault) (result : Result Layout BuildFault) → IsOrStarved memory (judged_by plan) result → IsOrStarved memory (planned_by plan) result
-as_planned plan memory result is = let P : Result Layout BuildFault → Type 0 = λ made. IsOrStarved memory made result in subst P (sym (same_planned plan)) is
+pub as_planned : (plan : Plan) (memory : BuildFault) (result : Result Layout BuildFault)
+    → IsOrStarved memory (judged_by plan) result → IsOrStarved memory (planned_by plan) result
+as_planned plan memory result is = let P : Result Layout BuildFault → Type 0 =
+    λ made. IsOrStarved memory made result in subst P (sym (same_planned plan)) is

@@ -15,11 +15,20 @@ no_node = Numeric 0 0
 
 -- the number of an id of namespace 0
 abbrev pub in_standard : NodeId → Option ℕ
-in_standard v = elim v [ Numeric namespace id ↦ if namespace == 0 then Some id else None | _ ↦ None ]
+in_standard v = elim v [
+  | Numeric namespace id ↦ if namespace == 0 then Some id else None
+  | _ ↦
+      None
+]
 
 -- the objects that hang below a node, in the order of the plan
 abbrev pub objects_below : Layout → Node → List Node
-objects_below space node = elim node [ Root ↦ Objects ∷ [] | Objects ↦ map OfFolder space.folders | _ ↦ [] ]
+objects_below space node = elim node [
+  | Root ↦ Objects ∷ []
+  | Objects ↦
+      map OfFolder space.folders
+  | _ ↦ []
+]
 
 abbrev pub organizes : Bool → Node → Link
 organizes is_forward node = link_to Organizes is_forward node
@@ -29,7 +38,11 @@ is_defined_by type = link_to HasTypeDefinition true type
 
 -- the folder of this id; none: Objects
 abbrev pub folder_node : Layout → Option (List ℕ) → Option Node
-folder_node space given = elim given [ None ↦ Some Objects | Some id ↦ option_map OfFolder (find (has_folder_id id) space.folders) ]
+folder_node space given = elim given [
+  | None ↦ Some Objects
+  | Some id ↦
+      option_map OfFolder (find (has_folder_id id) space.folders)
+]
 
 abbrev pub definition_id : Node → NodeId
 definition_id node = elim (type_definition node) [ None ↦ no_node | Some type ↦ id_of type ]

@@ -45,19 +45,23 @@ all_of : {X : Type 0} (P : X → Type 0) (xs : List X) → AllByRecursion P xs �
 all_of P [] all = All-nil P
 all_of P (x ∷ xs) all = All-cons P x xs all.0 (all_of P xs all.1)
 
-pub all_map : {X Y : Type 0} (f : X → Y) (P : Y → Type 0) (xs : List X) → AllByRecursion (λ x. P (f x)) xs → AllByRecursion P (map f xs)
+pub all_map : {X Y : Type 0} (f : X → Y) (P : Y → Type 0) (xs : List X)
+    → AllByRecursion (λ x. P (f x)) xs → AllByRecursion P (map f xs)
 all_map f P [] all = tt
 all_map f P (x ∷ xs) all = (all.0, all_map f P xs all.1)
 
-all_append : {X : Type 0} (P : X → Type 0) (xs ys : List X) → AllByRecursion P xs → AllByRecursion P ys → AllByRecursion P (xs ++ ys)
+all_append : {X : Type 0} (P : X → Type 0) (xs ys : List X) → AllByRecursion P xs
+    → AllByRecursion P ys → AllByRecursion P (xs ++ ys)
 all_append P [] ys a b = b
 all_append P (x ∷ xs) ys a b = (a.0, all_append P xs ys a.1 b)
 
-all_filter : {X : Type 0} (p : X → Bool) (P : X → Type 0) (xs : List X) → AllByRecursion P xs → AllByRecursion P (filter p xs)
+all_filter : {X : Type 0} (p : X → Bool) (P : X → Type 0) (xs : List X) → AllByRecursion P xs
+    → AllByRecursion P (filter p xs)
 all_filter p P [] all = tt
 all_filter p P (x ∷ xs) all = by (p x) (all_filter p P xs all.1)
   where
-    by : (b : Bool) → AllByRecursion P (filter p xs) → AllByRecursion P (cond b (x ∷ filter p xs) (filter p xs))
+    by : (b : Bool) → AllByRecursion P (filter p xs)
+        → AllByRecursion P (cond b (x ∷ filter p xs) (filter p xs))
     by true later = (all.0, later)
     by false later = later
 
@@ -65,12 +69,14 @@ fewer : {X : Type 0} (p : X → Bool) (xs : List X) → length (filter p xs) ≤
 fewer p [] = omega arith
 fewer p (x ∷ xs) = by (p x) (fewer p xs)
   where
-    by : (b : Bool) → length (filter p xs) ≤ length xs → length (cond b (x ∷ filter p xs) (filter p xs)) ≤ length (x ∷ xs)
+    by : (b : Bool) → length (filter p xs) ≤ length xs
+        → length (cond b (x ∷ filter p xs) (filter p xs)) ≤ length (x ∷ xs)
     by true less = omega arith
     by false less = omega arith
 
 -- what is found is as each of the list is
-found_as : {X : Type 0} (p : X → Bool) (P : X → Type 0) (xs : List X) → AllByRecursion P xs → IfSome (find p xs) P
+found_as : {X : Type 0} (p : X → Bool) (P : X → Type 0) (xs : List X) → AllByRecursion P xs
+    → IfSome (find p xs) P
 found_as p P [] all = tt
 found_as p P (x ∷ xs) all = by (p x) (found_as p P xs all.1)
   where
@@ -78,23 +84,44 @@ found_as p P (x ∷ xs) all = by (p x) (found_as p P xs all.1)
     by true later = all.0
     by false later = later
 
-all_both : {X : Type 0} (P Q : X → Type 0) (xs : List X) → AllByRecursion P xs → AllByRecursion Q xs → AllByRecursion (λ x. P x × Q x) xs
+all_both : {X : Type 0} (P Q : X → Type 0) (xs : List X) → AllByRecursion P xs → AllByRecursion Q xs
+    → AllByRecursion (λ x. P x × Q x) xs
 all_both P Q [] a b = tt
 all_both P Q (x ∷ xs) a b = ((a.0, b.0), all_both P Q xs a.1 b.1)
 
 -- ---- nodes
 
-variables_short : (space : Layout) → IsShortLayout space → AllByRecursion IsShort (map OfVariable space.variables)
-variables_short space short = all_map OfVariable IsShort space.variables (all_both HasShortId HasShortName space.variables short.ids short.names)
+variables_short : (space : Layout) → IsShortLayout space
+    → AllByRecursion IsShort (map OfVariable space.variables)
+variables_short space short = all_map OfVariable IsShort space.variables
+    (all_both HasShortId HasShortName space.variables short.ids short.names)
 
-folders_short : (space : Layout) → IsShortLayout space → AllByRecursion IsShort (map OfFolder space.folders)
+folders_short : (space : Layout) → IsShortLayout space
+    → AllByRecursion IsShort (map OfFolder space.folders)
 folders_short space short = all_map OfFolder IsShort space.folders short.folders
 
 nodes_short : (space : Layout) → IsShortLayout space → AllByRecursion IsShort (nodes space)
-nodes_short space short = (tt, (tt, (tt, (tt, all_append IsShort (map OfFolder space.folders) (map OfVariable space.variables) (folders_short space short) (variables_short space short)))))
+nodes_short space short = (
+  tt,
+  (
+    tt,
+    (
+      tt,
+      (
+        tt,
+        all_append IsShort (map OfFolder space.folders)
+            (map OfVariable space.variables) (folders_short space short)
+            (variables_short space short),
+      ),
+    ),
+  ),
+)
 
-pub node_short : (space : Layout) (id : NodeId) (node : Node) → IsShortLayout space → Some node ≡ node_at space id → IsShort node
-node_short space id node short is = let P : Option Node → Type 0 = λ o. IfSome o IsShort in subst P (sym is) (found_as (λ node. is_same_id (id_of node) id) IsShort (nodes space) (nodes_short space short))
+pub node_short : (space : Layout) (id : NodeId) (node : Node) → IsShortLayout space
+    → Some node ≡ node_at space id → IsShort node
+node_short space id node short is = let P : Option Node → Type 0 = λ o. IfSome o IsShort in
+    subst P (sym is) (found_as (λ node. is_same_id (id_of node) id) IsShort (nodes space)
+    (nodes_short space short))
 
 name_counted : (node : Node) → IsShort node → length (name_of node) < 2 ^ 31
 name_counted Root short = omega arith
@@ -122,35 +149,52 @@ abbrev IsShortEntry : ℕ × Answered → Type 0
 IsShortEntry entry = IsShortAnswered entry.1
 
 commons_short : (node : Node) → IsShort node → AllByRecursion IsShortEntry (common_attributes node)
-commons_short node short = (id_counted node short, (tt, (name_counted node short, ((tt, name_counted node short), tt))))
+commons_short node short = (
+  id_counted node short,
+  (tt, (name_counted node short, ((tt, name_counted node short), tt))),
+)
 
-owns_short : (space : Layout) → IsShortLayout space → (node : Node) → AllByRecursion IsShortEntry (own_attributes space node)
+owns_short : (space : Layout) → IsShortLayout space → (node : Node)
+    → AllByRecursion IsShortEntry (own_attributes space node)
 owns_short space short Root = (tt, tt)
 owns_short space short Objects = (tt, tt)
 owns_short space short (OfFolder folder) = (tt, tt)
-owns_short space short NamespaceArray = ((omega arith, array_short), (tt, (tt, (tt, (tt, (tt, tt))))))
+owns_short space short NamespaceArray =
+    ((omega arith, array_short), (tt, (tt, (tt, (tt, (tt, tt))))))
   where
-    array_short : All IsCounted (Some (codes "http://opcfoundation.org/UA/") ∷ Some space.namespace ∷ [])
-    array_short = All-cons IsCounted (Some (codes "http://opcfoundation.org/UA/")) (Some space.namespace ∷ []) (omega arith) (All-cons IsCounted (Some space.namespace) [] short.namespace (All-nil IsCounted))
+    array_short : All IsCounted (Some (codes "http://opcfoundation.org/UA/") ∷ Some space.namespace
+        ∷ [])
+    array_short = All-cons IsCounted (Some (codes "http://opcfoundation.org/UA/"))
+        (Some space.namespace ∷ []) (omega arith) (All-cons IsCounted
+        (Some space.namespace) [] short.namespace (All-nil IsCounted))
 owns_short space short State = (tt, (tt, (tt, (tt, (tt, (tt, tt))))))
 owns_short space short (OfVariable variable) = (tt, (tt, (tt, (tt, (tt, (tt, tt))))))
 owns_short space short FolderType = tt
 owns_short space short BaseDataVariableType = tt
 
-entry_short : (number : ℕ) (table : List (ℕ × Answered)) → AllByRecursion IsShortEntry table → IfSome (lookup (nat_eq number) table) IsShortAnswered
-entry_short number table all = All-lookup IsShortAnswered (nat_eq number) table (all_of IsShortEntry table all)
+entry_short : (number : ℕ) (table : List (ℕ × Answered)) → AllByRecursion IsShortEntry table
+    → IfSome (lookup (nat_eq number) table) IsShortAnswered
+entry_short number table all = All-lookup IsShortAnswered (nat_eq number) table
+    (all_of IsShortEntry table all)
 
-pub attribute_short : (space : Layout) (node : Node) (number : ℕ) → IsShortLayout space → IsShort node → IfOk (ok_or (lookup (nat_eq number) (attributes space node)) BAD_ATTRIBUTE_ID_INVALID) IsShortAnswered
+pub attribute_short : (space : Layout) (node : Node) (number : ℕ) → IsShortLayout space
+    → IsShort node → IfOk (ok_or (lookup (nat_eq number) (attributes space node))
+    BAD_ATTRIBUTE_ID_INVALID) IsShortAnswered
 attribute_short space node number short is =
-    by (lookup (nat_eq number) (attributes space node)) (entry_short number (attributes space node) (all_append IsShortEntry (common_attributes node) (own_attributes space node) (commons_short node is) (owns_short space short node)))
+    by (lookup (nat_eq number) (attributes space node))
+    (entry_short number (attributes space node)
+    (all_append IsShortEntry (common_attributes node) (own_attributes space node)
+    (commons_short node is) (owns_short space short node)))
   where
-    by : (o : Option Answered) → IfSome o IsShortAnswered → IfOk (ok_or o BAD_ATTRIBUTE_ID_INVALID) IsShortAnswered
+    by : (o : Option Answered) → IfSome o IsShortAnswered
+        → IfOk (ok_or o BAD_ATTRIBUTE_ID_INVALID) IsShortAnswered
     by None is = tt
     by (Some answered) is = is
 
 -- ---- references
 
-below_short : (space : Layout) → IsShortLayout space → (node : Node) → AllByRecursion IsShort (objects_below space node)
+below_short : (space : Layout) → IsShortLayout space → (node : Node)
+    → AllByRecursion IsShort (objects_below space node)
 below_short space short Root = (tt, tt)
 below_short space short Objects = folders_short space short
 below_short space short NamespaceArray = tt
@@ -160,11 +204,14 @@ below_short space short (OfVariable variable) = tt
 below_short space short FolderType = tt
 below_short space short BaseDataVariableType = tt
 
-children_short : (space : Layout) → IsShortLayout space → (node : Node) → AllByRecursion IsShort (children space node)
+children_short : (space : Layout) → IsShortLayout space → (node : Node)
+    → AllByRecursion IsShort (children space node)
 children_short space short node =
     let both = all_both HasShortId HasShortName space.variables short.ids short.names in
-    all_append IsShort (objects_below space node) (map OfVariable (filter (holds node) space.variables)) (below_short space short node)
-    (all_map OfVariable IsShort (filter (holds node) space.variables) (all_filter (holds node) (λ v. HasShortId v × HasShortName v) space.variables both))
+    all_append IsShort (objects_below space node) (map OfVariable
+    (filter (holds node) space.variables)) (below_short space short node)
+    (all_map OfVariable IsShort (filter (holds node) space.variables)
+    (all_filter (holds node) (λ v. HasShortId v × HasShortName v) space.variables both))
 
 listed_short : (o : Option Node) → IfSome o IsShort → AllByRecursion IsShort (option_to_list o)
 listed_short None is = tt
@@ -180,15 +227,19 @@ definition_short (OfVariable variable) = tt
 definition_short FolderType = tt
 definition_short BaseDataVariableType = tt
 
-folder_short : (space : Layout) → IsShortLayout space → (folder : Option (List ℕ)) → IfSome (folder_node space folder) IsShort
+folder_short : (space : Layout) → IsShortLayout space → (folder : Option (List ℕ))
+    → IfSome (folder_node space folder) IsShort
 folder_short space short None = tt
-folder_short space short (Some id) = by (find (has_folder_id id) space.folders) (found_as (has_folder_id id) HasShortTexts space.folders short.folders)
+folder_short space short (Some id) =
+    by (find (has_folder_id id) space.folders) (found_as
+    (has_folder_id id) HasShortTexts space.folders short.folders)
   where
     by : (o : Option Folder) → IfSome o HasShortTexts → IfSome (option_map OfFolder o) IsShort
     by None is = tt
     by (Some folder) is = is
 
-parent_short : (space : Layout) → IsShortLayout space → (node : Node) → IfSome (parent space node) IsShort
+parent_short : (space : Layout) → IsShortLayout space → (node : Node)
+    → IfSome (parent space node) IsShort
 parent_short space short Root = tt
 parent_short space short Objects = tt
 parent_short space short NamespaceArray = tt
@@ -201,30 +252,45 @@ parent_short space short BaseDataVariableType = tt
 abbrev LeadsShort : Link → Type 0
 LeadsShort link = IsShort link.target
 
-links_short : (space : Layout) → IsShortLayout space → (node : Node) → AllByRecursion LeadsShort (references space node)
+links_short : (space : Layout) → IsShortLayout space → (node : Node)
+    → AllByRecursion LeadsShort (references space node)
 links_short space short node =
-    let back = all_map (organizes false) LeadsShort (option_to_list (parent space node)) (listed_short (parent space node) (parent_short space short node)) in
-    let type = all_map is_defined_by LeadsShort (option_to_list (type_definition node)) (listed_short (type_definition node) (definition_short node)) in
-    let down = all_map (organizes true) LeadsShort (children space node) (children_short space short node) in
-    all_append LeadsShort (map (organizes true) (children space node) ++ map is_defined_by (option_to_list (type_definition node))) _
+    let back = all_map (organizes false) LeadsShort (option_to_list (parent space node))
+    (listed_short (parent space node) (parent_short space short node)) in
+    let type = all_map is_defined_by LeadsShort (option_to_list (type_definition node))
+    (listed_short (type_definition node) (definition_short node)) in
+    let down = all_map (organizes true) LeadsShort (children space node)
+    (children_short space short node) in
+    all_append LeadsShort (map (organizes true) (children space node)
+    ++ map is_defined_by (option_to_list (type_definition node))) _
     (all_append LeadsShort (map (organizes true) (children space node)) _ down type) back
 
-told_short : (mask : ℕ) (link : Link) → LeadsShort link → IsShortReference (shown_reference mask link)
-told_short mask link short = (type_short (has mask 1), id_counted link.target short, name_short (has mask 8), text_short (has mask 16), defined_short (has mask 32))
+told_short : (mask : ℕ) (link : Link) → LeadsShort link
+    → IsShortReference (shown_reference mask link)
+told_short mask link short = (
+  type_short (has mask 1),
+  id_counted link.target short,
+  name_short (has mask 8),
+  text_short (has mask 16),
+  defined_short (has mask 32),
+)
   where
     type_short : (b : Bool) → IsShortNode (if b then type_id link.reference_type else no_node)
     type_short true = tt
     type_short false = tt
 
-    name_short : (b : Bool) → IsCounted (if b then browse_name_of link.target else record { namespace = 0; name = None }).name
+    name_short : (b : Bool) → IsCounted (if b then browse_name_of link.target else
+        record { namespace = 0; name = None }).name
     name_short true = name_counted link.target short
     name_short false = tt
 
-    text_short : (b : Bool) → IsShortLocalized (if b then display_name_of link.target else record { locale = None; text = None })
+    text_short : (b : Bool) → IsShortLocalized (if b then display_name_of link.target else
+        record { locale = None; text = None })
     text_short true = (tt, name_counted link.target short)
     text_short false = (tt, tt)
 
-    by : (o : Option Node) → IfSome o IsShort → IsShortNode (elim o [ None ↦ no_node | Some type ↦ id_of type ])
+    by : (o : Option Node) → IfSome o IsShort
+        → IsShortNode (elim o [ None ↦ no_node | Some type ↦ id_of type ])
     by None is = tt
     by (Some type) is = id_counted type is
 
@@ -232,7 +298,8 @@ told_short mask link short = (type_short (has mask 1), id_counted link.target sh
     defined_short true = by (type_definition link.target) (definition_short link.target)
     defined_short false = tt
 
-few_below : (space : Layout) (node : Node) → length (objects_below space node) ≤ length space.folders + 1
+few_below : (space : Layout) (node : Node)
+    → length (objects_below space node) ≤ length space.folders + 1
 few_below space Root = omega arith
 few_below space Objects = omega (arith, length-map space.folders OfFolder)
 few_below space NamespaceArray = omega arith
@@ -246,7 +313,8 @@ few_listed : (o : Option Node) → length (option_to_list o) ≤ 1
 few_listed None = omega arith
 few_listed (Some node) = omega arith
 
-few_links : (space : Layout) (node : Node) → IsShortLayout space → length (references space node) ≤ 1003
+few_links : (space : Layout) (node : Node) → IsShortLayout space
+    → length (references space node) ≤ 1003
 few_links space node short =
     let most : length space.folders + length space.variables ≤ 1000 = short.few in
     let down = map (organizes true) (children space node) in
@@ -271,22 +339,34 @@ few_links space node short =
 abbrev pub AreShort : List ReferenceDescription → Type 0
 AreShort references = (length references < 2 ^ 31) × All IsShortReference references
 
-each_told : (mask : ℕ) (links : List Link) → AllByRecursion LeadsShort links → AllByRecursion (λ link. IsShortReference (shown_reference mask link)) links
+each_told : (mask : ℕ) (links : List Link) → AllByRecursion LeadsShort links
+    → AllByRecursion (λ link. IsShortReference (shown_reference mask link)) links
 each_told mask [] all = tt
 each_told mask (link ∷ links) all = (told_short mask link all.0, each_told mask links all.1)
 
-pub told_all : (space : Layout) (d : BrowseFields) → IsShortLayout space → (direction : BrowseDirection) (node : Node) → AreShort (map (shown_reference d.1.1.1.1.1) (filter (is_followed direction d) (references space node)))
+pub told_all : (space : Layout) (d : BrowseFields) → IsShortLayout space
+    → (direction : BrowseDirection) (node : Node)
+    → AreShort (map (shown_reference d.1.1.1.1.1) (filter (is_followed direction d)
+    (references space node)))
 told_all space d short direction node =
     let mask = d.1.1.1.1.1 in
     let some = filter (is_followed direction d) (references space node) in (
-      omega (arith, length-map some (shown_reference mask), fewer (is_followed direction d) (references space node), few_links space node short),
+      omega (
+        arith,
+        length-map some (shown_reference mask),
+        fewer (is_followed direction d) (references space node),
+        few_links space node short,
+      ),
       All-map IsShortReference (shown_reference mask) some
           (all_of (λ link. IsShortReference (shown_reference mask link)) some
-          (all_filter (is_followed direction d) (λ link. IsShortReference (shown_reference mask link)) (references space node) (each_told mask (references space node) (links_short space short node)))),
+          (all_filter (is_followed direction d) (λ link.
+          IsShortReference (shown_reference mask link)) (references space node)
+          (each_told mask (references space node) (links_short space short node)))),
     )
 
 -- what is answered unless memory is wanting
-pub starved_short : {A E : Type 0} (memory : E) (P : A → Type 0) (answer result : Result A E) → IfOk answer P → IsOrStarved memory answer result → IfOk result P
+pub starved_short : {A E : Type 0} (memory : E) (P : A → Type 0) (answer result : Result A E)
+    → IfOk answer P → IsOrStarved memory answer result → IfOk result P
 starved_short memory P (Ok a) (Ok b) is so = subst P (sym so) is
 starved_short memory P (Ok a) (Err e) is so = tt
 starved_short memory P (Err e) (Ok b) is so = absurd cc
@@ -294,28 +374,43 @@ starved_short memory P (Err e) (Err f) is so = tt
 
 -- ---- plans
 
-pub plan_short : (plan : Plan) → HasShortPlan plan → AllByRecursion HasPlannedId plan.variables.now → length plan.folders.now + length plan.variables.now ≤ 1000 → IsShortLayout (layout_of plan)
+pub plan_short : (plan : Plan) → HasShortPlan plan → AllByRecursion HasPlannedId plan.variables.now
+    → length plan.folders.now + length plan.variables.now ≤ 1000 → IsShortLayout (layout_of plan)
 plan_short plan short ids few = record {
   namespace = short.namespace;
   folders = all_map folder_of HasShortTexts plan.folders.now short.folders;
   ids = all_map variable_of HasShortId plan.variables.now (each plan.variables.now ids);
   names = all_map variable_of HasShortName plan.variables.now short.variables;
-  few = omega (arith, few, length-map plan.folders.now folder_of, length-map plan.variables.now variable_of);
+  few = omega (
+    arith,
+    few,
+    length-map plan.folders.now folder_of,
+    length-map plan.variables.now variable_of,
+  );
 }
   where
-    each : (variables : List VariablePlan) → AllByRecursion HasPlannedId variables → AllByRecursion (λ v. HasShortId (variable_of v)) variables
+    each : (variables : List VariablePlan) → AllByRecursion HasPlannedId variables
+        → AllByRecursion (λ v. HasShortId (variable_of v)) variables
     each [] all = tt
     each (v ∷ variables) all = (all.0.1, each variables all.1)
 
-few_judged : (plan : Plan) (b : Bool) → nat_lt 1000 (length plan.folders.now + length plan.variables.now) ≡ b → (space : Layout) → judged_by plan ≡ Ok space → length plan.folders.now + length plan.variables.now ≤ 1000
+few_judged : (plan : Plan) (b : Bool)
+    → nat_lt 1000 (length plan.folders.now + length plan.variables.now) ≡ b → (space : Layout)
+    → judged_by plan ≡ Ok space → length plan.folders.now + length plan.variables.now ≤ 1000
 few_judged plan true e space is = absurd cc
-few_judged plan false e space is = ltb-false 1000 (length plan.folders.now + length plan.variables.now) e
+few_judged plan false e space is =
+    ltb-false 1000 (length plan.folders.now + length plan.variables.now) e
 
 -- a plan that was judged to make a space
-pub judged_short : (plan : Plan) (judged : Result (Unit {0}) BuildFault) (nothing : Unit {0}) → HasShortPlan plan → AllByRecursion HasPlannedId plan.variables.now
-    → MatchResult (judged_by plan) (λ _. judged ≡ Ok tt) (λ fault. judged ≡ Err fault) → judged ≡ Ok nothing → IsShortLayout (layout_of plan)
+pub judged_short : (plan : Plan) (judged : Result (Unit {0}) BuildFault) (nothing : Unit {0})
+    → HasShortPlan plan → AllByRecursion HasPlannedId plan.variables.now
+    → MatchResult (judged_by plan) (λ _. judged ≡ Ok tt) (λ fault. judged ≡ Err fault)
+    → judged ≡ Ok nothing → IsShortLayout (layout_of plan)
 judged_short plan judged nothing short ids so ok = by (judged_by plan) refl so
   where
-    by : (r : Result Layout BuildFault) → judged_by plan ≡ r → MatchResult r (λ _. judged ≡ Ok tt) (λ fault. judged ≡ Err fault) → IsShortLayout (layout_of plan)
-    by (Ok space) is _ = plan_short plan short ids (few_judged plan (is_too_large plan) refl space is)
+    by : (r : Result Layout BuildFault) → judged_by plan ≡ r
+        → MatchResult r (λ _. judged ≡ Ok tt) (λ fault. judged ≡ Err fault)
+        → IsShortLayout (layout_of plan)
+    by (Ok space) is _ = plan_short plan short ids
+        (few_judged plan (is_too_large plan) refl space is)
     by (Err fault) is refused = absurd cc

@@ -29,7 +29,8 @@ abbrev pub IsExact : {A : Type 0} → (A → A → Bool) → Type 0
 IsExact {A} E = (a b : A) → Decides (E a b) (a ≡ b)
 
 -- the law of `Eq` has each found with itself, so it is enough that what is found is one
-joins_one : {A : Type 0} {E : A → A → Bool} → IsEquivalence E → ((a b : A) → E a b ≡ true → a ≡ b) → IsExact E
+joins_one : {A : Type 0} {E : A → A → Bool} → IsEquivalence E → ((a b : A) → E a b ≡ true → a ≡ b)
+    → IsExact E
 joins_one {E = E} law only a b = (only a b, λ e. subst (λ c. E a c ≡ true) e (law.refl a))
 
 pub lists : {A : Type 0} {E : A → A → Bool} → IsExact E → IsExact (pointwise E)
@@ -42,12 +43,16 @@ options exact None (Some b) = search rules
 options exact (Some a) None = search rules
 
 -- two parts, one after the other
-pub pairs : {A B : Type 0} {E : A → A → Bool} {F : B → B → Bool} → IsExact E → IsExact F → IsExact (λ (p q : A × B). E p.0 q.0 && F p.1 q.1)
-pairs left right p q = Decides-like _ (λ e i. (e.0 i, e.1 i)) (λ e. (ap (λ x. x.0) e, ap (λ x. x.1) e)) (Decides-and _ _ (left p.0 q.0) (right p.1 q.1))
+pub pairs : {A B : Type 0} {E : A → A → Bool} {F : B → B → Bool} → IsExact E → IsExact F
+    → IsExact (λ (p q : A × B). E p.0 q.0 && F p.1 q.1)
+pairs left right p q = Decides-like _ (λ e i. (e.0 i, e.1 i))
+    (λ e. (ap (λ x. x.0) e, ap (λ x. x.1) e)) (Decides-and _ _ (left p.0 q.0) (right p.1 q.1))
 
 -- a structure has the test of its parts
-pub through : {A B : Type 0} {E : B → B → Bool} (parts : A → B) (whole : B → A) → ((a : A) → whole (parts a) ≡ a) → IsExact E → IsExact (λ a b. E (parts a) (parts b))
-through parts whole back exact a b = Decides-like _ (λ e. sym (back a) ∙ ap whole e ∙ back b) (ap parts) (exact (parts a) (parts b))
+pub through : {A B : Type 0} {E : B → B → Bool} (parts : A → B) (whole : B → A)
+    → ((a : A) → whole (parts a) ≡ a) → IsExact E → IsExact (λ a b. E (parts a) (parts b))
+through parts whole back exact a b =
+    Decides-like _ (λ e. sym (back a) ∙ ap whole e ∙ back b) (ap parts) (exact (parts a) (parts b))
 
 blocks : IsExact (pointwise eqb)
 blocks = lists unsigned_Decides
@@ -94,8 +99,10 @@ array_only (many.Guid a) (many.Guid b) e = ap many.Guid ((lists guids a b).0 e)
 array_only (many.ByteString a) (many.ByteString b) e = ap many.ByteString ((lists texts a b).0 e)
 array_only (many.NodeId a) (many.NodeId b) e = ap many.NodeId ((lists nodes a b).0 e)
 array_only (many.StatusCode a) (many.StatusCode b) e = ap many.StatusCode ((lists statuses a b).0 e)
-array_only (many.QualifiedName a) (many.QualifiedName b) e = ap many.QualifiedName ((lists qualified_names a b).0 e)
-array_only (many.LocalizedText a) (many.LocalizedText b) e = ap many.LocalizedText ((lists localized_texts a b).0 e)
+array_only (many.QualifiedName a) (many.QualifiedName b) e =
+    ap many.QualifiedName ((lists qualified_names a b).0 e)
+array_only (many.LocalizedText a) (many.LocalizedText b) e =
+    ap many.LocalizedText ((lists localized_texts a b).0 e)
 array_only _ _ e = absurd (true≢false (sym e))
 
 pub arrays : IsExact equal_arrays

@@ -54,7 +54,8 @@ scalar_item number =
 many_lawful : {A : Type 0} {f : Format BinaryFault A} → IsItemLawful f → IsLawful (many_of f)
 many_lawful p = array_lawful (λ e. e) p.some p.lawful
 
-many_fits : {A : Type 0} (f : Format BinaryFault A) (l : List A) → (length l < 2 ^ 31) × AllByRecursion f.Fits l → (many_of f).Fits l
+many_fits : {A : Type 0} (f : Format BinaryFault A) (l : List A)
+    → (length l < 2 ^ 31) × AllByRecursion f.Fits l → (many_of f).Fits l
 unfolding array signed
 many_fits f l h = (omega (arith, h.0), (h.1, refl))
 
@@ -104,7 +105,8 @@ values_fits (many.LocalizedText l) h = (many_fits localized l h, refl)
 
 values_lawful : (number : ℕ) → IsLawful (values number)
 unfolding values
-values_lawful number = fitting_lawful _ (λ v h. subst (λ n. (values_form n).Fits v) h.0 (values_fits v h.1)) (values_form_lawful number)
+values_lawful number = fitting_lawful _ (λ v h.
+    subst (λ n. (values_form n).Fits v) h.0 (values_fits v h.1)) (values_form_lawful number)
 
 scalar_form_lawful : (number : ℕ) → IsLawful (scalar_form number)
 scalar_form_lawful number = (scalar_item number).lawful
@@ -113,7 +115,8 @@ scalar_form_some : (number : ℕ) → IsNonEmpty (scalar_form number)
 scalar_form_some number = (scalar_item number).some
 
 scalar_fits : (v : One) → IsScalar v → (scalar_form (scalar_number v)).Fits v
-unfolding boolean sbyte signed unsigned ticks status text byte_string guid node_id qualified localized
+unfolding boolean sbyte signed unsigned ticks status text byte_string guid node_id qualified
+    localized
 scalar_fits (Boolean v) h = (tt, refl)
 scalar_fits (SByte v) h = (h, refl)
 scalar_fits (Byte v) h = (h, refl)
@@ -138,7 +141,8 @@ scalar_fits (LocalizedText v) h = (h, refl)
 
 scalar_lawful : (number : ℕ) → IsLawful (scalar number)
 unfolding scalar
-scalar_lawful number = fitting_lawful _ (λ v h. subst (λ n. (scalar_form n).Fits v) h.0 (scalar_fits v h.1)) (scalar_form_lawful number)
+scalar_lawful number = fitting_lawful _ (λ v h.
+    subst (λ n. (scalar_form n).Fits v) h.0 (scalar_fits v h.1)) (scalar_form_lawful number)
 
 scalar_some : (number : ℕ) → IsNonEmpty (scalar number)
 unfolding scalar
@@ -148,15 +152,21 @@ variant_form_lawful : (first : ℕ) → IsLawful (variant_form first)
 variant_form_lawful first =
     chosen_lawful (first == 0) (nothing_lawful Null) (
     chosen_lawful (ltb first 128)
-    (chosen_lawful (is_type_number first) (standing_lawful _ _ (raised_lawful variant_fault (scalar_lawful first))) (refused_lawful TypeUnsupported))
-    (chosen_lawful (is_type_number (first - 128)) (standing_lawful _ _ (raised_lawful variant_fault (values_lawful (first - 128)))) (refused_lawful TypeUnsupported)))
+    (chosen_lawful (is_type_number first) (standing_lawful _ _
+    (raised_lawful variant_fault (scalar_lawful first))) (refused_lawful TypeUnsupported))
+    (chosen_lawful (is_type_number (first - 128)) (standing_lawful _ _
+    (raised_lawful variant_fault (values_lawful (first - 128))))
+    (refused_lawful TypeUnsupported)))
 
 -- what the three tests choose
-scalar_chosen : (n : ℕ) (v : One) → IsNumber n → scalar_number v ≡ n → IsScalar v → (n < 2 ^ 8) × (variant_form n).Fits (Scalar v)
+scalar_chosen : (n : ℕ) (v : One) → IsNumber n → scalar_number v ≡ n → IsScalar v
+    → (n < 2 ^ 8) × (variant_form n).Fits (Scalar v)
 unfolding scalar
-scalar_chosen n v t e h = rw (t.some, t.small, t.known) (omega (arith, ltb-true n 128 t.small), ((e, h), refl))
+scalar_chosen n v t e h = rw (t.some, t.small, t.known)
+    (omega (arith, ltb-true n 128 t.small), ((e, h), refl))
 
-array_chosen : (n : ℕ) (v : Many) → IsNumber n → array_number v ≡ n → IsValues v → (128 + n < 2 ^ 8) × (variant_form (128 + n)).Fits (Array v)
+array_chosen : (n : ℕ) (v : Many) → IsNumber n → array_number v ≡ n → IsValues v
+    → (128 + n < 2 ^ 8) × (variant_form (128 + n)).Fits (Array v)
 unfolding values
 array_chosen n v t e h =
     let a : (128 + n == 0) ≡ false = ne_eqb (128 + n) 0 (λ e. omega (arith, e)) in
@@ -164,13 +174,16 @@ array_chosen n v t e h =
     let c : 128 + n - 128 ≡ n = omega arith in
     rw (a, b, c, t.known) (omega (arith, ltb-true n 128 t.small), ((e, h), refl))
 
-variant_fits : (v : Variant) → IsVariant v → (variant_number v < 2 ^ 8) × (variant_form (variant_number v)).Fits v
+variant_fits : (v : Variant) → IsVariant v
+    → (variant_number v < 2 ^ 8) × (variant_form (variant_number v)).Fits v
 variant_fits Null h = (omega arith, refl)
 variant_fits (Scalar s) h = scalar_chosen (scalar_number s) s (type_of s) refl h
 variant_fits (Array a) h = array_chosen (array_number a) a (type_of_values a) refl h
 
 pub variant_lawful : IsLawful variant
 unfolding variant
-variant_lawful = fitting_lawful IsVariant variant_fits (headed_lawful variant_number variant_form (raised_lawful variant_fault byte_lawful) variant_form_lawful)
+variant_lawful = fitting_lawful IsVariant variant_fits
+    (headed_lawful variant_number variant_form
+    (raised_lawful variant_fault byte_lawful) variant_form_lawful)
 
 pub ruleset lawful = (variant_lawful)

@@ -12,7 +12,7 @@ use Rattle.ua_variant.specs.declared.fault.VariantFault.TheVariants.{BadEncoding
 use Rattle.ua_variant.specs.Raise.{variant_fault}
 use Rattle.ua_variant.specs.Variant.{variant}
 use Rattle.ua_variant.specs.DataValue.{mask_bit, IsPicoseconds, picoseconds, has, data_mask, IsDataValue, data_value}
-use Rattle.ua_variant.specs.StampParts.{stamps}
+use Rattle.ua_variant.specs.StampFields.{stamps}
 use Rattle.ua_variant.proofs.DataValueParts.{data_of, parts_of, data_fields}
 use Rattle.ua_variant.proofs.Lawful.{variant_lawful}
 
@@ -42,18 +42,23 @@ of_each p e true = (both_hold (p true) (p false) e).0
 of_each p e false = (both_hold (p true) (p false) e).1
 
 abbrev mask_of : Bool → Bool → Bool → Bool → Bool → Bool → ℕ
-mask_of a b c d e f = mask_bit a 1 + mask_bit b 2 + mask_bit c 4 + mask_bit d 16 + mask_bit e 8 + mask_bit f 32
+mask_of a b c d e f = mask_bit a 1 + mask_bit b 2 + mask_bit c 4 + mask_bit d 16 + mask_bit e 8
+    + mask_bit f 32
 
 -- the mask is small, and each bit is set where it is there
 tried : ℕ → Bool → Bool → Bool → Bool → Bool → Bool → Bool
-tried m a b c d e f = ltb m 64 && (same (has m 1) a && (same (has m 2) b && (same (has m 4) c && (same (has m 16) d && (same (has m 8) e && same (has m 32) f)))))
+tried m a b c d e f = ltb m 64 && (same (has m 1) a
+    && (same (has m 2) b && (same (has m 4) c
+    && (same (has m 16) d && (same (has m 8) e && same (has m 32) f)))))
 
-all_tried : each (λ a. each (λ b. each (λ c. each (λ d. each (λ e. each (λ f. tried (mask_of a b c d e f) a b c d e f)))))) ≡ true
+all_tried : each (λ a. each (λ b. each
+    (λ c. each (λ d. each (λ e. each (λ f. tried (mask_of a b c d e f) a b c d e f)))))) ≡ true
 unfolding each tried same
 all_tried = refl
 
 is_tried : (a b c d e f : Bool) → tried (mask_of a b c d e f) a b c d e f ≡ true
-is_tried a b c d e f = of_each _ (of_each _ (of_each _ (of_each _ (of_each _ (of_each _ all_tried a) b) c) d) e) f
+is_tried a b c d e f = of_each _ (of_each _
+    (of_each _ (of_each _ (of_each _ (of_each _ all_tried a) b) c) d) e) f
 
 record IsMask (m : ℕ) (a b c d e f : Bool) : Type 0 where
   small : m < 64
@@ -83,30 +88,65 @@ told m a b c d e f t =
       server_pico = same_is _ _ t6.1;
     }
 
-mask_told : (v : DataValue) → IsMask (data_mask v) (is_some v.value) (is_some v.status) (is_some v.source_time) (is_some v.source_pico) (is_some v.server_time) (is_some v.server_pico)
-mask_told v = told (data_mask v) _ _ _ _ _ _ (is_tried (is_some v.value) (is_some v.status) (is_some v.source_time) (is_some v.source_pico) (is_some v.server_time) (is_some v.server_pico))
+mask_told : (v : DataValue) → IsMask (data_mask v) (is_some v.value) (is_some v.status)
+    (is_some v.source_time) (is_some v.source_pico) (is_some v.server_time) (is_some v.server_pico)
+mask_told v = told (data_mask v) _ _ _ _ _ _ (is_tried (is_some v.value) (is_some v.status)
+    (is_some v.source_time) (is_some v.source_pico) (is_some v.server_time) (is_some v.server_pico))
 
 -- ---- what is written
 
-fields_canon : (m : ℕ) (v : DataValue) → m < 64 → (data_fields m).canon v ≡ (flagged (is_some v.value) variant).canon v.value ++ ((flagged (is_some v.status) status).canon v.status ++ ((flagged (is_some v.source_time) ticks).canon v.source_time ++ ((flagged (is_some v.source_pico) picoseconds).canon v.source_pico ++ ((flagged (is_some v.server_time) ticks).canon v.server_time ++ (flagged (is_some v.server_pico) picoseconds).canon v.server_pico))))
+fields_canon : (m : ℕ) (v : DataValue) → m < 64
+    → (data_fields m).canon v ≡ (flagged (is_some v.value) variant).canon v.value
+    ++ ((flagged (is_some v.status) status).canon v.status
+    ++ ((flagged (is_some v.source_time) ticks).canon v.source_time
+    ++ ((flagged (is_some v.source_pico) picoseconds).canon v.source_pico
+    ++ ((flagged (is_some v.server_time) ticks).canon v.server_time
+    ++ (flagged (is_some v.server_pico) picoseconds).canon v.server_pico))))
 fields_canon m v lt = let e : ltb 63 m ≡ false = le-ltb 63 m (omega (arith, lt)) in rw e refl
 
-pub canon_data : (v : DataValue) → data_value.canon v ≡ byte.canon (data_mask v) ++ ((flagged (is_some v.value) variant).canon v.value ++ ((flagged (is_some v.status) status).canon v.status ++ ((flagged (is_some v.source_time) ticks).canon v.source_time ++ ((flagged (is_some v.source_pico) picoseconds).canon v.source_pico ++ ((flagged (is_some v.server_time) ticks).canon v.server_time ++ (flagged (is_some v.server_pico) picoseconds).canon v.server_pico)))))
+pub canon_data : (v : DataValue) → data_value.canon v
+    ≡ byte.canon (data_mask v) ++ ((flagged (is_some v.value) variant).canon v.value
+    ++ ((flagged (is_some v.status) status).canon v.status
+    ++ ((flagged (is_some v.source_time) ticks).canon v.source_time
+    ++ ((flagged (is_some v.source_pico) picoseconds).canon v.source_pico
+    ++ ((flagged (is_some v.server_time) ticks).canon v.server_time
+    ++ (flagged (is_some v.server_pico) picoseconds).canon v.server_pico)))))
 unfolding data_value
 canon_data v = rw (fields_canon (data_mask v) v (mask_told v).small) refl
 
 -- a value with its moments alone
 pub canon_timed : (value : Variant) (source server : Option Ticks)
-    → data_value.canon (record { value = Some value; status = None; source_time = source; source_pico = None; server_time = server; server_pico = None })
-    ≡ byte.canon (1 + mask_bit (is_some source) 4 + mask_bit (is_some server) 8) ++ (variant.canon value ++ ((flagged (is_some source) ticks).canon source ++ (flagged (is_some server) ticks).canon server))
+    → data_value.canon
+    (record {
+      value = Some value;
+      status = None;
+      source_time = source;
+      source_pico =
+          None;
+      server_time = server;
+      server_pico = None;
+    })
+    ≡ byte.canon (1 + mask_bit (is_some source) 4 + mask_bit (is_some server) 8)
+    ++ (variant.canon value ++ ((flagged (is_some source) ticks).canon source
+    ++ (flagged (is_some server) ticks).canon server))
 canon_timed value source server =
     let S = (flagged (is_some source) ticks).canon source in
     let T = (flagged (is_some server) ticks).canon server in
-    let v : DataValue = record { value = Some value; status = None; source_time = source; source_pico = None; server_time = server; server_pico = None } in
-    let mask : data_mask v ≡ 1 + mask_bit (is_some source) 4 + mask_bit (is_some server) 8 = omega arith in
+    let v : DataValue = record {
+      value = Some value;
+      status = None;
+      source_time =
+          source;
+      source_pico = None;
+      server_time = server;
+      server_pico = None;
+    } in
+    let mask : data_mask v ≡ 1 + mask_bit (is_some source) 4 + mask_bit (is_some server) 8 =
+    omega arith in
     canon_data v
     ∙ (ap (λ m. byte.canon m ++ (variant.canon value ++ (S ++ (T ++ [])))) mask
-    ∙ ap (λ l. byte.canon (1 + mask_bit (is_some source) 4 + mask_bit (is_some server) 8) ++ (variant.canon value ++ (S ++ l))) (append-nil T))
+    ∙ ap (λ l. byte.canon (1 + mask_bit (is_some source) 4 + mask_bit (is_some server) 8)
+    ++ (variant.canon value ++ (S ++ l))) (append-nil T))
 
 -- ---- the law
 
@@ -115,19 +155,27 @@ least n le = omega arith
 
 pub picoseconds_lawful : IsLawful picoseconds
 unfolding picoseconds unsigned
-picoseconds_lawful = fitting_lawful IsPicoseconds (λ n le. (omega (arith, le), least n le)) (standing_lawful _ _ u16_lawful)
+picoseconds_lawful = fitting_lawful IsPicoseconds (λ n le. (omega (arith, le), least n le))
+    (standing_lawful _ _ u16_lawful)
 
 stamps_lawful : (m : ℕ) → IsLawful (stamps m)
-stamps_lawful m = then_lawful (flagged_lawful _ status_lawful) (then_lawful (flagged_lawful _ ticks_lawful) (then_lawful (flagged_lawful _ picoseconds_lawful) (then_lawful (flagged_lawful _ ticks_lawful) (flagged_lawful _ picoseconds_lawful))))
+stamps_lawful m = then_lawful (flagged_lawful _ status_lawful)
+    (then_lawful (flagged_lawful _ ticks_lawful) (then_lawful (flagged_lawful _ picoseconds_lawful)
+    (then_lawful (flagged_lawful _ ticks_lawful) (flagged_lawful _ picoseconds_lawful))))
 
 data_fields_lawful : (m : ℕ) → IsLawful (data_fields m)
-data_fields_lawful m = chosen_lawful (ltb 63 m) (refused_lawful BadEncodingByte) (standing_lawful data_of parts_of (then_lawful (flagged_lawful _ variant_lawful) (raised_lawful variant_fault (stamps_lawful m))))
+data_fields_lawful m = chosen_lawful (ltb 63 m) (refused_lawful BadEncodingByte)
+    (standing_lawful data_of parts_of (then_lawful (flagged_lawful _ variant_lawful)
+    (raised_lawful variant_fault (stamps_lawful m))))
 
-optional_fits : {E A : Type 0} (f : Format E A) (v : Option A) → IfSome v f.Fits → (flagged (is_some v) f).Fits v
+optional_fits : {E A : Type 0} (f : Format E A) (v : Option A) → IfSome v f.Fits
+    → (flagged (is_some v) f).Fits v
 optional_fits f None h = refl
 optional_fits f (Some u) h = h
 
-fields_fit : (m : ℕ) (v : DataValue) → IsMask m (is_some v.value) (is_some v.status) (is_some v.source_time) (is_some v.source_pico) (is_some v.server_time) (is_some v.server_pico) → IsDataValue v → (data_fields m).Fits v
+fields_fit : (m : ℕ) (v : DataValue)
+    → IsMask m (is_some v.value) (is_some v.status) (is_some v.source_time) (is_some v.source_pico)
+    (is_some v.server_time) (is_some v.server_pico) → IsDataValue v → (data_fields m).Fits v
 unfolding variant status ticks picoseconds
 fields_fit m v k h =
     let e : ltb 63 m ≡ false = le-ltb 63 m (omega (arith, k.small)) in
@@ -151,11 +199,14 @@ fields_fit m v k h =
       refl,
     )
 
-data_fits : (v : DataValue) → IsDataValue v → (data_mask v < 2 ^ 8) × (data_fields (data_mask v)).Fits v
+data_fits : (v : DataValue) → IsDataValue v
+    → (data_mask v < 2 ^ 8) × (data_fields (data_mask v)).Fits v
 data_fits v h = let k = mask_told v in (omega (arith, k.small), fields_fit (data_mask v) v k h)
 
 pub data_value_lawful : IsLawful data_value
 unfolding data_value
-data_value_lawful = fitting_lawful IsDataValue data_fits (headed_lawful data_mask data_fields (raised_lawful variant_fault byte_lawful) data_fields_lawful)
+data_value_lawful = fitting_lawful IsDataValue data_fits
+    (headed_lawful data_mask data_fields
+    (raised_lawful variant_fault byte_lawful) data_fields_lawful)
 
 pub ruleset lawful = (variant_lawful, picoseconds_lawful, data_value_lawful)

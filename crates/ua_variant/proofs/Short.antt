@@ -29,10 +29,13 @@ use Rattle.ua_variant.proofs.Masks.{data_value_lawful}
 -- ---- one value, and arrays of each type
 
 -- where there is nothing to count
-plain : {A : Type 0} (to : A → One) (from : One → A) (f : Format BinaryFault A) → ((v : A) → IsShortScalar (to v)) → SpellsOnly (standing_for to from f) IsShortScalar
+plain : {A : Type 0} (to : A → One) (from : One → A) (f : Format BinaryFault A)
+    → ((v : A) → IsShortScalar (to v)) → SpellsOnly (standing_for to from f) IsShortScalar
 plain to from f h = standing_only to from (any_only f) (λ v _. h v)
 
-counted : {A : Type 0} {P : A → Type 0} (to : A → One) (from : One → A) {f : Format BinaryFault A} → SpellsOnly f P → ((v : A) → P v → IsShortScalar (to v)) → SpellsOnly (standing_for to from f) IsShortScalar
+counted : {A : Type 0} {P : A → Type 0} (to : A → One) (from : One → A) {f : Format BinaryFault A}
+    → SpellsOnly f P → ((v : A) → P v → IsShortScalar (to v))
+    → SpellsOnly (standing_for to from f) IsShortScalar
 counted to from p h = standing_only to from p h
 
 scalar_form_only : (number : ℕ) → SpellsOnly (scalar_form number) IsShortScalar
@@ -62,7 +65,10 @@ scalar_only : (number : ℕ) → SpellsOnly (scalar number) IsShortScalar
 unfolding scalar
 scalar_only number = fitting_only _ (scalar_form_only number)
 
-counted_array : {A : Type 0} {P : A → Type 0} (to : List A → Many) (from : Many → List A) {f : Format BinaryFault A} → SpellsOnly f P → ((l : List A) → IsFew P l → IsShortValues (to l)) → SpellsOnly (standing_for to from (many_of f)) IsShortValues
+counted_array : {A : Type 0} {P : A → Type 0} (to : List A → Many)
+    (from : Many → List A) {f : Format BinaryFault A} → SpellsOnly f P
+    → ((l : List A) → IsFew P l → IsShortValues (to l))
+    → SpellsOnly (standing_for to from (many_of f)) IsShortValues
 counted_array to from p h = standing_only to from (array_only (λ e. e) p) h
 
 values_form_only : (number : ℕ) → SpellsOnly (values_form number) IsShortValues
@@ -98,14 +104,19 @@ variant_form_only : (first : ℕ) → SpellsOnly (variant_form first) IsShortVar
 variant_form_only first =
     chosen_only (first == 0) (nothing_only Null tt) (
     chosen_only (ltb first 128)
-    (chosen_only (is_type_number first) (standing_only Scalar _ (raised_only variant_fault (scalar_only first)) (λ _ h. h)) (refused_only TypeUnsupported))
-    (chosen_only (is_type_number (first - 128)) (standing_only Array _ (raised_only variant_fault (values_only (first - 128))) (λ _ h. h)) (refused_only TypeUnsupported)))
+    (chosen_only (is_type_number first) (standing_only Scalar _
+    (raised_only variant_fault (scalar_only first)) (λ _ h. h)) (refused_only TypeUnsupported))
+    (chosen_only (is_type_number (first - 128)) (standing_only Array _
+    (raised_only variant_fault (values_only (first - 128))) (λ _ h. h))
+    (refused_only TypeUnsupported)))
 
 variant_only : SpellsOnly variant IsShortVariant
 unfolding variant
-variant_only = fitting_only IsVariant (headed_only variant_number variant_form (any_only (raise byte)) (λ first _. variant_form_only first))
+variant_only = fitting_only IsVariant (headed_only variant_number variant_form
+    (any_only (raise byte)) (λ first _. variant_form_only first))
 
-pub short_variant : (bytes : List ℕ) (v : Variant) (rest : List ℕ) → variant.read bytes ≡ Ok (v, rest) → IsShortVariant v
+pub short_variant : (bytes : List ℕ) (v : Variant) (rest : List ℕ)
+    → variant.read bytes ≡ Ok (v, rest) → IsShortVariant v
 short_variant bytes v rest e = read_only variant_lawful variant_only bytes v rest e
 
 -- ---- data values
@@ -115,19 +126,25 @@ at_most n = omega arith
 
 picoseconds_only : SpellsOnly picoseconds IsPicoseconds
 unfolding picoseconds
-picoseconds_only = fitting_only IsPicoseconds (standing_only (λ n. min n 9999) _ (any_only (unsigned w16)) (λ n _. at_most n))
+picoseconds_only = fitting_only IsPicoseconds (standing_only (λ n. min n 9999) _
+    (any_only (unsigned w16)) (λ n _. at_most n))
 
 data_fields_only : (mask : ℕ) → SpellsOnly (data_fields mask) IsShortData
 data_fields_only mask =
     chosen_only (ltb 63 mask) (refused_only BadMask) (standing_only data_of parts_of (
     then_only (flagged_only _ variant_only) (raised_only variant_fault (
-    then_only (any_only (flagged (has mask 2) status)) (then_only (any_only (flagged (has mask 4) ticks)) (then_only (flagged_only _ picoseconds_only) (then_only (any_only (flagged (has mask 8) ticks)) (flagged_only _ picoseconds_only))))
+    then_only (any_only (flagged (has mask 2) status))
+    (then_only (any_only (flagged (has mask 4) ticks))
+    (then_only (flagged_only _ picoseconds_only)
+    (then_only (any_only (flagged (has mask 8) ticks)) (flagged_only _ picoseconds_only))))
     ))
     ) (λ u h. (h.0, h.1.1.1.0, h.1.1.1.1.1)))
 
 pub data_value_only : SpellsOnly data_value IsShortData
 unfolding data_value
-data_value_only = fitting_only IsDataValue (headed_only data_mask data_fields (any_only (raise byte)) (λ mask _. data_fields_only mask))
+data_value_only = fitting_only IsDataValue (headed_only data_mask data_fields
+    (any_only (raise byte)) (λ mask _. data_fields_only mask))
 
-pub short_data : (bytes : List ℕ) (v : DataValue) (rest : List ℕ) → data_value.read bytes ≡ Ok (v, rest) → IsShortData v
+pub short_data : (bytes : List ℕ) (v : DataValue) (rest : List ℕ)
+    → data_value.read bytes ≡ Ok (v, rest) → IsShortData v
 short_data bytes v rest e = read_only data_value_lawful data_value_only bytes v rest e

@@ -76,7 +76,9 @@ pub small_type : (v : One) → ltb (scalar_number v) 128 ≡ true
 small_type v = (type_of v).small
 
 -- an array that was written
-pub many_spelled : {A E T : Type 0} (P : A → Type 0) (l : List A) (result : Result T E) → length l < 2 ^ 31 → IfOk result (λ _. All P l) → IfOk result (λ _. (length l < 2 ^ 31) × AllByRecursion P l)
+pub many_spelled : {A E T : Type 0} (P : A → Type 0) (l : List A) (result : Result T E)
+    → length l < 2 ^ 31 → IfOk result (λ _. All P l)
+    → IfOk result (λ _. (length l < 2 ^ 31) × AllByRecursion P l)
 many_spelled P l (Ok x) few h = (few, recursion_from_All P l h)
 many_spelled P l (Err e) few h = tt
 

@@ -13,4 +13,5 @@ many f = array (λ e. e) f
 
 -- what each type number calls for
 abbrev pub values_form : ℕ → Format BinaryFault Array
-values_form = by_type (λ _ _ _ to from f _. standing_for to from (array (λ e. e) f)) (no_format BadEncodingByte)
+values_form = by_type (λ _ _ _ to from f _. standing_for to from (array (λ e. e) f))
+    (no_format BadEncodingByte)

@@ -13,12 +13,22 @@ use Rattle.ua_variant.specs.Variant.{raise}
 
 -- the first byte that is written
 abbrev pub variant_number : Variant → ℕ
-variant_number value = elim value [ Null ↦ 0 | Scalar s ↦ scalar_number s | Array a ↦ 128 + array_number a ]
+variant_number value = elim value [
+  | Null ↦ 0
+  | Scalar s ↦ scalar_number s
+  | Array a ↦
+      128 + array_number a
+]
 
--- what each first byte calls for: the low bits are a type, 128 is the flag of an array; 64, the flag of a matrix, is left out
+-- what each first byte calls for: the low bits are a type, 128 is the flag of an array; 64, the
+-- flag of a matrix, is left out
 abbrev pub variant_form : ℕ → Format VariantFault Variant
 variant_form first =
     chosen (first == 0) (nothing Null) (
     chosen (nat_lt first 128)
-    (chosen (is_type_number first) (standing_for Scalar (λ v. elim v [ Scalar s ↦ s | _ ↦ Boolean false ]) (raise (scalar first))) (no_format TypeUnsupported))
-    (chosen (is_type_number (first - 128)) (standing_for Array (λ v. elim v [ Array a ↦ a | _ ↦ ManyBoolean [] ]) (raise (values (first - 128)))) (no_format TypeUnsupported)))
+    (chosen (is_type_number first) (standing_for Scalar
+    (λ v. elim v [ Scalar s ↦ s | _ ↦ Boolean false ]) (raise (scalar first)))
+    (no_format TypeUnsupported))
+    (chosen (is_type_number (first - 128)) (standing_for Array
+    (λ v. elim v [ Array a ↦ a | _ ↦ ManyBoolean [] ]) (raise (values (first - 128))))
+    (no_format TypeUnsupported)))

@@ -7,7 +7,7 @@ ghost use Rattle.ua_binary.specs.Format.{Puts, PutsPart, Reads, ReadsPart, Reads
 ghost use Rattle.ua_binary.specs.Binary.{ticks, status, unsigned};
 ghost use Rattle.ua_variant.specs.Variant.{variant, IsVariant, IsShortVariant};
 ghost use Rattle.ua_variant.specs.DataValue.{picoseconds, IsPicoseconds, mask_bit, data_mask, data_value, IsDataValue, IsShortData};
-ghost use Rattle.ua_variant.specs.StampParts.{stamps, stamps_of};
+ghost use Rattle.ua_variant.specs.StampFields.{stamps, stamps_of};
 ghost use Rattle.ua_variant.specs.declared.data.DataValue.{DataValue as Data};
 
 use crate::fault::VariantFault;

@@ -8,4 +8,8 @@ use Rattle.uacp.specs.declared.types.UacpFault.TheVariants.{TypeInvalid}
 use Rattle.uacp.specs.Chunks.{sized_header}
 
 abbrev pub titled : ℕ → ℕ → List ℕ → Option (Kind × Letter) → Result (Option Header) UacpFault
-titled limit n head given = elim given [ None ↦ Err TypeInvalid | Some title ↦ sized_header limit n head title.0 title.1 ]
+titled limit n head given = elim given [
+  | None ↦ Err TypeInvalid
+  | Some title ↦
+      sized_header limit n head title.0 title.1
+]

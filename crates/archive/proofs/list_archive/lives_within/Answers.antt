@@ -4,4 +4,9 @@ use Rattle.archive.proofs.Narrow.{own_lives}
 use Rattle.archive.proofs.list_archive.lives_within.Goals as goal
 
 pub returns-clause-value : goal.returns-clause-value
-returns-clause-value c = rw (c.deref.ensures.value, c.in_ok-records.ensures.value, own_lives (cut c.args.records.now (number_of c.args.within.now)) c.args.node.now) at c.lives_of.ensures.value
+returns-clause-value c = rw (
+  c.deref.ensures.value,
+  c.in_ok-records.ensures.value,
+  own_lives (cut c.args.records.now (number_of c.args.within.now)) c.args.node.now,
+) at
+    c.lives_of.ensures.value

@@ -4,4 +4,5 @@ use Rattle.records.specs.Records.{modifications_at}
 use Rattle.archive.proofs.list_archive.log_at.Given as goal
 
 abbrev pub invariant-loop-time : goal.invariant-loop-time
-invariant-loop-time l = l.log.items ≡ flat_map (λ t. reverse (modifications_at l.records l.node t)) (take l.time-index l.times)
+invariant-loop-time l = l.log.items
+    ≡ flat_map (λ t. reverse (modifications_at l.records l.node t)) (take l.time-index l.times)

@@ -9,4 +9,6 @@ raise-requires c =
     (c.requires.records _ (subst (Has c.args.records.now) (sym c.r-item.is) held)).number.1
 
 pub loop-r-preserved : goal.loop-r-preserved
-loop-r-preserved c = raised_more c.args.records.now c.loop-r.r-index c.r-item.result c.loop-r.vector c.raise.new.self (omega arith) c.loop-r.invariant (rw (← c.r-item.is) c.raise.ensures.raised) (rw (← c.r-item.is) c.raise.ensures.others)
+loop-r-preserved c = raised_more c.args.records.now c.loop-r.r-index c.r-item.result c.loop-r.vector
+    c.raise.new.self (omega arith) c.loop-r.invariant (rw (← c.r-item.is) c.raise.ensures.raised)
+    (rw (← c.r-item.is) c.raise.ensures.others)

@@ -4,4 +4,5 @@ use Rattle.records.specs.Contents.{vec}
 use Rattle.archive.proofs.list_archive.vector_of.Given as goal
 
 abbrev pub invariant-loop-r : goal.invariant-loop-r
-invariant-loop-r l = (replica : ℕ) → number_of l.vector replica ≡ vec (take l.r-index l.records) replica
+invariant-loop-r l = (replica : ℕ)
+    → number_of l.vector replica ≡ vec (take l.r-index l.records) replica

@@ -8,7 +8,8 @@ use Rattle.clap.proofs.WalkLemmas.{first_value-rows}
 use Rattle.command_line.proofs.line.read_dump.Goals as goal
 
 -- what is known of an option's value, said of the option
-mapped : {T U : Type 0} (f : T → U) (o p : Option T) (m : Option U) → option_map f o ≡ m → o ≡ p → m ≡ option_map f p
+mapped : {T U : Type 0} (f : T → U) (o p : Option T) (m : Option U) → option_map f o ≡ m → o ≡ p
+    → m ≡ option_map f p
 mapped f o p m same e = sym same ∙ ap (option_map f) e
 
 not_set : (rows : List Row) → first_of (codes "settings") rows ≡ None → NoLine (IsDump rows)
@@ -20,9 +21,13 @@ not_set rows none (Sync path address) h = h
 pub returns-in-Some-clause-ok : goal.returns-in-Some-clause-ok
 returns-in-Some-clause-ok c =
     let found = found_of c.args.dump.now in
-    sym (first_value-rows found (codes "settings")) ∙ mapped _ c.get_str.result (Some c.in-Some.settings) (first_value found (codes "settings")) c.get_str.ensures c.in-Some.is
+    sym (first_value-rows found (codes "settings"))
+    ∙ mapped _ c.get_str.result (Some c.in-Some.settings)
+    (first_value found (codes "settings")) c.get_str.ensures c.in-Some.is
 
 pub returns-in-None-clause-words : goal.returns-in-None-clause-words
 returns-in-None-clause-words c =
     let found = found_of c.args.dump.now in
-    not_set (rows_of found) (sym (first_value-rows found (codes "settings")) ∙ mapped _ c.get_str.result None (first_value found (codes "settings")) c.get_str.ensures c.in-None.is)
+    not_set (rows_of found) (sym (first_value-rows found (codes "settings"))
+    ∙ mapped _ c.get_str.result None
+    (first_value found (codes "settings")) c.get_str.ensures c.in-None.is)

@@ -5,16 +5,26 @@ use Rattle.command_line.proofs.line.read_matches.Goals as goal
 
 pub returns-in-Some-clause-words : goal.returns-in-Some-clause-words
 returns-in-Some-clause-words c =
-    refused-so c.read_answer.result (no-answer (subcommand_rows_of c.args.matches.now) (rows_of (found_of c.in-Some.answer.now)) (search rules)) c.read_answer.ensures.words
+    refused-so c.read_answer.result (no-answer (subcommand_rows_of c.args.matches.now)
+    (rows_of (found_of c.in-Some.answer.now)) (search rules)) c.read_answer.ensures.words
 
-pub returns-in-Some-subcommand_matches-clause-words : goal.returns-in-Some-subcommand_matches-clause-words
+pub returns-in-Some-subcommand_matches-clause-words :
+    goal.returns-in-Some-subcommand_matches-clause-words
 returns-in-Some-subcommand_matches-clause-words c =
-    refused-so c.read_serve.result (no-serve (subcommand_rows_of c.args.matches.now) (rows_of (found_of c.in-Some-subcommand_matches.serve.now)) (search rules)) c.read_serve.ensures.words
+    refused-so c.read_serve.result (no-serve (subcommand_rows_of c.args.matches.now)
+    (rows_of (found_of c.in-Some-subcommand_matches.serve.now)) (search rules))
+    c.read_serve.ensures.words
 
-pub returns-in-Some-subcommand_matches-2-clause-words : goal.returns-in-Some-subcommand_matches-2-clause-words
+pub returns-in-Some-subcommand_matches-2-clause-words :
+    goal.returns-in-Some-subcommand_matches-2-clause-words
 returns-in-Some-subcommand_matches-2-clause-words c =
-    refused-so c.read_dump.result (no-dump (subcommand_rows_of c.args.matches.now) (rows_of (found_of c.in-Some-subcommand_matches-2.dump.now)) (search rules)) c.read_dump.ensures.words
+    refused-so c.read_dump.result (no-dump (subcommand_rows_of c.args.matches.now)
+    (rows_of (found_of c.in-Some-subcommand_matches-2.dump.now)) (search rules))
+    c.read_dump.ensures.words
 
-pub returns-in-Some-subcommand_matches-3-clause-words : goal.returns-in-Some-subcommand_matches-3-clause-words
+pub returns-in-Some-subcommand_matches-3-clause-words :
+    goal.returns-in-Some-subcommand_matches-3-clause-words
 returns-in-Some-subcommand_matches-3-clause-words c =
-    refused-so c.read_sync.result (no-sync (subcommand_rows_of c.args.matches.now) (rows_of (found_of c.in-Some-subcommand_matches-3.sync.now)) (search rules)) c.read_sync.ensures.words
+    refused-so c.read_sync.result (no-sync (subcommand_rows_of c.args.matches.now)
+    (rows_of (found_of c.in-Some-subcommand_matches-3.sync.now)) (search rules))
+    c.read_sync.ensures.words

@@ -8,7 +8,8 @@ use Rattle.clap.proofs.WalkLemmas.{first_value-rows}
 use Rattle.command_line.proofs.line.read_sync.Goals as goal
 
 -- what is known of an option's value, said of the option
-mapped : {T U : Type 0} (f : T → U) (o p : Option T) (m : Option U) → option_map f o ≡ m → o ≡ p → m ≡ option_map f p
+mapped : {T U : Type 0} (f : T → U) (o p : Option T) (m : Option U) → option_map f o ≡ m → o ≡ p
+    → m ≡ option_map f p
 mapped f o p m same e = sym same ∙ ap (option_map f) e
 
 not_set : (rows : List Row) → first_of (codes "settings") rows ≡ None → NoLine (IsSync rows)
@@ -26,16 +27,24 @@ not_told rows none (Dump path) h = h
 pub returns-in_default-clause-words : goal.returns-in_default-clause-words
 returns-in_default-clause-words c =
     let found = found_of c.args.sync.now in
-    not_set (rows_of found) (sym (first_value-rows found (codes "settings")) ∙ mapped _ c.get_str.result None (first_value found (codes "settings")) c.get_str.ensures c.in_default.is)
+    not_set (rows_of found) (sym (first_value-rows found (codes "settings"))
+    ∙ mapped _ c.get_str.result None
+    (first_value found (codes "settings")) c.get_str.ensures c.in_default.is)
 
 pub returns-in-Some-get_str-clause-ok : goal.returns-in-Some-get_str-clause-ok
 returns-in-Some-get_str-clause-ok c =
     let found = found_of c.args.sync.now in (
-      sym (first_value-rows found (codes "settings")) ∙ mapped _ c.get_str.result (Some c.in-Some.settings) (first_value found (codes "settings")) c.get_str.ensures c.in-Some.is,
-      sym (first_value-rows found (codes "peer")) ∙ mapped _ c.get_str-2.result (Some c.in-Some-get_str.peer) (first_value found (codes "peer")) c.get_str-2.ensures c.in-Some-get_str.is,
+      sym (first_value-rows found (codes "settings"))
+          ∙ mapped _ c.get_str.result (Some c.in-Some.settings)
+          (first_value found (codes "settings")) c.get_str.ensures c.in-Some.is,
+      sym (first_value-rows found (codes "peer"))
+          ∙ mapped _ c.get_str-2.result (Some c.in-Some-get_str.peer)
+          (first_value found (codes "peer")) c.get_str-2.ensures c.in-Some-get_str.is,
     )
 
 pub returns-in-None-clause-words : goal.returns-in-None-clause-words
 returns-in-None-clause-words c =
     let found = found_of c.args.sync.now in
-    not_told (rows_of found) (sym (first_value-rows found (codes "peer")) ∙ mapped _ c.get_str-2.result None (first_value found (codes "peer")) c.get_str-2.ensures c.in-None.is)
+    not_told (rows_of found) (sym (first_value-rows found (codes "peer"))
+    ∙ mapped _ c.get_str-2.result None
+    (first_value found (codes "peer")) c.get_str-2.ensures c.in-None.is)

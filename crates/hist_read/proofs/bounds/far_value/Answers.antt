@@ -17,13 +17,16 @@ returns-then-eq-clause-asks g c =
     let q = c.args.details.now in
     let ended : c.at-end.result ≡ end_time q = omega (arith, ints, c.at-end.ensures) in
     let test : int_eq (origin_time q) (end_time q) ≡ true =
-    subst (λ x. int_eq x (end_time q) ≡ true) c.origin.ensures (subst (λ x. int_eq c.origin.result x ≡ true) ended (sym c.eq.ensures ∙ c.if-eq.true)) in
-    let final : moment (to_z w64 (of_z w64 q.end_time.0)) 9999 ≡ last_within (end_time q) = omega (arith, ints) in
+    subst (λ x. int_eq x (end_time q) ≡ true) c.origin.ensures
+    (subst (λ x. int_eq c.origin.result x ≡ true) ended (sym c.eq.ensures ∙ c.if-eq.true)) in
+    let final : moment (to_z w64 (of_z w64 q.end_time.0)) 9999 ≡ last_within (end_time q) =
+    omega (arith, ints) in
     asked_so _ _ c.next_outside.result _ _ c.next_outside.ensures.asks (λ h lawful is.
     is
     ∙ (ap (λ t. outside_of R node t c.direction-onward.result) final
     ∙ (ap (λ d. outside_of R node (last_within (end_time q)) d) c.direction-onward.ensures
-    ∙ sym (ap (λ b. cond b (outside_of R node (last_within (end_time q)) (direction q)) (nearest_from R node (direction q) (end_time q))) test))))
+    ∙ sym (ap (λ b. cond b (outside_of R node (last_within (end_time q)) (direction q))
+    (nearest_from R node (direction q) (end_time q))) test))))
 
 pub returns-clause-asks : goal.returns-clause-asks
 returns-clause-asks g c =
@@ -32,9 +35,11 @@ returns-clause-asks g c =
     let q = c.args.details.now in
     let ended : c.at-end.result ≡ end_time q = omega (arith, ints, c.at-end.ensures) in
     let test : int_eq (origin_time q) (end_time q) ≡ false =
-    subst (λ x. int_eq x (end_time q) ≡ false) c.origin.ensures (subst (λ x. int_eq c.origin.result x ≡ false) ended (sym c.eq.ensures ∙ c.if-eq.false)) in
+    subst (λ x. int_eq x (end_time q) ≡ false) c.origin.ensures
+    (subst (λ x. int_eq c.origin.result x ≡ false) ended (sym c.eq.ensures ∙ c.if-eq.false)) in
     asked_so _ _ c.nearest_from.result _ _ c.nearest_from.ensures.asks (λ h lawful is.
     is
     ∙ (ap (λ d. nearest_from R node d c.at-end.result) c.direction-onward.ensures
     ∙ (ap (λ t. nearest_from R node (direction q) t) ended
-    ∙ sym (ap (λ b. cond b (outside_of R node (last_within (end_time q)) (direction q)) (nearest_from R node (direction q) (end_time q))) test))))
+    ∙ sym (ap (λ b. cond b (outside_of R node (last_within (end_time q)) (direction q))
+    (nearest_from R node (direction q) (end_time q))) test))))

@@ -10,4 +10,6 @@ pub returns-clause-asks : goal.returns-clause-asks
 returns-clause-asks g c =
     asked_as _ _ _ c.first_of.result _ _ c.in_ok-found.ensures.asks (λ lawful is.
     c.first_of.ensures
-    ∙ (ap (λ items. slice_get items 0) is ∙ value_at_is (cut (g.A.Archive.state c.args.archive.now).content (number_of c.args.within.now)) c.args.node.now Forward c.args.time))
+    ∙ (ap (λ items. slice_get items 0) is
+    ∙ value_at_is (cut (g.A.Archive.state c.args.archive.now).content (number_of c.args.within.now))
+    c.args.node.now Forward c.args.time))

@@ -23,12 +23,20 @@ returns-clause-finds g c =
     let q = query.details in
     let p = c.args.position.now in
     found_as _ _ c.in_ok-page.page _ _ _ c.in_ok-page.ensures.asks (λ lawful is.
-    let next = c.in_ok-continuation_point.ensures.point (subst (λ o. IfSome o (IsNext q)) (sym is.next) (modified_next_lawful R node q p (lawful_cut _ (number_of v) lawful) c.requires.modified)) in
+    let next = c.in_ok-continuation_point.ensures.point
+    (subst (λ o. IfSome o (IsNext q)) (sym is.next)
+    (modified_next_lawful R node q p (lawful_cut _ (number_of v) lawful) c.requires.modified))
+    in
     let values = c.of.ensures ∙ c.in_ok-values.ensures.0 in
-    result_is (shown_entry c.args.query.now.stamps) (page q p (modified R node q p)) c.in_ok-page.page.entries.items _ _ _ _ _ _
+    result_is (shown_entry c.args.query.now.stamps)
+    (page q p (modified R node q p)) c.in_ok-page.page.entries.items _ _ _ _ _ _
     is.items values
     (c.status_for.ensures ∙ ap status_for (c.deref.ensures.value ∙ sym c.of.ensures))
-    (next ∙ (ap (λ i. option_map (point_at i node q v) c.in_ok-page.page.next) c.id-id.ensures ∙ ap (option_map (point_at (g.A.Archive.state c.args.archive.now).id node q v)) is.next))
-    (ap (λ l. Modified l c.of-2.result) (values ∙ ap (map (shown_entry c.args.query.now.stamps)) is.items)
-    ∙ ap (λ l. Modified (map (shown_entry c.args.query.now.stamps) (page q p (modified R node q p))) l) (c.of-2.ensures ∙ (c.in_ok-values.ensures.1 ∙ ap (map info) is.items)))
-    ∙ sym (ap (λ b. cond b (modified_result R v id node query p) (raw_result R v id node query p)) c.requires.modified))
+    (next ∙ (ap (λ i. option_map (point_at i node q v) c.in_ok-page.page.next) c.id-id.ensures
+    ∙ ap (option_map (point_at (g.A.Archive.state c.args.archive.now).id node q v)) is.next))
+    (ap (λ l. Modified l c.of-2.result) (values
+    ∙ ap (map (shown_entry c.args.query.now.stamps)) is.items)
+    ∙ ap (λ l. Modified (map (shown_entry c.args.query.now.stamps) (page q p (modified R node q p)))
+    l) (c.of-2.ensures ∙ (c.in_ok-values.ensures.1 ∙ ap (map info) is.items)))
+    ∙ sym (ap (λ b. cond b (modified_result R v id node query p) (raw_result R v id node query p))
+    c.requires.modified))

@@ -8,13 +8,17 @@ use Rattle.hist_read.proofs.node.place_in.Goals as goal
 pub returns-then-not-agrees-clause-told : goal.returns-then-not-agrees-clause-told
 returns-then-not-agrees-clause-told c =
     let place = c.in-Some-read_continuation.place in
-    sym (ap (λ o. resume_place c.args.id c.args.node.now c.args.details.now (option_copied o)) c.in-Some.is
-    ∙ (ap (place_told c.args.id c.args.node.now c.args.details.now) (sym c.in-Some-read_continuation.ensures.told)
+    sym (ap (λ o. resume_place c.args.id c.args.node.now c.args.details.now (option_copied o))
+    c.in-Some.is
+    ∙ (ap (place_told c.args.id c.args.node.now c.args.details.now)
+    (sym c.in-Some-read_continuation.ensures.told)
     ∙ told_other c.args.id c.args.node.now c.args.details.now (point_of place) (λ h. search rules)))
 
 pub returns-clause-told : goal.returns-clause-told
 returns-clause-told c =
     let place = c.in-Some-read_continuation.place in
-    sym (ap (λ o. resume_place c.args.id c.args.node.now c.args.details.now (option_copied o)) c.in-Some.is
-    ∙ (ap (place_told c.args.id c.args.node.now c.args.details.now) (sym c.in-Some-read_continuation.ensures.told)
+    sym (ap (λ o. resume_place c.args.id c.args.node.now c.args.details.now (option_copied o))
+    c.in-Some.is
+    ∙ (ap (place_told c.args.id c.args.node.now c.args.details.now)
+    (sym c.in-Some-read_continuation.ensures.told)
     ∙ told_agreed c.args.id c.args.node.now c.args.details.now (point_of place) (search rules)))

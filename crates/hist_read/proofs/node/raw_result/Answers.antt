@@ -22,11 +22,17 @@ returns-clause-finds g c =
     let q = query.details in
     let p = c.args.position.now in
     found_then _ _ c.in_ok-page.page _ _ _ c.in_ok-page.ensures.finds (λ lawful is.
-    let next = c.in_ok-continuation_point.ensures.point (subst (λ o. IfSome o (IsNext q)) (sym is.next) (raw_next R node q p (lawful_cut _ (number_of v) lawful) c.requires.given c.requires.raw)) in
+    let next = c.in_ok-continuation_point.ensures.point
+    (subst (λ o. IfSome o (IsNext q)) (sym is.next)
+    (raw_next R node q p (lawful_cut _ (number_of v) lawful) c.requires.given c.requires.raw))
+    in
     let values = c.of.ensures ∙ c.in_ok-values.ensures in
-    result_is (shown c.args.query.now.stamps) (page q p (raw R node q p)) c.in_ok-page.page.items.items _ _ _ _ _ _
+    result_is (shown c.args.query.now.stamps)
+    (page q p (raw R node q p)) c.in_ok-page.page.items.items _ _ _ _ _ _
     is.items values
     (c.status_for.ensures ∙ ap status_for (c.deref.ensures.value ∙ sym c.of.ensures))
-    (next ∙ (ap (λ i. option_map (point_at i node q v) c.in_ok-page.page.next) c.id-id.ensures ∙ ap (option_map (point_at (g.A.Archive.state c.args.archive.now).id node q v)) is.next))
+    (next ∙ (ap (λ i. option_map (point_at i node q v) c.in_ok-page.page.next) c.id-id.ensures
+    ∙ ap (option_map (point_at (g.A.Archive.state c.args.archive.now).id node q v)) is.next))
     (ap (λ l. Raw l) (values ∙ ap (λ l. map (shown c.args.query.now.stamps) l) is.items))
-    ∙ sym (ap (λ b. cond b (modified_result R v id node query p) (raw_result R v id node query p)) c.requires.raw))
+    ∙ sym (ap (λ b. cond b (modified_result R v id node query p) (raw_result R v id node query p))
+    c.requires.raw))

@@ -8,6 +8,9 @@ use Rattle.hist_read.proofs.node.short_page.Goals as goal
 pub returns-else-is_short_history-clause-finds : goal.returns-else-is_short_history-clause-finds
 returns-else-is_short_history-clause-finds g c =
     let s = g.A.Archive.state c.args.archive.now in
-    found_then s (g.A.Archive.state c.page_from.new.archive) c.in_ok-read.read c.refused.result _ _ c.in_ok-read.ensures.finds (λ lawful is.
-    let all = subst (λ r. IsWritableHistory r.history_data) (sym is) (read_writable s.content s.id c.args.node.now c.args.query.now c.args.behind.now lawful) in
-    absurd (true≢false (sym (subst IsTrue c.if-is_short_history.false (c.is_short_history.ensures.fits all)))))
+    found_then s (g.A.Archive.state c.page_from.new.archive) c.in_ok-read.read c.refused.result _ _
+    c.in_ok-read.ensures.finds (λ lawful is.
+    let all = subst (λ r. IsWritableHistory r.history_data) (sym is)
+    (read_writable s.content s.id c.args.node.now c.args.query.now c.args.behind.now lawful) in
+    absurd (true≢false (sym
+    (subst IsTrue c.if-is_short_history.false (c.is_short_history.ensures.fits all)))))

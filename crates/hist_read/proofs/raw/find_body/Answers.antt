@@ -16,6 +16,9 @@ returns-clause-asks g c =
     let to = c.span_after-span.result.to in
     asked_so _ _ c.range.result _ _ c.range.ensures.asks (λ v lawful is.
     is
-    ∙ (ap (λ n. take n (range_of R c.args.node.now from to c.direction-onward.result)) c.body_limit-limit.ensures.value
-    ∙ (ap (λ d. take (body_limit q c.args.position.now) (range_of R c.args.node.now from to d)) c.direction-onward.ensures
-    ∙ body_found R c.args.node.now q c.args.position.now from to (lawful_cut _ (number_of c.args.within.now) lawful) c.span_after-span.ensures)))
+    ∙ (ap (λ n. take n (range_of R c.args.node.now from to c.direction-onward.result))
+    c.body_limit-limit.ensures.value
+    ∙ (ap (λ d. take (body_limit q c.args.position.now) (range_of R c.args.node.now from to d))
+    c.direction-onward.ensures
+    ∙ body_found R c.args.node.now q c.args.position.now from to
+    (lawful_cut _ (number_of c.args.within.now) lawful) c.span_after-span.ensures)))

@@ -5,4 +5,5 @@ use Rattle.hist_read.proofs.raw.push_values.Given as goal
 
 -- the items so far, and the values that are left
 abbrev pub invariant-loop-held : goal.invariant-loop-held
-invariant-loop-held l = l.items.items ++ value_items (into_iter_items l.held-iterator) ≡ l.initial.items.items ++ value_items l.fn.body.items
+invariant-loop-held l = l.items.items ++ value_items (into_iter_items l.held-iterator)
+    ≡ l.initial.items.items ++ value_items l.fn.body.items

@@ -12,7 +12,10 @@ returns-clause-finds g c =
     let node = c.args.node.now in
     let q = c.args.details.now in
     let p = c.args.position.now in
-    found_as _ _ c.in_ok-found.found c.page.result _ _ c.in_ok-found.ensures.asks (λ lawful is. record {
-      items = c.page.ensures.items ∙ (ap (page q p) c.in_ok-items.ensures ∙ row_page R node q p c.in_ok-found.found is);
-      next = c.page.ensures.next ∙ (ap (next_place (raw_position q p) q p) c.in_ok-items.ensures ∙ row_next R node q p c.in_ok-found.found is);
+    found_as _ _ c.in_ok-found.found c.page.result _ _ c.in_ok-found.ensures.asks
+    (λ lawful is. record {
+      items = c.page.ensures.items ∙ (ap (page q p) c.in_ok-items.ensures
+          ∙ row_page R node q p c.in_ok-found.found is);
+      next = c.page.ensures.next ∙ (ap (next_place (raw_position q p) q p) c.in_ok-items.ensures
+          ∙ row_next R node q p c.in_ok-found.found is);
     })

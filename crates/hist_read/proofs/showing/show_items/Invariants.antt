@@ -5,4 +5,5 @@ use Rattle.hist_read.proofs.showing.show_items.Given as goal
 
 -- the values so far, and the items that are left
 abbrev pub invariant-loop-item : goal.invariant-loop-item
-invariant-loop-item l = l.values.items ++ map (shown l.fn.stamps) (into_iter_items l.item-iterator) ≡ map (shown l.fn.stamps) l.fn.items.items
+invariant-loop-item l = l.values.items ++ map (shown l.fn.stamps) (into_iter_items l.item-iterator)
+    ≡ map (shown l.fn.stamps) l.fn.items.items

@@ -8,9 +8,15 @@ use Rattle.hist_update.proofs.Answering.{begins-starved, begins-run}
 use Rattle.hist_update.proofs.update.delete_all.Goals as goal
 
 pub returns-in_default-clause-begins : goal.returns-in_default-clause-begins
-returns-in_default-clause-begins g c = begins-starved (g.A.Archive.state c.args.archive.now) c.args.request.now all_good (deletes_at c.args.times.now) c.refused.result c.refused.ensures
+returns-in_default-clause-begins g c =
+    begins-starved (g.A.Archive.state c.args.archive.now) c.args.request.now all_good
+    (deletes_at c.args.times.now) c.refused.result c.refused.ensures
 
 pub returns-clause-begins : goal.returns-clause-begins
 returns-clause-begins g c =
-    begins-run (g.A.Archive.state c.args.archive.now) (g.A.Archive.state c.delete_each.new.archive) c.args.request.now all_good (deletes_at c.args.times.now) c.delete_each.new.codes.items (record { status = GOOD; operation_results = c.of.result }) c.delete_each.ensures
-    (ap (λ (l : List Status). let r : HistoryUpdateResult = record { status = GOOD; operation_results = l } in r) c.of.ensures)
+    begins-run (g.A.Archive.state c.args.archive.now)
+    (g.A.Archive.state c.delete_each.new.archive) c.args.request.now all_good
+    (deletes_at c.args.times.now) c.delete_each.new.codes.items
+    (record { status = GOOD; operation_results = c.of.result }) c.delete_each.ensures
+    (ap (λ (l : List Status). let r : HistoryUpdateResult =
+    record { status = GOOD; operation_results = l } in r) c.of.ensures)

@@ -6,7 +6,8 @@ use Rattle.hist_update.proofs.update.delete_each_live.Given as goal
 
 abbrev pub invariant-loop-held : goal.invariant-loop-held
 invariant-loop-held g l = record {
-  done : Operations (g.A.Archive.state l.fn.archive) (g.A.Archive.state l.archive) l.request (map (λ (h : Held). DeleteAt h.time) (take l.held-index l.lives)) l.codes.items;
+  done : Operations (g.A.Archive.state l.fn.archive) (g.A.Archive.state l.archive) l.request
+      (map (λ (h : Held). DeleteAt h.time) (take l.held-index l.lives)) l.codes.items;
   count : vec_len l.codes ≡ l.held-index;
   room : length l.lives ≤ vec_capacity l.codes;
 }

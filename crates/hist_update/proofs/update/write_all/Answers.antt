@@ -8,9 +8,16 @@ use Rattle.hist_update.proofs.Answering.{begins-starved, begins-run}
 use Rattle.hist_update.proofs.update.write_all.Goals as goal
 
 pub returns-in_default-clause-begins : goal.returns-in_default-clause-begins
-returns-in_default-clause-begins g c = begins-starved (g.A.Archive.state c.args.archive.now) c.args.request.now all_good (map (Write c.args.asked c.args.value_type) c.args.values.now) c.refused.result c.refused.ensures
+returns-in_default-clause-begins g c =
+    begins-starved (g.A.Archive.state c.args.archive.now) c.args.request.now all_good
+    (map (Write c.args.asked c.args.value_type) c.args.values.now) c.refused.result
+    c.refused.ensures
 
 pub returns-clause-begins : goal.returns-clause-begins
 returns-clause-begins g c =
-    begins-run (g.A.Archive.state c.args.archive.now) (g.A.Archive.state c.write_each.new.archive) c.args.request.now all_good (map (Write c.args.asked c.args.value_type) c.args.values.now) c.write_each.new.codes.items (record { status = GOOD; operation_results = c.of.result }) c.write_each.ensures
-    (ap (λ (l : List Status). let r : HistoryUpdateResult = record { status = GOOD; operation_results = l } in r) c.of.ensures)
+    begins-run (g.A.Archive.state c.args.archive.now)
+    (g.A.Archive.state c.write_each.new.archive) c.args.request.now all_good
+    (map (Write c.args.asked c.args.value_type) c.args.values.now) c.write_each.new.codes.items
+    (record { status = GOOD; operation_results = c.of.result }) c.write_each.ensures
+    (ap (λ (l : List Status). let r : HistoryUpdateResult =
+    record { status = GOOD; operation_results = l } in r) c.of.ensures)

@@ -11,12 +11,12 @@ use Rattle.historian.proofs.message.perform.Goals as goal
 pub returns-in-Err-clause-responds : goal.returns-in-Err-clause-responds
 returns-in-Err-clause-responds g c =
     let s = g.A.Archive.state c.args.server.now.replica.archive in
-    let site = site_of c.args.server.now.settings s in
+    let config = site_of c.args.server.now.settings s in
     let P : Result Opened Status → Type 0 =
-    λ request. Performs s s (answered_request site c.args.now
+    λ request. Performs s s (answered_request config c.args.now
     (asked_of request) c.args.sessions.now) c.args.sessions.now (Err c.in-Err.status) in
     let (used, told, acts, tells) =
-    subst P (sym c.in-Err.is) (performs-none s site c.args.now c.args.sessions.now
+    subst P (sym c.in-Err.is) (performs-none s config c.args.now c.args.sessions.now
     c.in-Err.status (Err c.in-Err.status) refl) in
     (used, told, acts, tells)
 
@@ -24,17 +24,17 @@ pub returns-in-Ok-clause-responds : goal.returns-in-Ok-clause-responds
 returns-in-Ok-clause-responds g c =
     let a = g.A.Archive.state c.args.server.now.replica.archive in
     let b = g.A.Archive.state c.serve.new.server.replica.archive in
-    let site = site_of c.args.server.now.settings a in
+    let config = site_of c.args.server.now.settings a in
     let P : Result Opened Status → Type 0 = λ request.
-    Responds a b (answered_request site c.args.now (asked_of request) c.args.sessions.now)
+    Responds a b (answered_request config c.args.now (asked_of request) c.args.sessions.now)
     c.serve.new.sessions c.args.now
     c.args.message.handle c.serve.result c.serve.new.body.items in
     let Q : _ → Type 0 = λ handle.
-    Responds a b (answered_request site c.args.now
+    Responds a b (answered_request config c.args.now
     (asked_of (Ok c.in-Ok.request)) c.args.sessions.now) c.serve.new.sessions
     c.args.now handle c.serve.result c.serve.new.body.items in
     let R : Opened → Type 0 = λ request.
-    Responds a b (answered_call site c.args.now (node_of request.token)
+    Responds a b (answered_call config c.args.now (node_of request.token)
     (call_in request.service request.body) c.args.sessions.now)
     c.serve.new.sessions c.args.now c.handle-handle.result c.serve.result c.serve.new.body.items in
     let (used, told, acts, tells) =

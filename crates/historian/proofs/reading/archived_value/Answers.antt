@@ -41,6 +41,7 @@ returns-clause-acts g c =
     subst P c.in-Ok.ensures (
       StoreFailed c.in-Err.fault,
       value-failed a b c.in-Ok.node (λ v. v.items
-          ≡ take 1 (range_of a.content c.in-Ok.node first_time greatest_time Backward)) c.in-Err.fault
+          ≡ take 1 (range_of a.content c.in-Ok.node first_time greatest_time Backward))
+          c.in-Err.fault
           (Err c.status.result) c.in-Err.ensures (ap Err c.status.ensures),
     )

@@ -159,7 +159,8 @@ returns-in_err-put_count-clause-comes g c =
       acts.1,
       starved c.args.now c.args.handle
           (Err BAD_OUT_OF_MEMORY) c.from_residual-in_err-put_count.result p.0
-          c.in_err-put_count.field-0.0 c.put_count.new.out.items p.1 p.2 c.in_err-put_count.ensures.0,
+          c.in_err-put_count.field-0.0 c.put_count.new.out.items p.1 p.2
+          c.in_err-put_count.ensures.0,
     )
 
 pub returns-in_err-put_items-clause-comes : goal.returns-in_err-put_items-clause-comes

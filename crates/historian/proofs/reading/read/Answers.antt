@@ -16,35 +16,35 @@ use Rattle.historian.proofs.reading.read.Goals as goal
 pub returns-in_err-asked-clause-responds : goal.returns-in_err-asked-clause-responds
 returns-in_err-asked-clause-responds g c =
     let s = g.A.Archive.state c.args.server.now.replica.archive in
-    let site = site_of c.args.server.now.settings s in
+    let config = site_of c.args.server.now.settings s in
     let token = node_of c.args.request.token in
     let sessions = c.args.sessions.now in
     let p = err_from_is_err_and c.from_residual.result c.from_residual.ensures.1 in
-    let does = answered_call site c.args.now token
+    let does = answered_call config c.args.now token
     (call_in service.Read c.args.request.body) sessions in
     responds-refused s s does sessions c.args.now c.args.handle p.0 c.from_residual.result
     c.args.body.now.items
     (performs-here s does sessions (Err p.0)
-    (performs-unread site c.args.now token sessions service.Read
+    (performs-unread config c.args.now token sessions service.Read
     (λ (asked : ReadRequest). Read (read_asked asked)) c.args.request.body
     c.in_err-asked.field-0.0 (Err p.0) c.in_err-asked.ensures (ap Err p.2))) p.1
 
 pub returns-in_err-user_of-clause-responds : goal.returns-in_err-user_of-clause-responds
 returns-in_err-user_of-clause-responds g c =
     let s = g.A.Archive.state c.args.server.now.replica.archive in
-    let site = site_of c.args.server.now.settings s in
+    let config = site_of c.args.server.now.settings s in
     let token = node_of c.args.request.token in
     let sessions = c.args.sessions.now in
     let asked = read_asked c.in_ok-asked.asked in
     let p = err_from_is_err_and c.from_residual-in_err-user_of.result
     c.from_residual-in_err-user_of.ensures.1 in
-    let does = answered_call site c.args.now token
+    let does = answered_call config c.args.now token
     (call_in service.Read c.args.request.body) sessions in
     responds-refused s s does sessions c.args.now c.args.handle p.0
     c.from_residual-in_err-user_of.result c.args.body.now.items
     (performs-here s does sessions (Err p.0)
-    (performs-outside site c.args.now token sessions service.Read (Read asked) c.args.request.body
-    (λ R user. read site.settings.space c.args.now asked R) c.in_err-user_of.field-0.0 p.0
+    (performs-outside config c.args.now token sessions service.Read (Read asked) c.args.request.body
+    (λ R user. read config.settings.space c.args.now asked R) c.in_err-user_of.field-0.0 p.0
     (Err p.0)
     c.in_ok-asked.ensures (λ R marks. refl) (sym c.in_err-user_of.ensures.value) p.2 refl)) p.1
 
@@ -52,17 +52,18 @@ pub returns-clause-responds : goal.returns-clause-responds
 returns-clause-responds g c =
     let a = g.A.Archive.state c.args.server.now.replica.archive in
     let b = g.A.Archive.state c.put_read.new.server.replica.archive in
-    let site = site_of c.args.server.now.settings a in
+    let config = site_of c.args.server.now.settings a in
     let asked = read_asked c.in_ok-asked.asked in
     let bytes = c.put_read.new.body.items in
     let Q : List ReadValueId → Type 0 =
-    λ nodes. ComesWritten a b (read site.settings.space c.args.now
+    λ nodes. ComesWritten a b (read config.settings.space c.args.now
     (c.in_ok-asked.asked.timestamps, map read_fields nodes)) c.args.now c.args.handle
     c.put_read.result bytes in
     let user = c.in_ok-user_of.field-0.now in
     performs-with (λ (told : Response).
-    Written c.args.now c.args.handle told c.put_read.result bytes) a b site c.args.now
+    Written c.args.now c.args.handle told c.put_read.result bytes) a b config c.args.now
     (node_of c.args.request.token) c.args.sessions.now service.Read
     (Read asked) c.args.request.body user
-    (λ R user. read site.settings.space c.args.now asked R) c.in_ok-asked.ensures (λ R marks. refl)
+    (λ R user. read config.settings.space c.args.now asked R) c.in_ok-asked.ensures
+    (λ R marks. refl)
     (sym c.in_ok-user_of.ensures.value) (subst Q c.deref.ensures.value c.put_read.ensures.comes)

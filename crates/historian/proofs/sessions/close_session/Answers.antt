@@ -17,35 +17,35 @@ use Rattle.historian.proofs.sessions.close_session.Goals as goal
 
 pub returns-in_err-closing_request-clause-performs :
     goal.returns-in_err-closing_request-clause-performs
-returns-in_err-closing_request-clause-performs c = λ site now.
+returns-in_err-closing_request-clause-performs c = λ config now.
     let p = err_from_is_err_and c.from_residual.result c.from_residual.ensures.1 in
-    performs-unread {T = Unit {0}} site now
+    performs-unread {T = Unit {0}} config now
     (node_of c.args.token) c.args.sessions.now service.CloseSession
     (λ _. CloseSession) c.args.request c.in_err-closing_request.field-0.0 c.from_residual.result
     c.in_err-closing_request.ensures (p.1 ∙ ap Err p.2)
 
 pub returns-in-Ok-clause-performs : goal.returns-in-Ok-clause-performs
-returns-in-Ok-clause-performs c = λ site now.
+returns-in-Ok-clause-performs c = λ config now.
     let s = c.args.sessions.now in
     let token = node_of c.args.token in
     let P : Result (Unit {0}) SessionFault → SessionsState → Type 0 =
     λ r n. called s (λ _. (Closed, record s { alive = without_session token s.alive })) r Done
     ≡ (Ok Closed, n) in
-    performs-given site now token s c.close.new.self service.CloseSession CloseSession
+    performs-given config now token s c.close.new.self service.CloseSession CloseSession
     c.args.request (close token s) (Ok Closed) (Ok made.Closed)
     c.in_ok-closing_request.ensures (λ R marks. refl)
     (subst (λ r. P r c.close.new.self) c.in-Ok.ensures.answer
     (subst (P (Ok tt)) (sym c.in-Ok.ensures.leaves) refl)) refl
 
 pub returns-in-Err-clause-performs : goal.returns-in-Err-clause-performs
-returns-in-Err-clause-performs c = λ site now.
+returns-in-Err-clause-performs c = λ config now.
     let s = c.args.sessions.now in
     let token = node_of c.args.token in
     let fault = c.in-Err.fault in
     let P : Result (Unit {0}) SessionFault → SessionsState → Type 0 =
     λ r n. called s (λ _. (Closed, record s { alive = without_session token s.alive })) r Done
     ≡ (Err (session_fault_status fault), n) in
-    performs-given site now token s c.close.new.self service.CloseSession CloseSession
+    performs-given config now token s c.close.new.self service.CloseSession CloseSession
     c.args.request (close token s) (Err (session_fault_status fault)) (Err c.code.result)
     c.in_ok-closing_request.ensures (λ R marks. refl)
     (subst (λ r. P r c.close.new.self) c.in-Err.ensures.answer

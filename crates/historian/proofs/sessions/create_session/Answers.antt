@@ -12,28 +12,28 @@ use Rattle.historian.proofs.Performing.{performs-unread, performs-starved, perfo
 use Rattle.historian.proofs.sessions.create_session.Goals as goal
 
 pub returns-in_err-asked-clause-performs : goal.returns-in_err-asked-clause-performs
-returns-in_err-asked-clause-performs c = λ site now token set.
+returns-in_err-asked-clause-performs c = λ config now token set.
     let p = err_from_is_err_and c.from_residual.result c.from_residual.ensures.1 in
-    performs-unread site now token c.args.sessions.now service.CreateSession
+    performs-unread config now token c.args.sessions.now service.CreateSession
     (λ (asked : CreateSessionRequest). CreateSession asked.timeout) c.args.request
     c.in_err-asked.field-0.0 c.from_residual.result c.in_err-asked.ensures (p.1 ∙ ap Err p.2)
 
 pub returns-in_err-endpoints-clause-performs : goal.returns-in_err-endpoints-clause-performs
-returns-in_err-endpoints-clause-performs c = λ site now token set.
+returns-in_err-endpoints-clause-performs c = λ config now token set.
     let p = err_from_is_err_and c.from_residual-in_err-endpoints.result
     c.from_residual-in_err-endpoints.ensures.1 in
-    performs-starved site now token c.args.sessions.now service.CreateSession c.args.request p.0
+    performs-starved config now token c.args.sessions.now service.CreateSession c.args.request p.0
     c.from_residual-in_err-endpoints.result p.2 p.1
 
 pub returns-in_err-session_id-clause-performs : goal.returns-in_err-session_id-clause-performs
-returns-in_err-session_id-clause-performs c = λ site now token set.
+returns-in_err-session_id-clause-performs c = λ config now token set.
     let s = c.args.sessions.now in
     let p = err_from_is_err_and c.from_residual-in_err-session_id.result
     c.from_residual-in_err-session_id.ensures.1 in
     let timeout = c.in_ok-asked.asked.timeout in
-    performs-refused site now token s c.create.new.self service.CreateSession
+    performs-refused config now token s c.create.new.self service.CreateSession
     (CreateSession timeout) c.args.request (λ ids. (
-      Created (ids.0, (ids.1, (timeout, (endpoint_of site.settings ∷ [], 4194304)))),
+      Created (ids.0, (ids.1, (timeout, (endpoint_of config.settings ∷ [], 4194304)))),
       with_new s,
     )) (create_answer s)
     c.in_err-session_id.field-0.0 p.0 c.from_residual-in_err-session_id.result
@@ -41,20 +41,20 @@ returns-in_err-session_id-clause-performs c = λ site now token set.
     c.in_err-session_id.ensures.leaves p.2 p.1
 
 pub returns-clause-performs : goal.returns-clause-performs
-returns-clause-performs c = λ site now token set.
+returns-clause-performs c = λ config now token set.
     let s = c.args.sessions.now in
     let timeout = c.in_ok-asked.asked.timeout in
     let id = c.in_ok-session_id.session_id in
     let given = c.in_ok-session_id.authentication_token in
     let tell = λ (l : List EndpointFields). let r : Answer =
     Created (id, (given, (timeout, (l, 4194304)))) in r in
-    let same : endpoint_of site.settings ∷ []
+    let same : endpoint_of config.settings ∷ []
     ≡ map endpoint_fields c.in_ok-endpoints.endpoints.items =
     ap (λ v. let l : List EndpointFields = endpoint_of v ∷ [] in l) set
     ∙ sym c.in_ok-endpoints.ensures.fields in
-    performs-done site now token s c.create.new.self service.CreateSession
+    performs-done config now token s c.create.new.self service.CreateSession
     (CreateSession timeout) c.args.request (λ ids. (
-      Created (ids.0, (ids.1, (timeout, (endpoint_of site.settings ∷ [], 4194304)))),
+      Created (ids.0, (ids.1, (timeout, (endpoint_of config.settings ∷ [], 4194304)))),
       with_new s,
     )) (create_answer s)
     (id, given) (made.Created (record {

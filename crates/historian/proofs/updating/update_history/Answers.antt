@@ -15,14 +15,14 @@ use Rattle.historian.proofs.updating.update_history.Goals as goal
 pub returns-in_err-asked-clause-performs : goal.returns-in_err-asked-clause-performs
 returns-in_err-asked-clause-performs g c =
     let s = g.A.Archive.state c.args.server.now.replica.archive in
-    let site = site_of c.args.server.now.settings s in
+    let config = site_of c.args.server.now.settings s in
     let token = node_of c.args.request.token in
     let sessions = c.args.sessions.now in
     let p = err_from_is_err_and c.from_residual.result c.from_residual.ensures.1 in
-    performs-here s (answered_call site c.args.now token
+    performs-here s (answered_call config c.args.now token
     (call_in service.HistoryUpdate c.args.request.body) sessions) sessions
     c.from_residual.result
-    (performs-unread site c.args.now token sessions service.HistoryUpdate
+    (performs-unread config c.args.now token sessions service.HistoryUpdate
     (λ (asked : HistoryUpdateRequest). HistoryUpdate (map details_of asked.details.items))
     c.args.request.body c.in_err-asked.field-0.0 c.from_residual.result
     c.in_err-asked.ensures.asks (p.1 ∙ ap Err p.2))
@@ -30,18 +30,18 @@ returns-in_err-asked-clause-performs g c =
 pub returns-in_err-user-clause-performs : goal.returns-in_err-user-clause-performs
 returns-in_err-user-clause-performs g c =
     let s = g.A.Archive.state c.args.server.now.replica.archive in
-    let site = site_of c.args.server.now.settings s in
+    let config = site_of c.args.server.now.settings s in
     let token = node_of c.args.request.token in
     let sessions = c.args.sessions.now in
     let asked = map details_of c.in_ok-asked.asked.details.items in
     let p = err_from_is_err_and c.from_residual-in_err-user.result
     c.from_residual-in_err-user.ensures.1 in
-    performs-here s (answered_call site c.args.now token
+    performs-here s (answered_call config c.args.now token
     (call_in service.HistoryUpdate c.args.request.body) sessions) sessions
     c.from_residual-in_err-user.result
-    (performs-outside site c.args.now token sessions service.HistoryUpdate
+    (performs-outside config c.args.now token sessions service.HistoryUpdate
     (HistoryUpdate asked) c.args.request.body (λ R user.
-    update_history site.own site.settings.space user c.args.now asked R) c.in_err-user.field-0.0
+    update_history config.own config.settings.space user c.args.now asked R) c.in_err-user.field-0.0
     p.0 c.from_residual-in_err-user.result
     c.in_ok-asked.ensures.asks (λ R marks. refl) (sym c.in_err-user.ensures.value) p.2 p.1)
 
@@ -49,16 +49,16 @@ pub returns-clause-performs : goal.returns-clause-performs
 returns-clause-performs g c =
     let a = g.A.Archive.state c.args.server.now.replica.archive in
     let b = g.A.Archive.state c.update_all.new.server.replica.archive in
-    let site = site_of c.args.server.now.settings a in
+    let config = site_of c.args.server.now.settings a in
     let asked = map details_of c.in_ok-asked.asked.details.items in
     let user = c.in_ok-user.user.now in
     let Q : List HistoryUpdateDetails → Type 0 =
-    λ details. Comes a b (update_history a.own site.settings.space user c.args.now
+    λ details. Comes a b (update_history a.own config.settings.space user c.args.now
     (map details_of details)) c.update_all.result in
-    performs-comes a b site c.args.now
+    performs-comes a b config c.args.now
     (node_of c.args.request.token) c.args.sessions.now service.HistoryUpdate
     (HistoryUpdate asked) c.args.request.body user
-    (λ R user. update_history site.own site.settings.space user c.args.now asked R)
+    (λ R user. update_history config.own config.settings.space user c.args.now asked R)
     c.update_all.result
     c.in_ok-asked.ensures.asks (λ R marks. refl) (sym c.in_ok-user.ensures.value)
     (subst Q c.deref.ensures.value c.update_all.ensures.comes)

@@ -7,4 +7,5 @@ pub returns-clause-reads : goal.returns-clause-reads
 returns-clause-reads c = search rules
 
 pub returns-clause-lawful : goal.returns-clause-lawful
-returns-clause-lawful c = record_read _ _ (returns-clause-reads c) c.in_ok-judge_spelling.ensures.spelled
+returns-clause-lawful c = record_read _ _
+    (returns-clause-reads c) c.in_ok-judge_spelling.ensures.spelled

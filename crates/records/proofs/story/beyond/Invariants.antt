@@ -4,4 +4,5 @@ use Rattle.records.specs.Records.{is_beyond}
 use Rattle.records.proofs.story.beyond.Given as goal
 
 abbrev pub invariant-loop-r : goal.invariant-loop-r
-invariant-loop-r l = l.found.items ≡ filter (is_beyond (number_of l.vector)) (take l.r-index l.records)
+invariant-loop-r l = l.found.items
+    ≡ filter (is_beyond (number_of l.vector)) (take l.r-index l.records)

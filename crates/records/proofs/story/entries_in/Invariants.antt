@@ -5,4 +5,5 @@ use Rattle.records.proofs.RecordLemmas.{last_or}
 use Rattle.records.proofs.story.entries_in.Given as goal
 
 abbrev pub invariant-loop-r : goal.invariant-loop-r
-invariant-loop-r l = (l.shown.items ≡ entries_after None (take l.r-index l.story)) × (option_copied l.before ≡ last_or None (take l.r-index l.story))
+invariant-loop-r l = (l.shown.items ≡ entries_after None (take l.r-index l.story))
+    × (option_copied l.before ≡ last_or None (take l.r-index l.story))

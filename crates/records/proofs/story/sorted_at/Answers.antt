@@ -7,5 +7,8 @@ use Rattle.records.proofs.story.sorted_at.Goals as goal
 
 pub returns : goal.returns
 returns c =
-    let sorted = c.in_ok-sort_by_key.ensures.sorted (λ r. (r.tick, r.origin)) (answers_always _ _ _ (λ a r q k. search rules)) in
-    sorted_is record_stamp_cmp stamp_total _ _ (pairwise-filter _ (is_at c.args.node.now c.args.time) _ c.requires) (rw c.in_ok-found.ensures at c.sort_by_key.ensures.permutation) sorted
+    let sorted = c.in_ok-sort_by_key.ensures.sorted (λ r. (r.tick, r.origin))
+    (answers_always _ _ _ (λ a r q k. search rules)) in
+    sorted_is record_stamp_cmp stamp_total _ _ (pairwise-filter _
+    (is_at c.args.node.now c.args.time) _ c.requires)
+    (rw c.in_ok-found.ensures at c.sort_by_key.ensures.permutation) sorted

@@ -13,9 +13,16 @@ returns-in-Ok-clause-renewed g c =
     let old = state g.S.Store c.args.conn in
     let mid = state g.S.Store c.turn.new.conn in
     let fits : SFits w64 (pos c.args.number) = omega (arith, c.number_of-replica.ensures.small) in
-    let early : HasCleanDisk mid → HasCleanDisk old = λ clean. omega (arith, c.turn.ensures.crash.clean, clean) in
-    begun_turned g.S.Store old mid c.args.id c.args.number c.args.rows.now (λ clean. (c.requires.first (early clean), c.requires.meta (early clean), c.requires.read (early clean))) c.over.result
-    (λ clean. (rw (c.number_of-replica.ensures.same, to_z-of_z w64 (pos c.args.number) fits) at (c.in-Ok.ensures.made clean)).1) c.over.ensures.same c.over.ensures.opened
+    let early : HasCleanDisk mid → HasCleanDisk old =
+    λ clean. omega (arith, c.turn.ensures.crash.clean, clean) in
+    begun_turned g.S.Store old mid c.args.id c.args.number c.args.rows.now
+    (λ clean. (
+      c.requires.first (early clean),
+      c.requires.meta (early clean),
+      c.requires.read (early clean),
+    )) c.over.result
+    (λ clean. (rw (c.number_of-replica.ensures.same, to_z-of_z w64 (pos c.args.number) fits) at
+    (c.in-Ok.ensures.made clean)).1) c.over.ensures.same c.over.ensures.opened
 
 pub returns-in-Ok-clause-wrong : goal.returns-in-Ok-clause-wrong
 returns-in-Ok-clause-wrong g c =
@@ -23,31 +30,54 @@ returns-in-Ok-clause-wrong g c =
     let mid = state g.S.Store c.turn.new.conn in
     let fits : SFits w64 (pos c.args.number) = omega (arith, c.number_of-replica.ensures.small) in
     never_another g.S.Store old mid c.over.result c.args.id c.args.number
-    (λ clean. renewed_is_own c.args.id c.args.number (cells1 old.now.trees) mid.now.trees (rw (c.number_of-replica.ensures.same, to_z-of_z w64 (pos c.args.number) fits) at (c.in-Ok.ensures.made clean)).1.renewed) c.over.ensures.wrong c.over.ensures.left
+    (λ clean. renewed_is_own c.args.id c.args.number (cells1 old.now.trees) mid.now.trees
+    (rw (c.number_of-replica.ensures.same, to_z-of_z w64 (pos c.args.number) fits) at
+    (c.in-Ok.ensures.made clean)).1.renewed) c.over.ensures.wrong c.over.ensures.left
 
 pub returns-in-Ok-clause-opened : goal.returns-in-Ok-clause-opened
 returns-in-Ok-clause-opened g c =
     let old = state g.S.Store c.args.conn in
     let mid = state g.S.Store c.turn.new.conn in
     let fits : SFits w64 (pos c.args.number) = omega (arith, c.number_of-replica.ensures.small) in
-    let early : HasCleanDisk mid → HasCleanDisk old = λ clean. omega (arith, c.turn.ensures.crash.clean, clean) in
-    opened_turned g.S.Store old mid c.args.id c.args.number c.args.rows.now (λ clean. (c.requires.first (early clean), c.requires.meta (early clean), c.requires.read (early clean))) c.over.result
-    (rw (c.number_of-replica.ensures.same, to_z-of_z w64 (pos c.args.number) fits) at c.turn.ensures.crash) c.over.ensures.opened
+    let early : HasCleanDisk mid → HasCleanDisk old =
+    λ clean. omega (arith, c.turn.ensures.crash.clean, clean) in
+    opened_turned g.S.Store old mid c.args.id c.args.number c.args.rows.now
+    (λ clean. (
+      c.requires.first (early clean),
+      c.requires.meta (early clean),
+      c.requires.read (early clean),
+    )) c.over.result
+    (rw (c.number_of-replica.ensures.same, to_z-of_z w64 (pos c.args.number) fits) at
+    c.turn.ensures.crash) c.over.ensures.opened
 
 pub returns-in-Ok-clause-left : goal.returns-in-Ok-clause-left
 returns-in-Ok-clause-left g c =
     let old = state g.S.Store c.args.conn in
     let mid = state g.S.Store c.turn.new.conn in
     let fits : SFits w64 (pos c.args.number) = omega (arith, c.number_of-replica.ensures.small) in
-    let early : HasCleanDisk mid → HasCleanDisk old = λ clean. omega (arith, c.turn.ensures.crash.clean, clean) in
-    left_turned g.S.Store old mid c.args.id c.args.number c.args.rows.now (λ clean. (c.requires.first (early clean), c.requires.meta (early clean), c.requires.read (early clean))) c.over.result
-    (rw (c.number_of-replica.ensures.same, to_z-of_z w64 (pos c.args.number) fits) at c.turn.ensures.crash) c.over.ensures.left
+    let early : HasCleanDisk mid → HasCleanDisk old =
+    λ clean. omega (arith, c.turn.ensures.crash.clean, clean) in
+    left_turned g.S.Store old mid c.args.id c.args.number c.args.rows.now
+    (λ clean. (
+      c.requires.first (early clean),
+      c.requires.meta (early clean),
+      c.requires.read (early clean),
+    )) c.over.result
+    (rw (c.number_of-replica.ensures.same, to_z-of_z w64 (pos c.args.number) fits) at
+    c.turn.ensures.crash) c.over.ensures.left
 
 pub returns-in-Err-clause-left : goal.returns-in-Err-clause-left
 returns-in-Err-clause-left g c =
     let old = state g.S.Store c.args.conn in
     let mid = state g.S.Store c.turn.new.conn in
     let fits : SFits w64 (pos c.args.number) = omega (arith, c.number_of-replica.ensures.small) in
-    let early : HasCleanDisk mid → HasCleanDisk old = λ clean. omega (arith, c.turn.ensures.crash.clean, clean) in
-    crash_turned g.S.Store old mid c.args.id c.args.number c.args.rows.now (λ clean. (c.requires.first (early clean), c.requires.meta (early clean), c.requires.read (early clean))) (state g.S.Store c.fault_of-fault.new.conn)
-    (rw (c.number_of-replica.ensures.same, to_z-of_z w64 (pos c.args.number) fits) at c.turn.ensures.crash) c.fault_of-fault.ensures.crash
+    let early : HasCleanDisk mid → HasCleanDisk old =
+    λ clean. omega (arith, c.turn.ensures.crash.clean, clean) in
+    crash_turned g.S.Store old mid c.args.id c.args.number c.args.rows.now
+    (λ clean. (
+      c.requires.first (early clean),
+      c.requires.meta (early clean),
+      c.requires.read (early clean),
+    )) (state g.S.Store c.fault_of-fault.new.conn)
+    (rw (c.number_of-replica.ensures.same, to_z-of_z w64 (pos c.args.number) fits) at
+    c.turn.ensures.crash) c.fault_of-fault.ensures.crash

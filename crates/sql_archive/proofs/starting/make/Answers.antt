@@ -9,18 +9,32 @@ use Rattle.sql_archive.proofs.starting.make.Goals as goal
 pub returns-in-Ok-clause-wrong : goal.returns-in-Ok-clause-wrong
 returns-in-Ok-clause-wrong g c =
     let fits : SFits w64 (pos c.args.number) = omega (arith, c.number_of-own.ensures.small) in
-    let new : HasCleanDisk (state g.S.Store c.first_open.new.conn) → IsNewArchive c.args.id (pos c.args.number) (state g.S.Store c.first_open.new.conn).now.trees =
-    λ clean. (rw (c.number_of-own.ensures.same, to_z-of_z w64 (pos c.args.number) fits, c.as_bytes.ensures) at (c.in-Ok.ensures.made clean)).1 in
-    never_wrong g.S.Store (state g.S.Store c.args.conn) (state g.S.Store c.first_open.new.conn) c.over.result c.args.id c.args.number new c.over.ensures.wrong c.over.ensures.left
+    let new : HasCleanDisk (state g.S.Store c.first_open.new.conn)
+    → IsNewArchive c.args.id (pos c.args.number)
+    (state g.S.Store c.first_open.new.conn).now.trees =
+    λ clean. (rw (
+      c.number_of-own.ensures.same,
+      to_z-of_z w64 (pos c.args.number) fits,
+      c.as_bytes.ensures,
+    ) at (c.in-Ok.ensures.made clean)).1 in
+    never_wrong g.S.Store (state g.S.Store c.args.conn)
+    (state g.S.Store c.first_open.new.conn) c.over.result c.args.id c.args.number new
+    c.over.ensures.wrong c.over.ensures.left
 
 pub returns-in-Ok-clause-opened : goal.returns-in-Ok-clause-opened
 returns-in-Ok-clause-opened g c =
     let fits : SFits w64 (pos c.args.number) = omega (arith, c.number_of-own.ensures.small) in
-    opened_then g.S.Store (state g.S.Store c.args.conn) (state g.S.Store c.first_open.new.conn) c.over.result (IsNewArchive c.args.id (pos c.args.number))
-    (rw (c.number_of-own.ensures.same, to_z-of_z w64 (pos c.args.number) fits, c.as_bytes.ensures) at c.first_open.ensures.crash) c.over.ensures.opened
+    opened_then g.S.Store (state g.S.Store c.args.conn)
+    (state g.S.Store c.first_open.new.conn) c.over.result
+    (IsNewArchive c.args.id (pos c.args.number))
+    (rw (c.number_of-own.ensures.same, to_z-of_z w64 (pos c.args.number) fits, c.as_bytes.ensures)
+    at c.first_open.ensures.crash) c.over.ensures.opened
 
 pub returns-in-Ok-clause-left : goal.returns-in-Ok-clause-left
 returns-in-Ok-clause-left g c =
     let fits : SFits w64 (pos c.args.number) = omega (arith, c.number_of-own.ensures.small) in
-    left_then g.S.Store (state g.S.Store c.args.conn) (state g.S.Store c.first_open.new.conn) c.over.result (IsNewArchive c.args.id (pos c.args.number))
-    (rw (c.number_of-own.ensures.same, to_z-of_z w64 (pos c.args.number) fits, c.as_bytes.ensures) at c.first_open.ensures.crash) c.over.ensures.left
+    left_then g.S.Store (state g.S.Store c.args.conn)
+    (state g.S.Store c.first_open.new.conn) c.over.result
+    (IsNewArchive c.args.id (pos c.args.number))
+    (rw (c.number_of-own.ensures.same, to_z-of_z w64 (pos c.args.number) fits, c.as_bytes.ensures)
+    at c.first_open.ensures.crash) c.over.ensures.left

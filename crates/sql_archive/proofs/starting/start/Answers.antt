@@ -8,66 +8,110 @@ use Rattle.sql_archive.proofs.starting.start.Goals as goal
 
 pub returns-in-Ok-Empty-clause-started : goal.returns-in-Ok-Empty-clause-started
 returns-in-Ok-Empty-clause-started g c =
-    started_new g.S.Store (state g.S.Store c.args.conn) c.args.id c.args.number c.make.result (sym c.schema.ensures.value ∙ c.in-Ok-Empty.ensures.empty.0 c.in-Ok-Empty.field-0-is) c.make.ensures.made
+    started_new g.S.Store (state g.S.Store c.args.conn) c.args.id c.args.number c.make.result
+    (sym c.schema.ensures.value ∙ c.in-Ok-Empty.ensures.empty.0 c.in-Ok-Empty.field-0-is)
+    c.make.ensures.made
 
 pub returns-in-Ok-Archive-clause-started : goal.returns-in-Ok-Archive-clause-started
 returns-in-Ok-Archive-clause-started g c =
-    started_old g.S.Store (state g.S.Store c.args.conn) c.args.id c.args.number c.over.result (sym c.schema.ensures.value ∙ c.in-Ok-Archive.ensures.archive.0 c.in-Ok-Archive.field-0-is) c.over.ensures.stored c.over.ensures.kept c.over.ensures.same
+    started_old g.S.Store (state g.S.Store c.args.conn) c.args.id c.args.number c.over.result
+    (sym c.schema.ensures.value ∙ c.in-Ok-Archive.ensures.archive.0 c.in-Ok-Archive.field-0-is)
+    c.over.ensures.stored c.over.ensures.kept c.over.ensures.same
 
 pub returns-in-Ok-Archive-clause-wrong : goal.returns-in-Ok-Archive-clause-wrong
 returns-in-Ok-Archive-clause-wrong g c =
-    refused_by g.S.Store (state g.S.Store c.args.conn) c.args.id c.args.number c.over.result (archive_has_meta _ (sym c.schema.ensures.value ∙ c.in-Ok-Archive.ensures.archive.0 c.in-Ok-Archive.field-0-is)) c.over.ensures.wrong
+    refused_by g.S.Store (state g.S.Store c.args.conn) c.args.id c.args.number c.over.result
+    (archive_has_meta _ (sym c.schema.ensures.value
+    ∙ c.in-Ok-Archive.ensures.archive.0 c.in-Ok-Archive.field-0-is)) c.over.ensures.wrong
 
 pub returns-in-Ok-Archive-clause-opened : goal.returns-in-Ok-Archive-clause-opened
-returns-in-Ok-Archive-clause-opened g c = opened_quiet g.S.Store (state g.S.Store c.args.conn) (IsBegunIn c.args.id c.args.number (state g.S.Store c.args.conn).now) c.over.result c.over.ensures.opened
+returns-in-Ok-Archive-clause-opened g c =
+    opened_quiet g.S.Store (state g.S.Store c.args.conn)
+    (IsBegunIn c.args.id c.args.number (state g.S.Store c.args.conn).now) c.over.result
+    c.over.ensures.opened
 
 pub returns-in-Ok-Archive-clause-left : goal.returns-in-Ok-Archive-clause-left
-returns-in-Ok-Archive-clause-left g c = left_quiet g.S.Store (state g.S.Store c.args.conn) (IsBegunIn c.args.id c.args.number (state g.S.Store c.args.conn).now) c.over.result c.over.ensures.left
+returns-in-Ok-Archive-clause-left g c =
+    left_quiet g.S.Store (state g.S.Store c.args.conn)
+    (IsBegunIn c.args.id c.args.number (state g.S.Store c.args.conn).now) c.over.result
+    c.over.ensures.left
 
 pub returns-in-Ok-Empty-clause-opened : goal.returns-in-Ok-Empty-clause-opened
 returns-in-Ok-Empty-clause-opened g c =
-    opened_new g.S.Store (state g.S.Store c.args.conn) c.args.id c.args.number c.make.result (sym c.schema.ensures.value ∙ c.in-Ok-Empty.ensures.empty.0 c.in-Ok-Empty.field-0-is) c.make.ensures.opened
+    opened_new g.S.Store (state g.S.Store c.args.conn) c.args.id c.args.number c.make.result
+    (sym c.schema.ensures.value ∙ c.in-Ok-Empty.ensures.empty.0 c.in-Ok-Empty.field-0-is)
+    c.make.ensures.opened
 
 pub returns-in-Ok-Empty-clause-left : goal.returns-in-Ok-Empty-clause-left
 returns-in-Ok-Empty-clause-left g c =
-    left_new g.S.Store (state g.S.Store c.args.conn) c.args.id c.args.number c.make.result (sym c.schema.ensures.value ∙ c.in-Ok-Empty.ensures.empty.0 c.in-Ok-Empty.field-0-is) c.make.ensures.left
+    left_new g.S.Store (state g.S.Store c.args.conn) c.args.id c.args.number c.make.result
+    (sym c.schema.ensures.value ∙ c.in-Ok-Empty.ensures.empty.0 c.in-Ok-Empty.field-0-is)
+    c.make.ensures.left
 
 pub take_over_first-requires-clause-rests : goal.take_over_first-requires-clause-rests
-take_over_first-requires-clause-rests g c clean = let o = c.requires.open clean in record { is_open = o.is_open; autocommit = o.autocommit; settled = sym o.clean }
+take_over_first-requires-clause-rests g c clean = let o = c.requires.open clean in
+    record { is_open = o.is_open; autocommit = o.autocommit; settled = sym o.clean }
 
 pub returns-in-Ok-First-clause-started : goal.returns-in-Ok-First-clause-started
-returns-in-Ok-First-clause-started g c = started_renewed g.S.Store (state g.S.Store c.args.conn) c.args.id c.args.number c.take_over_first.result c.take_over_first.ensures.renewed
+returns-in-Ok-First-clause-started g c =
+    started_renewed g.S.Store (state g.S.Store c.args.conn) c.args.id c.args.number
+    c.take_over_first.result c.take_over_first.ensures.renewed
 
 pub returns-in-Ok-First-clause-wrong : goal.returns-in-Ok-First-clause-wrong
 returns-in-Ok-First-clause-wrong g c =
-    refused_by g.S.Store (state g.S.Store c.args.conn) c.args.id c.args.number c.take_over_first.result (first_has_meta _ (sym c.schema.ensures.value ∙ c.in-Ok-First.ensures.first.0 c.in-Ok-First.field-0-is)) c.take_over_first.ensures.wrong
+    refused_by g.S.Store (state g.S.Store c.args.conn) c.args.id c.args.number
+    c.take_over_first.result (first_has_meta _
+    (sym c.schema.ensures.value ∙ c.in-Ok-First.ensures.first.0 c.in-Ok-First.field-0-is))
+    c.take_over_first.ensures.wrong
 
 pub returns-in-Ok-First-clause-opened : goal.returns-in-Ok-First-clause-opened
-returns-in-Ok-First-clause-opened g c = opened_renewed g.S.Store (state g.S.Store c.args.conn) c.args.id c.args.number c.take_over_first.result c.take_over_first.ensures.opened
+returns-in-Ok-First-clause-opened g c =
+    opened_renewed g.S.Store (state g.S.Store c.args.conn) c.args.id c.args.number
+    c.take_over_first.result c.take_over_first.ensures.opened
 
 pub returns-in-Ok-First-clause-left : goal.returns-in-Ok-First-clause-left
-returns-in-Ok-First-clause-left g c = left_renewed g.S.Store (state g.S.Store c.args.conn) c.args.id c.args.number c.take_over_first.result c.take_over_first.ensures.left
+returns-in-Ok-First-clause-left g c =
+    left_renewed g.S.Store (state g.S.Store c.args.conn) c.args.id c.args.number
+    c.take_over_first.result c.take_over_first.ensures.left
 
 pub returns-in-Ok-Begun-clause-wrong : goal.returns-in-Ok-Begun-clause-wrong
 returns-in-Ok-Begun-clause-wrong g c clean of =
-    record { schema = subst HasMeta c.schema.ensures.value (c.in-Ok-Begun.ensures.begun c.in-Ok-Begun.field-0-is); judged = c.refusal_by_meta-fault.ensures.wrong clean of }
+    record {
+      schema = subst HasMeta c.schema.ensures.value
+          (c.in-Ok-Begun.ensures.begun c.in-Ok-Begun.field-0-is);
+      judged =
+          c.refusal_by_meta-fault.ensures.wrong clean of;
+    }
 
 pub returns-in-Ok-Begun-clause-left : goal.returns-in-Ok-Begun-clause-left
-returns-in-Ok-Begun-clause-left g c = widened (state g.S.Store c.args.conn) (state g.S.Store c.refusal_by_meta-fault.new.conn) (IsBegunIn c.args.id c.args.number (state g.S.Store c.args.conn).now) c.refusal_by_meta-fault.ensures.crash
+returns-in-Ok-Begun-clause-left g c =
+    widened (state g.S.Store c.args.conn) (state g.S.Store c.refusal_by_meta-fault.new.conn)
+    (IsBegunIn c.args.id c.args.number (state g.S.Store c.args.conn).now)
+    c.refusal_by_meta-fault.ensures.crash
 
 pub take_out_empty-requires-clause-rests : goal.take_out_empty-requires-clause-rests
-take_out_empty-requires-clause-rests g c clean = let o = c.requires.open clean in record { is_open = o.is_open; autocommit = o.autocommit; settled = sym o.clean }
+take_out_empty-requires-clause-rests g c clean = let o = c.requires.open clean in
+    record { is_open = o.is_open; autocommit = o.autocommit; settled = sym o.clean }
 
 pub returns-in-Ok-Beside-clause-started : goal.returns-in-Ok-Beside-clause-started
 returns-in-Ok-Beside-clause-started g c =
-    started_cleared g.S.Store (state g.S.Store c.args.conn) c.args.id c.args.number c.take_out_empty.result c.take_out_empty.ensures.cleared c.take_out_empty.ensures.stored c.take_out_empty.ensures.kept
+    started_cleared g.S.Store (state g.S.Store c.args.conn) c.args.id c.args.number
+    c.take_out_empty.result c.take_out_empty.ensures.cleared c.take_out_empty.ensures.stored
+    c.take_out_empty.ensures.kept
 
 pub returns-in-Ok-Beside-clause-wrong : goal.returns-in-Ok-Beside-clause-wrong
 returns-in-Ok-Beside-clause-wrong g c =
-    refused_by g.S.Store (state g.S.Store c.args.conn) c.args.id c.args.number c.take_out_empty.result (beside_has_meta _ (sym c.schema.ensures.value ∙ c.in-Ok-Beside.ensures.beside.0 c.in-Ok-Beside.field-0-is)) c.take_out_empty.ensures.wrong
+    refused_by g.S.Store (state g.S.Store c.args.conn) c.args.id c.args.number
+    c.take_out_empty.result (beside_has_meta _
+    (sym c.schema.ensures.value ∙ c.in-Ok-Beside.ensures.beside.0 c.in-Ok-Beside.field-0-is))
+    c.take_out_empty.ensures.wrong
 
 pub returns-in-Ok-Beside-clause-opened : goal.returns-in-Ok-Beside-clause-opened
-returns-in-Ok-Beside-clause-opened g c = opened_cleared g.S.Store (state g.S.Store c.args.conn) c.args.id c.args.number c.take_out_empty.result c.take_out_empty.ensures.opened
+returns-in-Ok-Beside-clause-opened g c =
+    opened_cleared g.S.Store (state g.S.Store c.args.conn) c.args.id c.args.number
+    c.take_out_empty.result c.take_out_empty.ensures.opened
 
 pub returns-in-Ok-Beside-clause-left : goal.returns-in-Ok-Beside-clause-left
-returns-in-Ok-Beside-clause-left g c = left_cleared g.S.Store (state g.S.Store c.args.conn) c.args.id c.args.number c.take_out_empty.result c.take_out_empty.ensures.left
+returns-in-Ok-Beside-clause-left g c =
+    left_cleared g.S.Store (state g.S.Store c.args.conn) c.args.id c.args.number
+    c.take_out_empty.result c.take_out_empty.ensures.left

@@ -13,5 +13,10 @@ loop-row-preserved c =
     let more = top_more c.args.rows.now c.loop-row.row-index c.row-item.result lt in
     let fits : FitsSigned w64 c.in-Ok.found = search rules in
     let last : FitsSigned w64 c.max-newest.result = search rules in
-    let here : int_in (column (get_or c.args.rows.now c.loop-row.row-index c.row-item.result) 2) ≡ c.in-Ok.found = ap (λ (r : Row). int_in (column r 2)) (sym c.row-item.is) ∙ c.in-Ok.ensures.found in
-    more ∙ (λ k. int_max (c.loop-row.invariant k) (here k)) ∙ sym (rw (to_z-of_z w64 c.in-Ok.found fits) at c.max-newest.ensures ∙ max_is (to_z w64 c.loop-row.newest-bits) c.in-Ok.found) ∙ sym (to_z-of_z w64 c.max-newest.result last)
+    let here : int_in (column (get_or c.args.rows.now c.loop-row.row-index c.row-item.result) 2)
+    ≡ c.in-Ok.found = ap (λ (r : Row). int_in (column r 2)) (sym c.row-item.is)
+    ∙ c.in-Ok.ensures.found in
+    more ∙ (λ k. int_max (c.loop-row.invariant k) (here k))
+    ∙ sym (rw (to_z-of_z w64 c.in-Ok.found fits) at c.max-newest.ensures
+    ∙ max_is (to_z w64 c.loop-row.newest-bits) c.in-Ok.found)
+    ∙ sym (to_z-of_z w64 c.max-newest.result last)

@@ -11,4 +11,6 @@ pub returns : goal.returns
 returns g c =
     let old = state g.S.Store c.args.conn.now in
     let new = state g.S.Store c.select.new.conn in
-    asked_as old new c.select.result _ _ (λ clean v shown. (shows_vectors old new v.items (c.requires (omega (arith, c.select.ensures.crash.clean, clean))).tables shown).1) c.select.ensures
+    asked_as old new c.select.result _ _ (λ clean v shown.
+    (shows_vectors old new v.items (c.requires
+    (omega (arith, c.select.ensures.crash.clean, clean))).tables shown).1) c.select.ensures

@@ -16,8 +16,11 @@ use Rattle.sql_tables.proofs.QueryLemmas.{all_plain, finds_all}
 use Rattle.sql_tables.proofs.WriteLemmas.{fails_query}
 use Rattle.sql_opening.proofs.checking.check_rows.Goals as goal
 
-commits_nothing : (old new : State) → (HasCleanDisk old → old.now.schema ≡ archive_schema) → Survives old new (CommitsShowing all_text [] old) → Survives old new (λ _. ⊥)
-commits_nothing old new known s = survives_weaker old new _ _ (λ clean db. never_commits all_text [] old db (all_plain old.now.schema (known (omega (arith, s.clean, clean))))) s
+commits_nothing : (old new : State) → (HasCleanDisk old → old.now.schema ≡ archive_schema)
+    → Survives old new (CommitsShowing all_text [] old) → Survives old new (λ _. ⊥)
+commits_nothing old new known s = survives_weaker old new _ _
+    (λ clean db. never_commits all_text [] old db (all_plain old.now.schema
+    (known (omega (arith, s.clean, clean))))) s
 
 each_err : {A E : Type 0} {P : Type 0} (r : Result A E) → P → IfErr r (λ _. P)
 each_err (Ok a) p = tt
@@ -29,9 +32,12 @@ returns-in_err-rows-clause-refused g c clean =
     let new = state g.S.Store c.query.follows.lender-at-none in
     let held = c.query.follows.holds-at-none in
     let kept : Survives old new (CommitsShowing all_text [] old) = search rules in
-    let failed : FailsToQuery all_text [] old new c.in_err-rows.field-0.0 = (rw c.in_err-rows.was at held).err clean in
+    let failed : FailsToQuery all_text [] old new c.in_err-rows.field-0.0 =
+    (rw c.in_err-rows.was at held).err clean in
     let early : HasCleanDisk old = omega (arith, kept.clean, clean) in
-    each_err {P = IsTrue new.is_open → Holds old new} _ (λ is_open. fails_query all_text [] old new _ (all_plain old.now.schema (c.requires.known early)) (c.requires.rests early) is_open failed)
+    each_err {P = IsTrue new.is_open → Holds old new} _
+    (λ is_open. fails_query all_text [] old new _
+    (all_plain old.now.schema (c.requires.known early)) (c.requires.rests early) is_open failed)
 
 pub returns-in_err-rows-clause-crash : goal.returns-in_err-rows-clause-crash
 returns-in_err-rows-clause-crash g c =
@@ -48,7 +54,9 @@ rows-init g c =
       refl,
       commits_nothing old _ c.requires.known made.survives,
       λ clean.
-          let begun = begun_plain g.S.Store all_text [] c.args.conn.now _ (all_plain old.now.schema (c.requires.known (omega (arith, made.survives.clean, clean)))) (made.begun clean) in
+          let begun = begun_plain g.S.Store all_text [] c.args.conn.now _
+          (all_plain old.now.schema (c.requires.known
+          (omega (arith, made.survives.clean, clean)))) (made.begun clean) in
           ([], begun.0, begun.1, c.start-walk.ensures, refl),
     )
 
@@ -61,11 +69,19 @@ returns-in_default-clause-checked g c clean =
     let late : HasCleanDisk (state g.S.Store now) = search rules in
     let was = c.rows.invariant.2 (omega (arith, moved.survives.clean, late)) in
     let on : Advances g.S.Store mid now (row_if c.advance.new.self.has_row now) = moved.ok late in
-    let none : row_if c.advance.new.self.has_row now ≡ None = sym c.get.ensures ∙ ap option_copied c.in_default.is in
-    let shown = subst (GivesOn g.S.Store all_text [] mid now was.0) none (on all_text [] was.0 was.1) in
-    let known = c.requires.known (omega (arith, c.rows.invariant.1.clean, moved.survives.clean, late)) in
-    let tables = subst (λ x. x ≡ archive_schema) (sym (ap (λ (d : Database). d.schema) was.2.0.now_is)) known in
-    (was.0, subst (λ (d : Database). IsPermutation (cells (d.trees 1)) was.0) was.2.0.now_is (finds_all (state g.S.Store mid) (state g.S.Store now) was.0 tables shown), was.3)
+    let none : row_if c.advance.new.self.has_row now ≡ None =
+    sym c.get.ensures ∙ ap option_copied c.in_default.is in
+    let shown = subst (GivesOn g.S.Store all_text [] mid now was.0) none
+    (on all_text [] was.0 was.1) in
+    let known = c.requires.known (omega
+    (arith, c.rows.invariant.1.clean, moved.survives.clean, late)) in
+    let tables = subst (λ x. x ≡ archive_schema) (sym
+    (ap (λ (d : Database). d.schema) was.2.0.now_is)) known in (
+      was.0,
+      subst (λ (d : Database). IsPermutation (cells (d.trees 1)) was.0) was.2.0.now_is
+          (finds_all (state g.S.Store mid) (state g.S.Store now) was.0 tables shown),
+      was.3,
+    )
 
 pub returns-in-Err-clause-refuted : goal.returns-in-Err-clause-refuted
 returns-in-Err-clause-refuted g c clean =
@@ -77,12 +93,16 @@ returns-in-Err-clause-refuted g c clean =
     let was = c.rows.invariant.2 (omega (arith, moved.survives.clean, late)) in
     let on : Advances g.S.Store mid now (row_if c.advance.new.self.has_row now) = moved.ok late in
     let some = sym c.get.ensures ∙ ap option_copied c.in-Some.is in
-    let given = subst (GivesOn g.S.Store all_text [] mid now was.0) some (on all_text [] was.0 was.1) in
-    let known = c.requires.known (omega (arith, c.rows.invariant.1.clean, moved.survives.clean, late)) in
-    let same = unchanged_then old (state g.S.Store mid) (state g.S.Store now) was.2 (moved.same late) in
+    let given = subst (GivesOn g.S.Store all_text [] mid now was.0) some
+    (on all_text [] was.0 was.1) in
+    let known = c.requires.known (omega
+    (arith, c.rows.invariant.1.clean, moved.survives.clean, late)) in
+    let same = unchanged_then old (state g.S.Store mid) (state g.S.Store now) was.2
+    (moved.same late) in
     elim (c.in-Err.ensures.refused was.0 was.3) [
       | inl memory ↦ inl memory
-      | inr so ↦ inr (begins_out old (state g.S.Store now) _ known same (given_begin g.S.Store all_text [] now _ given) so)
+      | inr so ↦ inr (begins_out old (state g.S.Store now) _ known same
+          (given_begin g.S.Store all_text [] now _ given) so)
     ]
 
 pub returns-clause-refuted : goal.returns-clause-refuted
@@ -92,7 +112,9 @@ returns-clause-refuted g c clean =
     let late : HasCleanDisk (state g.S.Store mid) = search rules in
     let was = c.rows.invariant.2 late in
     let known = c.requires.known (omega (arith, c.rows.invariant.1.clean, late)) in
-    inr (begins_out old (state g.S.Store mid) was.0 known was.2 (given_begin g.S.Store all_text [] mid was.0 was.1) (inr (omega (arith, was.4, c.rows-test.false))))
+    inr (begins_out old (state g.S.Store mid) was.0 known was.2
+    (given_begin g.S.Store all_text [] mid was.0 was.1)
+    (inr (omega (arith, was.4, c.rows-test.false))))
 
 pub rows-preserved : goal.rows-preserved
 rows-preserved g c =
@@ -101,10 +123,12 @@ rows-preserved g c =
     let now = c.advance.new.self.conn.now in
     let moved = c.in_ok-advance.ensures in (
       moved.same_reference ∙ c.rows.invariant.0,
-      survives_then old (state g.S.Store mid) (state g.S.Store now) _ _ _ (λ clean db none. none) (λ clean db none. none) c.rows.invariant.1 moved.survives,
+      survives_then old (state g.S.Store mid) (state g.S.Store now) _ _ _ (λ clean db none. none)
+          (λ clean db none. none) c.rows.invariant.1 moved.survives,
       λ clean.
           let was = c.rows.invariant.2 (omega (arith, moved.survives.clean, clean)) in
-          let on : Advances g.S.Store mid now (row_if c.advance.new.self.has_row now) = moved.ok clean in
+          let on : Advances g.S.Store mid now (row_if c.advance.new.self.has_row now) =
+          moved.ok clean in
           let some = sym c.get.ensures ∙ ap option_copied c.in-Some.is in (
             _,
             subst (GivesOn g.S.Store all_text [] mid now was.0) some (on all_text [] was.0 was.1),

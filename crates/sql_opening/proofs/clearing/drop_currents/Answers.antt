@@ -9,4 +9,5 @@ returns-clause-made g c clean =
     let old = state g.S.Store c.args.tx.now.conn.now in
     let early : HasCleanDisk old = omega (arith, c.execute.ensures.survives.clean, clean) in
     let was = c.requires early in
-    drops_currents old (state g.S.Store c.execute.new.self.conn.now) c.execute.result was (c.execute.ensures.runs clean was.inside)
+    drops_currents old (state g.S.Store c.execute.new.self.conn.now) c.execute.result was
+    (c.execute.ensures.runs clean was.inside)

@@ -7,10 +7,14 @@ use Rattle.sql_opening.proofs.ClearLemmas.{some_current_text, current_plain, no_
 use Rattle.sql_opening.proofs.clearing.first_current.Goals as goal
 
 pub ask-requires-clause-plain : goal.ask-requires-clause-plain
-ask-requires-clause-plain g c clean = subst (λ s. IsPlain (understood s some_current_text)) (sym (c.requires.beside clean)) current_plain
+ask-requires-clause-plain g c clean =
+    subst (λ s. IsPlain (understood s some_current_text))
+    (sym (c.requires.beside clean)) current_plain
 
 pub returns : goal.returns
 returns g c =
     let old = state g.S.Store c.args.conn.now in
     let new = state g.S.Store c.ask.new.conn in
-    found_as old new c.ask.result _ _ (λ clean v shown. no_current old new v.items (c.requires.beside (omega (arith, c.ask.ensures.crash.clean, clean))) shown) c.ask.ensures
+    found_as old new c.ask.result _ _ (λ clean v shown.
+    no_current old new v.items (c.requires.beside
+    (omega (arith, c.ask.ensures.crash.clean, clean))) shown) c.ask.ensures

@@ -7,10 +7,14 @@ use Rattle.sql_opening.proofs.ClearLemmas.{some_record_text, record_plain, no_re
 use Rattle.sql_opening.proofs.clearing.first_record.Goals as goal
 
 pub ask-requires-clause-plain : goal.ask-requires-clause-plain
-ask-requires-clause-plain g c clean = subst (λ s. IsPlain (understood s some_record_text)) (sym (c.requires.beside clean)) record_plain
+ask-requires-clause-plain g c clean =
+    subst (λ s. IsPlain (understood s some_record_text)) (sym (c.requires.beside clean))
+    record_plain
 
 pub returns : goal.returns
 returns g c =
     let old = state g.S.Store c.args.conn.now in
     let new = state g.S.Store c.ask.new.conn in
-    found_as old new c.ask.result _ _ (λ clean v shown. no_record old new v.items (c.requires.beside (omega (arith, c.ask.ensures.crash.clean, clean))) shown) c.ask.ensures
+    found_as old new c.ask.result _ _ (λ clean v shown.
+    no_record old new v.items (c.requires.beside
+    (omega (arith, c.ask.ensures.crash.clean, clean))) shown) c.ask.ensures

@@ -13,9 +13,16 @@ loop-row-preserved g c =
     let was = c.loop-row.invariant in
     let e = c.in_ok-put_record.ensures in (
       e.same ∙ was.0,
-      survives_then old mid new _ _ _ (λ clean db none. absurd none) (λ clean db none. absurd none) was.1 e.crash,
+      survives_then old mid new _ _ _ (λ clean db none. absurd none)
+          (λ clean db none. absurd none) was.1 e.crash,
       λ clean.
           let early : HasCleanDisk mid = omega (arith, e.crash.clean, clean) in
           let before = was.2 early in
-          let made = e.made clean in (made.0, made.1 ∙ before.1, puts_next c.args.rows.now c.loop-row.row-index c.row-item.result old.now.trees mid.now.trees new.now.trees (omega (arith, c.loop-row-test.true)) c.row-item.is before.2 made.2),
+          let made = e.made clean in (
+            made.0,
+            made.1 ∙ before.1,
+            puts_next c.args.rows.now c.loop-row.row-index c.row-item.result old.now.trees
+                mid.now.trees new.now.trees
+                (omega (arith, c.loop-row-test.true)) c.row-item.is before.2 made.2,
+          ),
     )

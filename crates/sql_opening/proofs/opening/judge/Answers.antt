@@ -8,8 +8,11 @@ returns g c =
     let e = c.in_ok-rows.ensures in
     record {
       answer = λ clean.
-          (rw c.deref.ensures.value at c.judge_meta.ensures) (four_columns ((state g.S.Store c.args.conn.now).now.trees 0) c.in_ok-rows.rows.items (e.answer clean))
-          ∙ judged_permuted c.args.format c.args.id.now c.args.number _ c.in_ok-rows.rows.items (e.answer clean);
+          (rw c.deref.ensures.value at c.judge_meta.ensures)
+          (four_columns ((state g.S.Store c.args.conn.now).now.trees 0) c.in_ok-rows.rows.items
+          (e.answer clean))
+          ∙ judged_permuted c.args.format c.args.id.now c.args.number _ c.in_ok-rows.rows.items
+          (e.answer clean);
       kept = λ clean ok. e.kept clean refl;
       met = tt;
       crash = e.crash;

@@ -13,11 +13,19 @@ use Rattle.sql_opening.proofs.opening.open_tables.Goals as goal
 pub walk-requires-clause-known : goal.walk-requires-clause-known
 walk-requires-clause-known g c clean =
     let e = c.in_ok-told.ensures in
-    subst (λ x. x ≡ archive_schema) (sym (ap (λ (d : Database). d.schema) (e.kept clean refl).same)) (c.requires.known (omega (arith, e.crash.clean, clean)))
+    subst (λ x. x ≡ archive_schema) (sym (ap (λ (d : Database). d.schema) (e.kept clean refl).same))
+    (c.requires.known (omega (arith, e.crash.clean, clean)))
 
 pub returns-in-Ok : goal.returns-in-Ok
 returns-in-Ok g c =
-    opened_by c.args.id.now c.args.number (state g.S.Store c.args.conn.now) (state g.S.Store c.judge.new.conn) (state g.S.Store c.walk.new.conn) (λ d l. Remembers (content_in d) l.numbers l.tick) c.walk.result (subst (λ t. Found (state g.S.Store c.args.conn.now) (state g.S.Store c.judge.new.conn) (Ok t) (λ told. told ≡ checked_meta c.args.id.now c.args.number (meta_cells (state g.S.Store c.args.conn.now).now.trees))) c.in-Ok.is c.in_ok-told.ensures) c.walk.ensures (λ clean. omega (arith, c.walk.ensures.crash.clean, clean))
+    opened_by c.args.id.now c.args.number (state g.S.Store c.args.conn.now)
+    (state g.S.Store c.judge.new.conn) (state g.S.Store c.walk.new.conn)
+    (λ d l. Remembers (content_in d) l.numbers l.tick) c.walk.result
+    (subst (λ t. Found (state g.S.Store c.args.conn.now) (state g.S.Store c.judge.new.conn)
+    (Ok t) (λ told. told ≡ checked_meta c.args.id.now c.args.number
+    (meta_cells (state g.S.Store c.args.conn.now).now.trees))) c.in-Ok.is c.in_ok-told.ensures)
+    c.walk.ensures (λ clean. omega (arith, c.walk.ensures.crash.clean, clean))
 
 pub judge-requires-clause-known : goal.judge-requires-clause-known
-judge-requires-clause-known g c clean = archive_has_meta (state g.S.Store c.args.conn.now).now.schema (c.requires.known clean)
+judge-requires-clause-known g c clean =
+    archive_has_meta (state g.S.Store c.args.conn.now).now.schema (c.requires.known clean)

@@ -9,4 +9,12 @@ returns-in-Ok-Ok g c =
     let old = state g.S.Store c.args.conn.now in
     let new = state g.S.Store c.check_rows.new.conn in
     let e = c.in-Ok-Ok.ensures in
-    record { answer = λ clean. checked_is old.now.trees c.in-Ok-Ok.walk (rw c.in-Ok-Ok.field-0-is at (e.checked clean)); kept = λ clean ok. holds_as old new (c.requires.rests (omega (arith, e.crash.clean, clean))) (e.same clean); met = tt; crash = e.crash }
+    record {
+      answer = λ clean. checked_is old.now.trees c.in-Ok-Ok.walk
+          (rw c.in-Ok-Ok.field-0-is at (e.checked clean));
+      kept =
+          λ clean ok. holds_as old new (c.requires.rests (omega (arith, e.crash.clean, clean)))
+          (e.same clean);
+      met = tt;
+      crash = e.crash;
+    }

@@ -20,10 +20,24 @@ returns g c =
     let limit = as_count (Int c.stretch_of-along.result.count) in
     record {
       answer = λ clean.
-          let before : HasCleanDisk (state g.S.Store c.args.conn.now) = omega (arith, e.crash.clean, clean) in
-          let page : AreNextCurrents d c.args.bytes.now s.ticks s.pico (ticks_of c.args.far) (pos (pico_of c.args.far)) limit (map current_columns (db 4)) rows = rw (c.stretch_of-along.ensures.near.0, c.stretch_of-along.ensures.near.1, c.stretch_of-along.ensures.far.0, c.stretch_of-along.ensures.far.1) at (e.answer clean) in
-          let items = currents_found d db c.args.node.now c.args.bytes.now s.ticks s.pico c.args.far limit rows c.in_ok-found.found.items (c.requires.filled before) (c.requires.kept before) c.requires.lawful c.requires.spelled c.requires.place page (c.in_ok-found.ensures ∙ ap (flat_map helds_in) c.deref.ensures.value) in
-          c.truncate.ensures.items ∙ first_limited c.args.limit limit c.in_ok-found.found.items _ c.stretch_of-along.ensures.count items;
+          let before : HasCleanDisk (state g.S.Store c.args.conn.now) =
+          omega (arith, e.crash.clean, clean) in
+          let page : AreNextCurrents d c.args.bytes.now s.ticks s.pico (ticks_of c.args.far)
+          (pos (pico_of c.args.far)) limit (map current_columns (db 4)) rows =
+          rw (
+            c.stretch_of-along.ensures.near.0,
+            c.stretch_of-along.ensures.near.1,
+            c.stretch_of-along.ensures.far.0,
+            c.stretch_of-along.ensures.far.1,
+          ) at
+          (e.answer clean) in
+          let items = currents_found d db c.args.node.now c.args.bytes.now s.ticks s.pico c.args.far
+          limit rows c.in_ok-found.found.items (c.requires.filled before)
+          (c.requires.kept before) c.requires.lawful c.requires.spelled c.requires.place page
+          (c.in_ok-found.ensures ∙ ap (flat_map helds_in) c.deref.ensures.value) in
+          c.truncate.ensures.items
+          ∙ first_limited c.args.limit limit c.in_ok-found.found.items _
+          c.stretch_of-along.ensures.count items;
       kept = λ clean ok. e.kept clean refl;
       met = tt;
       crash = e.crash;

@@ -17,8 +17,12 @@ returns g c =
     let held = c.fill.new.ahead in
     record {
       answer = λ clean.
-          subst (λ t. IsNextTime d place (times R node) t × IfSome t (λ time. StandsFirst R node d time held.records.items held.ends)) (sym c.first_time.ensures)
-          (next_told R node d place held.records.items held.ends (stamps_apart db (c.requires.filled (omega (arith, e.crash.clean, clean)))) (e.answer clean).0 (e.answer clean).1);
+          subst (λ t. IsNextTime d place (times R node) t
+          × IfSome t (λ time. StandsFirst R node d time held.records.items held.ends))
+          (sym c.first_time.ensures)
+          (next_told R node d place held.records.items held.ends
+          (stamps_apart db (c.requires.filled (omega (arith, e.crash.clean, clean))))
+          (e.answer clean).0 (e.answer clean).1);
       kept = λ clean ok. e.kept clean refl;
       met = tt;
       crash = e.crash;

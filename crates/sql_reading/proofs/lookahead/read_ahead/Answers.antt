@@ -19,10 +19,23 @@ returns g c =
     let rows = c.in_ok-rows.rows.items in
     record {
       answer = λ clean.
-          let page : AreNextRows d c.args.bytes.now p.ticks p.pico (as_count (Int (pos c.args.count))) (cells (db 1)) rows = rw (c.rows_beyond-next.ensures.ticks, c.rows_beyond-next.ensures.pico, c.rows_beyond-next.ensures.count) at (e.answer clean) in
-          let items = rows_found d db c.args.node.now c.args.bytes.now p.ticks p.pico (Some c.args.count) rows c.in_ok-records.records.items (c.requires.filled (omega (arith, e.crash.clean, clean))) c.requires.lawful c.requires.spelled c.requires.place page (c.in_ok-records.ensures.read ∙ ap (flat_map records_in) c.deref.ensures.value) in
-          read_ahead_is (records_beyond (content_in db) c.args.node.now d (moment_at p.ticks p.pico)) c.from-2.result.items c.args.count (nat_lt c.len.result c.from.result) (c.from-2.ensures.0 ∙ items) c.requires.some
-          (ap₂ nat_lt (c.len.ensures ∙ (c.in_ok-records.records.ok.0 ∙ ap length (sym c.from-2.ensures.0))) c.from.ensures);
+          let page : AreNextRows d c.args.bytes.now p.ticks p.pico
+          (as_count (Int (pos c.args.count))) (cells (db 1)) rows =
+          rw (
+            c.rows_beyond-next.ensures.ticks,
+            c.rows_beyond-next.ensures.pico,
+            c.rows_beyond-next.ensures.count,
+          ) at (e.answer clean) in
+          let items = rows_found d db c.args.node.now c.args.bytes.now p.ticks p.pico
+          (Some c.args.count) rows c.in_ok-records.records.items
+          (c.requires.filled (omega (arith, e.crash.clean, clean))) c.requires.lawful
+          c.requires.spelled c.requires.place page
+          (c.in_ok-records.ensures.read ∙ ap (flat_map records_in) c.deref.ensures.value) in
+          read_ahead_is (records_beyond (content_in db) c.args.node.now d
+          (moment_at p.ticks p.pico)) c.from-2.result.items c.args.count
+          (nat_lt c.len.result c.from.result) (c.from-2.ensures.0 ∙ items) c.requires.some
+          (ap₂ nat_lt (c.len.ensures ∙ (c.in_ok-records.records.ok.0
+          ∙ ap length (sym c.from-2.ensures.0))) c.from.ensures);
       kept = λ clean ok. e.kept clean refl;
       met = tt;
       crash = e.crash;

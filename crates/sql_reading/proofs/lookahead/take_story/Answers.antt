@@ -14,7 +14,12 @@ returns-then-is_used_up g c =
     let left = c.take_time.new.records.items in
     let ends = c.args.ahead.now.ends in
     asked_as a (state g.S.Store c.story_at.new.conn) c.story_at.result _ _
-    (λ clean v is. (is, nothing_held (records_beyond (content_in a.now.trees) c.args.node.now c.args.direction c.args.time) left ends (sym c.is_used_up.ensures ∙ c.if-is_used_up.true))) c.story_at.ensures
+    (λ clean v is. (
+      is,
+      nothing_held (records_beyond
+          (content_in a.now.trees) c.args.node.now c.args.direction c.args.time) left ends
+          (sym c.is_used_up.ensures ∙ c.if-is_used_up.true),
+    )) c.story_at.ensures
 
 pub returns : goal.returns
 returns g c =
@@ -24,5 +29,12 @@ returns g c =
     let held = c.args.ahead.now in
     asked_nothing a c.turn.new.records _ c.requires.idles
     (λ clean.
-    let told = story_taken R c.args.node.now d c.args.time held.records.items c.in_ok-taken.taken.items c.take_time.new.records.items held.ends (stamps_apart a.now.trees (c.requires.filled clean)) (c.requires.first clean) c.in_ok-taken.ensures.value (sym c.is_used_up.ensures ∙ c.if-is_used_up.false) in
-    (c.turn.ensures ∙ (ap (in_direction d) told.0 ∙ turned_back d (versions R c.args.node.now c.args.time)), told.1))
+    let told = story_taken R c.args.node.now d c.args.time held.records.items
+    c.in_ok-taken.taken.items c.take_time.new.records.items held.ends
+    (stamps_apart a.now.trees (c.requires.filled clean))
+    (c.requires.first clean) c.in_ok-taken.ensures.value
+    (sym c.is_used_up.ensures ∙ c.if-is_used_up.false) in (
+      c.turn.ensures ∙ (ap (in_direction d) told.0
+          ∙ turned_back d (versions R c.args.node.now c.args.time)),
+      told.1,
+    ))

@@ -9,8 +9,13 @@ pub returns : goal.returns
 returns g c =
     let e = c.in_ok-rows.ensures in
     record {
-      answer = λ clean. records_found (state g.S.Store c.args.conn.now).now.trees c.args.node.now c.args.time c.args.bytes.now c.in_ok-rows.rows.items _ (c.requires.filled (omega (arith, e.crash.clean, clean))) c.requires.lawful c.requires.spelled
-          (rw (c.place_of-place.ensures.0, c.place_of-place.ensures.1) at (e.answer clean)) (c.in_ok-decode_all.ensures.read ∙ ap (flat_map records_in) c.deref.ensures.value);
+      answer = λ clean. records_found
+          (state g.S.Store c.args.conn.now).now.trees c.args.node.now c.args.time c.args.bytes.now
+          c.in_ok-rows.rows.items _
+          (c.requires.filled (omega (arith, e.crash.clean, clean))) c.requires.lawful
+          c.requires.spelled
+          (rw (c.place_of-place.ensures.0, c.place_of-place.ensures.1) at (e.answer clean))
+          (c.in_ok-decode_all.ensures.read ∙ ap (flat_map records_in) c.deref.ensures.value);
       kept = λ clean ok. e.kept clean refl;
       met = tt;
       crash = e.crash;

@@ -10,20 +10,34 @@ abbrev items_of : Vec Record Global → List Record
 items_of v = v.items
 
 pub loop-number-init : goal.loop-number-init
-loop-number-init g c = (gathered_start (state g.S.Store c.args.conn.now) (number_of c.args.vector.now) c.args.limit c.new-found.result.items c.requires.idles c.requires.filled c.new-found.ensures.items, omega arith)
+loop-number-init g c = (
+  gathered_start (state g.S.Store c.args.conn.now)
+      (number_of c.args.vector.now) c.args.limit c.new-found.result.items c.requires.idles
+      c.requires.filled c.new-found.ensures.items,
+  omega arith,
+)
 
 pub returns-then-len-limit : goal.returns-then-len-limit
 returns-then-len-limit g c =
-    let reached : c.args.limit ≤ length c.loop-number.found.items = omega (arith, c.loop-number.found.ok.0) in
-    gathered_enough items_of (state g.S.Store c.args.conn.now) (state g.S.Store c.loop-number.conn) (number_of c.args.vector.now) c.args.limit c.loop-number.number c.loop-number.found c.loop-number.invariant.0 reached
+    let reached : c.args.limit ≤ length c.loop-number.found.items =
+    omega (arith, c.loop-number.found.ok.0) in
+    gathered_enough items_of (state g.S.Store c.args.conn.now) (state g.S.Store c.loop-number.conn)
+    (number_of c.args.vector.now) c.args.limit c.loop-number.number c.loop-number.found
+    c.loop-number.invariant.0 reached
 
 pub loop-number-preserved : goal.loop-number-preserved
 loop-number-preserved g c = (
-  gathered_on (state g.S.Store c.args.conn.now) (state g.S.Store c.loop-number.conn) (state g.S.Store c.push_lacked.new.conn) (number_of c.args.vector.now) c.args.limit c.loop-number.number c.loop-number.found.items c.push_lacked.new.found.items c.in_ok-push_lacked.field-0 c.loop-number.invariant.0 c.in_ok-push_lacked.ensures,
+  gathered_on (state g.S.Store c.args.conn.now) (state g.S.Store c.loop-number.conn)
+      (state g.S.Store c.push_lacked.new.conn)
+      (number_of c.args.vector.now) c.args.limit c.loop-number.number c.loop-number.found.items
+      c.push_lacked.new.found.items c.in_ok-push_lacked.field-0 c.loop-number.invariant.0
+      c.in_ok-push_lacked.ensures,
   omega arith,
 )
 
 pub returns : goal.returns
 returns g c =
     let end : 65 ≤ c.loop-number.number = omega arith in
-    gathered_ends items_of (state g.S.Store c.args.conn.now) (state g.S.Store c.loop-number.conn) (number_of c.args.vector.now) c.args.limit c.loop-number.number c.loop-number.found c.loop-number.invariant.0 end
+    gathered_ends items_of (state g.S.Store c.args.conn.now) (state g.S.Store c.loop-number.conn)
+    (number_of c.args.vector.now) c.args.limit c.loop-number.number c.loop-number.found
+    c.loop-number.invariant.0 end

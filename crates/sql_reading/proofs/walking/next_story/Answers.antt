@@ -18,7 +18,13 @@ returns-in_default g c =
     let R = content_in a.now.trees in
     let place = moment_at c.args.place.now.ticks c.args.place.now.pico in
     passed_told a b None _ (passed_ok a b c.in_ok-next.next _ e)
-    (λ clean. (no_story R c.args.node.now (number_of c.args.within.now) c.args.direction place c.args.far (subst (IsNextTime c.args.direction place (times R c.args.node.now)) c.in_default.is (e.answer clean).0), tt))
+    (λ clean. (
+      no_story R c.args.node.now
+          (number_of c.args.within.now) c.args.direction place c.args.far
+          (subst (IsNextTime c.args.direction place (times R c.args.node.now)) c.in_default.is
+          (e.answer clean).0),
+      tt,
+    ))
 
 pub returns-then-is_past : goal.returns-then-is_past
 returns-then-is_past g c =
@@ -28,7 +34,13 @@ returns-then-is_past g c =
     let R = content_in a.now.trees in
     let place = moment_at c.args.place.now.ticks c.args.place.now.pico in
     passed_told a b None _ (passed_ok a b c.in_ok-next.next _ e)
-    (λ clean. (stretch_stops c.args.direction place c.args.far c.in-Some.time (times R c.args.node.now) (subst (IsNextTime c.args.direction place (times R c.args.node.now)) c.in-Some.is (e.answer clean).0) (sym c.is_past.ensures ∙ c.if-is_past.true), tt))
+    (λ clean. (
+      stretch_stops c.args.direction place c.args.far c.in-Some.time
+          (times R c.args.node.now) (subst
+          (IsNextTime c.args.direction place (times R c.args.node.now)) c.in-Some.is
+          (e.answer clean).0) (sym c.is_past.ensures ∙ c.if-is_past.true),
+      tt,
+    ))
 
 pub covered_story-requires-clause-first : goal.covered_story-requires-clause-first
 covered_story-requires-clause-first g c clean =
@@ -38,8 +50,11 @@ covered_story-requires-clause-first g c clean =
     let held = c.next_time.new.ahead in
     let d = c.args.direction in
     let node = c.args.node.now in
-    subst (λ t. StandsFirst (content_in t) node d c.in-Some.time held.records.items held.ends) (sym (same_trees a b (passed_ok a b c.in_ok-next.next _ e) clean))
-    (subst (λ o. IfSome o (λ time. StandsFirst (content_in a.now.trees) node d time held.records.items held.ends)) c.in-Some.is (e.answer clean).1)
+    subst (λ t. StandsFirst (content_in t) node d c.in-Some.time held.records.items held.ends)
+    (sym (same_trees a b (passed_ok a b c.in_ok-next.next _ e) clean))
+    (subst (λ o. IfSome o (λ time.
+    StandsFirst (content_in a.now.trees) node d time held.records.items held.ends)) c.in-Some.is
+    (e.answer clean).1)
 
 pub returns : goal.returns
 returns g c =
@@ -58,7 +73,12 @@ returns g c =
     let before = early b d second clean in
     let same = same_trees a b first before in
     let told = f.answer clean in (
-      next_story_is R c.args.node.now v c.args.direction place c.args.far c.in-Some.time c.in_ok-records.records.items (subst (IsNextTime c.args.direction place (times R c.args.node.now)) c.in-Some.is (e.answer before).0) (sym c.is_past.ensures ∙ c.if-is_past.false)
-          (subst (λ t. c.in_ok-records.records.items ≡ versions (cut (content_in t) v) c.args.node.now c.in-Some.time) same told.0),
-      subst (λ t. IsAhead (content_in t) c.args.node.now c.args.direction c.in-Some.time c.covered_story.new.ahead.records.items c.covered_story.new.ahead.ends) same told.1,
+      next_story_is R c.args.node.now v c.args.direction place c.args.far c.in-Some.time
+          c.in_ok-records.records.items (subst
+          (IsNextTime c.args.direction place (times R c.args.node.now)) c.in-Some.is
+          (e.answer before).0) (sym c.is_past.ensures ∙ c.if-is_past.false)
+          (subst (λ t. c.in_ok-records.records.items
+          ≡ versions (cut (content_in t) v) c.args.node.now c.in-Some.time) same told.0),
+      subst (λ t. IsAhead (content_in t) c.args.node.now c.args.direction c.in-Some.time
+          c.covered_story.new.ahead.records.items c.covered_story.new.ahead.ends) same told.1,
     ))

@@ -6,11 +6,15 @@ use Rattle.sql_schema.proofs.recognize.is_archive.Goals as goal
 pub returns-then-are_indexes : goal.returns-then-are_indexes
 returns-then-are_indexes c = (
   λ told.
-      let tables : c.args.schema.now.tables ≡ first_table ∷ second_table ∷ third_table ∷ fourth_table ∷ [] = search rules in
+      let tables : c.args.schema.now.tables
+      ≡ first_table ∷ second_table ∷ third_table ∷ fourth_table ∷ [] = search rules in
       let indexes : c.args.schema.now.indexes ≡ key_indexes = search rules in
       is_whole c.args.schema.now tables indexes (c.is_empty.ensures.0 told),
   λ is. c.is_empty.ensures.1 (ap (λ s. s.views) is),
 )
 
 pub returns-else-are_indexes : goal.returns-else-are_indexes
-returns-else-are_indexes c = (λ told. absurd (search rules), λ is. c.are_indexes.ensures.1 (c.as_slice-2.ensures ∙ ap (λ s. s.indexes) (is ∙ written_out)))
+returns-else-are_indexes c = (
+  λ told. absurd (search rules),
+  λ is. c.are_indexes.ensures.1 (c.as_slice-2.ensures ∙ ap (λ s. s.indexes) (is ∙ written_out)),
+)

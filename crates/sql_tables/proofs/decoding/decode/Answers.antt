@@ -8,11 +8,14 @@ use Rattle.sql_tables.specs.Rows.{spelled, IsNoRecords}
 use Rattle.sql_tables.proofs.UnreadLemmas.{unread_by}
 use Rattle.sql_tables.proofs.decoding.decode.Goals as goal
 
-unread : (row : Row) (bytes : List ℕ) (r : Result Record RecordFault) → bytes ≡ spelled row → GivesUnless fault.OutOfMemory r (record_at bytes)
+unread : (row : Row) (bytes : List ℕ) (r : Result Record RecordFault) → bytes ≡ spelled row
+    → GivesUnless fault.OutOfMemory r (record_at bytes)
     → IfErr r (λ e. (e ≡ fault.OutOfMemory) ⊎ IsNoRecords row)
 unread row bytes (Ok r) is reads = tt
-unread row bytes (Err e) is reads = unread_by row e (λ other. subst (λ b. record_at b ≡ Err e) is (reads other))
+unread row bytes (Err e) is reads =
+    unread_by row e (λ other. subst (λ b. record_at b ≡ Err e) is (reads other))
 
 pub returns-clause-unread : goal.returns-clause-unread
 returns-clause-unread c =
-    unread c.args.row.now c.deref.result.now c.read_record.result (c.deref.ensures.value ∙ c.in_ok-bytes.ensures.spelled) c.read_record.ensures.reads
+    unread c.args.row.now c.deref.result.now c.read_record.result
+    (c.deref.ensures.value ∙ c.in_ok-bytes.ensures.spelled) c.read_record.ensures.reads

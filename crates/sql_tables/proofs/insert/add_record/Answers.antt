@@ -10,11 +10,24 @@ returns-clause-made g c clean =
     let early : HasCleanDisk old = omega (arith, c.execute.ensures.survives.clean, clean) in
     let was = c.requires early in
     let r = c.args.r.now in
-    adds r.origin r.number r.tick r.node.items r.time r.pico r.asked r.who.items r.value.items old (state g.S.Store c.execute.new.self.conn.now) c.execute.result was
-    (rw (c.params-to_sql.ensures, c.params-to_sql-2.ensures, c.params-to_sql-3.ensures, c.params-to_sql-4.ensures, c.params-to_sql-5.ensures, c.params-to_sql-6.ensures, c.params-to_sql-7.ensures, c.params-to_sql-8.ensures, c.params-to_sql-9.ensures) at (c.execute.ensures.runs clean was.inside))
+    adds r.origin r.number r.tick r.node.items r.time r.pico r.asked r.who.items r.value.items old
+    (state g.S.Store c.execute.new.self.conn.now) c.execute.result was
+    (rw (
+      c.params-to_sql.ensures,
+      c.params-to_sql-2.ensures,
+      c.params-to_sql-3.ensures,
+      c.params-to_sql-4.ensures,
+      c.params-to_sql-5.ensures,
+      c.params-to_sql-6.ensures,
+      c.params-to_sql-7.ensures,
+      c.params-to_sql-8.ensures,
+      c.params-to_sql-9.ensures,
+    ) at
+    (c.execute.ensures.runs clean was.inside))
 
 pub returns-clause-kept : goal.returns-clause-kept
 returns-clause-kept g c clean =
     let old = state g.S.Store c.args.tx.now.conn.now in
     let early : HasCleanDisk old = omega (arith, c.execute.ensures.survives.clean, clean) in
-    keeps_commit _ _ old (state g.S.Store c.execute.new.self.conn.now) c.execute.result (c.execute.ensures.runs clean (c.requires early).inside)
+    keeps_commit _ _ old (state g.S.Store c.execute.new.self.conn.now) c.execute.result
+    (c.execute.ensures.runs clean (c.requires early).inside)

@@ -17,15 +17,29 @@ use Rattle.sql_tables.proofs.AgreeLemmas.{shows_of, begins_of}
 use Rattle.sql_tables.proofs.WriteLemmas.{fails_query}
 use Rattle.sql_tables.proofs.integrity.count_ids.Goals as goal
 
-plain_in : (sql : List ℕ) (s : State) → IsPlain (understood archive_schema sql) → Idles s → IsPlain (understood s.now.schema sql)
+plain_in : (sql : List ℕ) (s : State) → IsPlain (understood archive_schema sql) → Idles s
+    → IsPlain (understood s.now.schema sql)
 plain_in sql s plain was = subst (λ d. IsPlain (understood d sql)) (sym was.tables) plain
 
-commits_nothing : (sql : List ℕ) (old new : State) → IsPlain (understood archive_schema sql) → (HasCleanDisk old → Idles old) → Survives old new (CommitsShowing sql [] old) → Survives old new (λ _. ⊥)
-commits_nothing sql old new plain idles s = survives_weaker old new _ _ (λ clean db. never_commits sql [] old db (plain_in sql old plain (idles (omega (arith, s.clean, clean))))) s
+commits_nothing : (sql : List ℕ) (old new : State) → IsPlain (understood archive_schema sql)
+    → (HasCleanDisk old → Idles old) → Survives old new (CommitsShowing sql [] old)
+    → Survives old new (λ _. ⊥)
+commits_nothing sql old new plain idles s =
+    survives_weaker old new _ _ (λ clean db.
+    never_commits sql [] old db (plain_in sql old plain (idles (omega (arith, s.clean, clean))))) s
 
-begins_with : (sql : List ℕ) (s : State) (db : Database) (rows : List Row) → s.now ≡ db → s.now.schema ≡ archive_schema → IsPlain (understood archive_schema sql) → reads_listing archive_schema sql ≡ false
+begins_with : (sql : List ℕ) (s : State) (db : Database) (rows : List Row) → s.now ≡ db
+    → s.now.schema ≡ archive_schema → IsPlain (understood archive_schema sql)
+    → reads_listing archive_schema sql ≡ false
     → Begins sql [] s rows → AreUncountable rows → BeginsUncountable sql db
-begins_with sql s db rows same has plain unlisted begins so = record { rows = rows; shown = subst (λ d. ReadsFirst (command_in (understood archive_schema sql)) d [] rows) same (begins_of sql s rows has plain unlisted begins); so = so }
+begins_with sql s db rows same has plain unlisted begins so =
+    record {
+      rows = rows;
+      shown = subst (λ d.
+          ReadsFirst (command_in (understood archive_schema sql)) d [] rows) same
+          (begins_of sql s rows has plain unlisted begins);
+      so = so;
+    }
 
 each_err : {A E : Type 0} {P : Type 0} (r : Result A E) → P → IfErr r (λ _. P)
 each_err (Ok a) p = tt
@@ -37,9 +51,13 @@ returns-in_err-rows-clause-refused g c clean =
     let new = state g.S.Store c.query.follows.lender-at-none in
     let held = c.query.follows.holds-at-none in
     let kept : Survives old new (CommitsShowing c.args.sql.now [] old) = search rules in
-    let failed : FailsToQuery c.args.sql.now [] old new c.in_err-rows.field-0.0 = (rw c.in_err-rows.was at held).err clean in
+    let failed : FailsToQuery c.args.sql.now [] old new c.in_err-rows.field-0.0 =
+    (rw c.in_err-rows.was at held).err clean in
     let early : HasCleanDisk old = omega (arith, kept.clean, clean) in
-    each_err {P = IsTrue new.is_open → Holds old new} _ (λ is_open. fails_query c.args.sql.now [] old new _ (plain_in c.args.sql.now old c.requires.plain (c.requires.idles early)) (rests_of old (c.requires.idles early)) is_open failed)
+    each_err {P = IsTrue new.is_open → Holds old new} _
+    (λ is_open. fails_query c.args.sql.now [] old new _
+    (plain_in c.args.sql.now old c.requires.plain (c.requires.idles early))
+    (rests_of old (c.requires.idles early)) is_open failed)
 
 pub returns-in_err-rows-clause-crash : goal.returns-in_err-rows-clause-crash
 returns-in_err-rows-clause-crash g c =
@@ -56,7 +74,9 @@ rows-init g c =
       refl,
       commits_nothing c.args.sql.now old _ c.requires.plain c.requires.idles made.survives,
       λ clean.
-          let begun = begun_plain g.S.Store c.args.sql.now [] c.args.conn.now _ (plain_in c.args.sql.now old c.requires.plain (c.requires.idles (omega (arith, made.survives.clean, clean)))) (made.begun clean) in
+          let begun = begun_plain g.S.Store c.args.sql.now [] c.args.conn.now _
+          (plain_in c.args.sql.now old c.requires.plain
+          (c.requires.idles (omega (arith, made.survives.clean, clean)))) (made.begun clean) in
           ([], begun.0, begun.1, c.no_ids-ids.ensures, refl),
     )
 
@@ -69,13 +89,18 @@ returns-in_default-clause-counted g c clean =
     let late : HasCleanDisk (state g.S.Store now) = search rules in
     let was = c.rows.invariant.2 (omega (arith, moved.survives.clean, late)) in
     let on : Advances g.S.Store mid now (row_if c.advance.new.self.has_row now) = moved.ok late in
-    let none : row_if c.advance.new.self.has_row now ≡ None = sym c.get.ensures ∙ ap option_copied c.in_default.is in
-    let shown = subst (GivesOn g.S.Store c.args.sql.now [] mid now was.0) none (on c.args.sql.now [] was.0 was.1) in
-    let idles = c.requires.idles (omega (arith, c.rows.invariant.1.clean, moved.survives.clean, late)) in
+    let none : row_if c.advance.new.self.has_row now ≡ None =
+    sym c.get.ensures ∙ ap option_copied c.in_default.is in
+    let shown = subst (GivesOn g.S.Store c.args.sql.now [] mid now was.0) none
+    (on c.args.sql.now [] was.0 was.1) in
+    let idles = c.requires.idles (omega
+    (arith, c.rows.invariant.1.clean, moved.survives.clean, late)) in
     let tables = ap (λ (d : Database). d.schema) was.2.0.now_is ∙ idles.tables in
     record {
       rows = was.0;
-      shown = subst (λ d. ShowsOf c.args.sql.now d was.0) was.2.0.now_is (shows_of c.args.sql.now (state g.S.Store mid) (state g.S.Store now) was.0 tables c.requires.plain c.requires.unlisted shown);
+      shown = subst (λ d. ShowsOf c.args.sql.now d was.0) was.2.0.now_is
+          (shows_of c.args.sql.now (state g.S.Store mid)
+          (state g.S.Store now) was.0 tables c.requires.plain c.requires.unlisted shown);
       numbers = was.3.numbers;
       rise = was.3.rise;
       many = was.3.many;
@@ -88,12 +113,21 @@ rows-preserved g c =
     let now = c.advance.new.self.conn.now in
     let moved = c.in_ok-advance.ensures in (
       moved.same_reference ∙ c.rows.invariant.0,
-      survives_then old (state g.S.Store mid) (state g.S.Store now) _ _ _ (λ clean db none. none) (λ clean db none. none) c.rows.invariant.1 moved.survives,
+      survives_then old (state g.S.Store mid) (state g.S.Store now) _ _ _ (λ clean db none. none)
+          (λ clean db none. none) c.rows.invariant.1 moved.survives,
       λ clean.
           let was = c.rows.invariant.2 (omega (arith, moved.survives.clean, clean)) in
-          let on : Advances g.S.Store mid now (row_if c.advance.new.self.has_row now) = moved.ok clean in
-          let some = sym c.get.ensures ∙ ap option_copied c.in-Some.is in
-          (_, subst (GivesOn g.S.Store c.args.sql.now [] mid now was.0) some (on c.args.sql.now [] was.0 was.1), unchanged_then old (state g.S.Store mid) (state g.S.Store now) was.2 (moved.same clean), c.in-Ok.ensures.risen was.0 was.3, omega (arith, was.4, length-append was.0 (c.in-Some.row.now ∷ []))),
+          let on : Advances g.S.Store mid now (row_if c.advance.new.self.has_row now) =
+          moved.ok clean in
+          let some = sym c.get.ensures ∙ ap option_copied c.in-Some.is in (
+            _,
+            subst (GivesOn g.S.Store c.args.sql.now [] mid now was.0) some
+                (on c.args.sql.now [] was.0 was.1),
+            unchanged_then old (state g.S.Store mid) (state g.S.Store now) was.2
+                (moved.same clean),
+            c.in-Ok.ensures.risen was.0 was.3,
+            omega (arith, was.4, length-append was.0 (c.in-Some.row.now ∷ [])),
+          ),
     )
 
 pub returns-in-Err-clause-met : goal.returns-in-Err-clause-met
@@ -108,11 +142,16 @@ returns-in-Err-clause-met g c = (
       let was = c.rows.invariant.2 (omega (arith, moved.survives.clean, late)) in
       let on : Advances g.S.Store mid now (row_if c.advance.new.self.has_row now) = moved.ok late in
       let some = sym c.get.ensures ∙ ap option_copied c.in-Some.is in
-      let given = subst (GivesOn g.S.Store c.args.sql.now [] mid now was.0) some (on c.args.sql.now [] was.0 was.1) in
-      let same = (unchanged_then old (state g.S.Store mid) (state g.S.Store now) was.2 (moved.same late)).0.now_is in
-      let idles = c.requires.idles (omega (arith, c.rows.invariant.1.clean, moved.survives.clean, late)) in
+      let given = subst (GivesOn g.S.Store c.args.sql.now [] mid now was.0) some
+      (on c.args.sql.now [] was.0 was.1) in
+      let same = (unchanged_then old (state g.S.Store mid) (state g.S.Store now) was.2
+      (moved.same late)).0.now_is in
+      let idles = c.requires.idles (omega
+      (arith, c.rows.invariant.1.clean, moved.survives.clean, late)) in
       let tables = ap (λ (d : Database). d.schema) same ∙ idles.tables in
-      begins_with c.args.sql.now (state g.S.Store now) old.now _ same tables c.requires.plain c.requires.unlisted (given_begin g.S.Store c.args.sql.now [] now _ given) (c.in-Err.ensures.refused was.0 was.3),
+      begins_with c.args.sql.now (state g.S.Store now) old.now _ same tables c.requires.plain
+      c.requires.unlisted (given_begin g.S.Store c.args.sql.now [] now _ given)
+      (c.in-Err.ensures.refused was.0 was.3),
 )
 
 pub returns-clause-met : goal.returns-clause-met
@@ -126,5 +165,7 @@ returns-clause-met g c = (
       let same = was.2.0.now_is in
       let idles = c.requires.idles (omega (arith, c.rows.invariant.1.clean, late)) in
       let tables = ap (λ (d : Database). d.schema) same ∙ idles.tables in
-      begins_with c.args.sql.now (state g.S.Store mid) old.now was.0 same tables c.requires.plain c.requires.unlisted (given_begin g.S.Store c.args.sql.now [] mid was.0 was.1) (inr (omega (arith, was.4, c.rows-test.false))),
+      begins_with c.args.sql.now (state g.S.Store mid) old.now was.0 same tables c.requires.plain
+      c.requires.unlisted (given_begin g.S.Store c.args.sql.now [] mid was.0 was.1)
+      (inr (omega (arith, was.4, c.rows-test.false))),
 )

@@ -10,4 +10,7 @@ abbrev pub invariant-rows : goal.invariant-rows
 invariant-rows g l =
     let old = state g.S.Store l.fn.conn in
     let now = state g.S.Store l.rows.conn.now in
-    (l.rows.conn.ghost_name ≡ l.initial.rows.conn.ghost_name) × Survives old now (λ _. ⊥) × (HasCleanDisk now → (given : List Row) × HasGiven g.S.Store l.fn.sql [] l.rows.conn.now given × IsUnchanged old now × HasRisen given l.ids × (length given ≡ l.gone))
+    (l.rows.conn.ghost_name ≡ l.initial.rows.conn.ghost_name) × Survives old now (λ _. ⊥)
+    × (HasCleanDisk now → (given : List Row)
+    × HasGiven g.S.Store l.fn.sql [] l.rows.conn.now given × IsUnchanged old now
+    × HasRisen given l.ids × (length given ≡ l.gone))

@@ -11,7 +11,8 @@ returns-in-Ok-Ok g c =
     let e = c.in-Ok-Ok.ensures in
     record {
       answer = λ clean. rw c.in-Ok-Ok.field-0-is at (e.counted clean);
-      kept = λ clean ok. let idles = c.requires.idles (omega (arith, e.crash.clean, clean)) in stays_of old new idles (holds_as old new (rests_of old idles) (e.same clean));
+      kept = λ clean ok. let idles = c.requires.idles (omega (arith, e.crash.clean, clean)) in
+          stays_of old new idles (holds_as old new (rests_of old idles) (e.same clean));
       met = tt;
       crash = e.crash;
     }

@@ -19,5 +19,6 @@ returns g c =
     (λ clean fit none told.
     let early = c.requires.idles (omega (arith, c.shows_none.ensures.crash.clean, clean)) in
     let filled = c.requires.filled (omega (arith, c.shows_none.ensures.crash.clean, clean)) in
-    vectors_fit_of old.now early.tables (c.schema-schema.ensures.live early.is_open).0 (filled_cells filled.0 old.now.trees filled.2) (none told))
+    vectors_fit_of old.now early.tables (c.schema-schema.ensures.live early.is_open).0
+    (filled_cells filled.0 old.now.trees filled.2) (none told))
     c.shows_none.ensures

@@ -14,4 +14,6 @@ pub returns : goal.returns
 returns g c =
     let old = state g.S.Store c.args.conn.now in
     let new = state g.S.Store c.ids_in.new.conn in
-    asked_as old new c.ids_in.result _ _ (λ clean n counts. vectors_held_of old.now (c.requires.idles (omega (arith, c.ids_in.ensures.crash.clean, clean))).tables n counts) c.ids_in.ensures
+    asked_as old new c.ids_in.result _ _ (λ clean n counts.
+    vectors_held_of old.now (c.requires.idles
+    (omega (arith, c.ids_in.ensures.crash.clean, clean))).tables n counts) c.ids_in.ensures

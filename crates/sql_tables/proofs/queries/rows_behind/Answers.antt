@@ -12,4 +12,8 @@ returns g c =
     let old = state g.S.Store c.args.conn.now in
     let new = state g.S.Store c.select.new.conn in
     let asked = c.args.behind.now in
-    asked_as old new c.select.result _ _ (λ clean v shown. finds_since old new asked.origin asked.number asked.count v.items (c.requires (omega (arith, c.select.ensures.crash.clean, clean))).tables (rw (c.params-to_sql.ensures, c.params-to_sql-2.ensures, c.params-to_sql-3.ensures) at shown)) c.select.ensures
+    asked_as old new c.select.result _ _ (λ clean v shown.
+    finds_since old new asked.origin asked.number asked.count v.items
+    (c.requires (omega (arith, c.select.ensures.crash.clean, clean))).tables
+    (rw (c.params-to_sql.ensures, c.params-to_sql-2.ensures, c.params-to_sql-3.ensures) at
+    shown)) c.select.ensures

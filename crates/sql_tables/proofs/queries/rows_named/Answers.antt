@@ -11,4 +11,7 @@ pub returns : goal.returns
 returns g c =
     let old = state g.S.Store c.args.conn.now in
     let new = state g.S.Store c.select.new.conn in
-    asked_as old new c.select.result _ _ (λ clean v shown. finds_named old new c.args.name.now.origin c.args.name.now.number v.items (c.requires (omega (arith, c.select.ensures.crash.clean, clean))).tables (rw (c.params-to_sql.ensures, c.params-to_sql-2.ensures) at shown)) c.select.ensures
+    asked_as old new c.select.result _ _ (λ clean v shown.
+    finds_named old new c.args.name.now.origin c.args.name.now.number v.items
+    (c.requires (omega (arith, c.select.ensures.crash.clean, clean))).tables
+    (rw (c.params-to_sql.ensures, c.params-to_sql-2.ensures) at shown)) c.select.ensures

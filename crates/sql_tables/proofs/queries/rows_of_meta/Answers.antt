@@ -5,10 +5,13 @@ use Rattle.sql_tables.proofs.QueryLemmas.{finds_whose, whose_plain}
 use Rattle.sql_tables.proofs.queries.rows_of_meta.Goals as goal
 
 pub ask-requires-clause-plain : goal.ask-requires-clause-plain
-ask-requires-clause-plain g c clean = whose_plain (state g.S.Store c.args.conn.now).now.schema (c.requires.known clean)
+ask-requires-clause-plain g c clean =
+    whose_plain (state g.S.Store c.args.conn.now).now.schema (c.requires.known clean)
 
 pub returns : goal.returns
 returns g c =
     let old = state g.S.Store c.args.conn.now in
     let new = state g.S.Store c.ask.new.conn in
-    found_as old new c.ask.result _ _ (λ clean v shown. finds_whose old new v.items (c.requires.known (omega (arith, c.ask.ensures.crash.clean, clean))) shown) c.ask.ensures
+    found_as old new c.ask.result _ _ (λ clean v shown.
+    finds_whose old new v.items (c.requires.known
+    (omega (arith, c.ask.ensures.crash.clean, clean))) shown) c.ask.ensures

@@ -13,27 +13,37 @@ use Rattle.sql_tables.proofs.QueryLemmas.{leaves_all}
 use Rattle.sql_tables.proofs.WriteLemmas.{fails_query}
 use Rattle.sql_tables.proofs.statements.rows_of.Goals as goal
 
-kept : (sql : List ℕ) (params : Row) (old new : State) (r : Result (Vec Row Global) Error) → IsPlain (understood old.now.schema sql) → IfOk r (λ rows. Shown sql params old new rows.items) → OnOk r (IsUnchanged old new)
+kept : (sql : List ℕ) (params : Row) (old new : State) (r : Result (Vec Row Global) Error)
+    → IsPlain (understood old.now.schema sql) → IfOk r (λ rows. Shown sql params old new rows.items)
+    → OnOk r (IsUnchanged old new)
 kept sql params old new (Ok rows) plain h = leaves_all sql params old new rows.items plain h
 kept sql params old new (Err e) plain h = tt
 
-failed : (sql : List ℕ) (params : Row) (old new : State) (r : Result (Vec Row Global) Error) → IsPlain (understood old.now.schema sql) → IsOpenAndIdle old → IfErr r (FailsToQuery sql params old new) → IfErr r (λ _. IsTrue new.is_open → Holds old new)
+failed : (sql : List ℕ) (params : Row) (old new : State) (r : Result (Vec Row Global) Error)
+    → IsPlain (understood old.now.schema sql) → IsOpenAndIdle old
+    → IfErr r (FailsToQuery sql params old new) → IfErr r (λ _. IsTrue new.is_open → Holds old new)
 failed sql params old new (Ok rows) plain was h = tt
-failed sql params old new (Err e) plain was h = λ is_open. fails_query sql params old new e plain was is_open h
+failed sql params old new (Err e) plain was h =
+    λ is_open. fails_query sql params old new e plain was is_open h
 
 pub returns-clause-same : goal.returns-clause-same
 returns-clause-same g c clean =
     let old = state g.S.Store c.args.conn.now in
     let early : HasCleanDisk old = omega (arith, c.query_all.ensures.survives.clean, clean) in
-    kept c.args.sql.now _ old (state g.S.Store c.query_all.new.self) c.query_all.result (c.requires.plain early) (c.query_all.ensures.ok clean)
+    kept c.args.sql.now _ old (state g.S.Store c.query_all.new.self) c.query_all.result
+    (c.requires.plain early) (c.query_all.ensures.ok clean)
 
 pub returns-clause-refused : goal.returns-clause-refused
 returns-clause-refused g c clean =
     let old = state g.S.Store c.args.conn.now in
     let early : HasCleanDisk old = omega (arith, c.query_all.ensures.survives.clean, clean) in
-    failed c.args.sql.now _ old (state g.S.Store c.query_all.new.self) c.query_all.result (c.requires.plain early) (c.requires.rests early) (c.query_all.ensures.err clean)
+    failed c.args.sql.now _ old (state g.S.Store c.query_all.new.self) c.query_all.result
+    (c.requires.plain early) (c.requires.rests early) (c.query_all.ensures.err clean)
 
 pub returns-clause-crash : goal.returns-clause-crash
 returns-clause-crash g c =
     let old = state g.S.Store c.args.conn.now in
-    survives_weaker old (state g.S.Store c.query_all.new.self) _ _ (λ clean db. never_commits c.args.sql.now _ old db (c.requires.plain (omega (arith, c.query_all.ensures.survives.clean, clean)))) c.query_all.ensures.survives
+    survives_weaker old (state g.S.Store c.query_all.new.self) _ _
+    (λ clean db. never_commits c.args.sql.now _ old db
+    (c.requires.plain (omega (arith, c.query_all.ensures.survives.clean, clean))))
+    c.query_all.ensures.survives

@@ -6,10 +6,14 @@ use Rattle.sql_tables.proofs.AskLemmas.{asked_of, rests_of}
 use Rattle.sql_tables.proofs.statements.select.Goals as goal
 
 pub ask-requires-clause-rests : goal.ask-requires-clause-rests
-ask-requires-clause-rests g c clean = rests_of (state g.S.Store c.args.conn.now) (c.requires.idles clean)
+ask-requires-clause-rests g c clean =
+    rests_of (state g.S.Store c.args.conn.now) (c.requires.idles clean)
 
 pub ask-requires-clause-plain : goal.ask-requires-clause-plain
-ask-requires-clause-plain g c clean = subst (λ d. IsPlain (understood d c.args.sql.now)) (sym (c.requires.idles clean).tables) c.requires.plain
+ask-requires-clause-plain g c clean =
+    subst (λ d. IsPlain (understood d c.args.sql.now))
+    (sym (c.requires.idles clean).tables) c.requires.plain
 
 pub returns : goal.returns
-returns g c = asked_of (state g.S.Store c.args.conn.now) (state g.S.Store c.ask.new.conn) c.ask.result _ c.requires.idles c.ask.ensures
+returns g c = asked_of (state g.S.Store c.args.conn.now)
+    (state g.S.Store c.ask.new.conn) c.ask.result _ c.requires.idles c.ask.ensures

@@ -13,9 +13,12 @@ returns g c =
     let r = c.args.r.now in
     record {
       answer = λ clean first.
-          let empty : c.in_ok-rows.rows.items ≡ [] = (rw c.deref.ensures.value at c.are_none.ensures) first in
-          none_at old (state g.S.Store c.select.new.conn) r.node.items r.time r.pico c.in_ok-rows.rows.items (c.requires (omega (arith, e.crash.clean, clean))).tables
-          (rw (c.params-to_sql.ensures, c.params-to_sql-2.ensures, c.params-to_sql-3.ensures) at (e.answer clean)) empty;
+          let empty : c.in_ok-rows.rows.items ≡ [] =
+          (rw c.deref.ensures.value at c.are_none.ensures) first in
+          none_at old (state g.S.Store c.select.new.conn) r.node.items r.time r.pico
+          c.in_ok-rows.rows.items (c.requires (omega (arith, e.crash.clean, clean))).tables
+          (rw (c.params-to_sql.ensures, c.params-to_sql-2.ensures, c.params-to_sql-3.ensures) at
+          (e.answer clean)) empty;
       kept = λ clean ok. e.kept clean refl;
       met = tt;
       crash = e.crash;

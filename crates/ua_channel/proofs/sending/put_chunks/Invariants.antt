@@ -6,8 +6,10 @@ use Rattle.ua_channel.proofs.sending.put_chunks.Given as goal
 abbrev pub invariant-loop-piece : goal.invariant-loop-piece
 invariant-loop-piece l = record {
   kept : take (length l.initial.out.items) l.out.items ≡ l.initial.out.items;
-  bytes : l.out.items ++ chunks_of l.token l.request_id l.number l.pieces ≡ l.initial.out.items ++ chunks_of l.token l.request_id l.initial.number l.initial.pieces;
-  next : number_after l.number (length l.pieces) ≡ number_after l.initial.number (length l.initial.pieces);
+  bytes : l.out.items ++ chunks_of l.token l.request_id l.number l.pieces
+      ≡ l.initial.out.items ++ chunks_of l.token l.request_id l.initial.number l.initial.pieces;
+  next : number_after l.number (length l.pieces)
+      ≡ number_after l.initial.number (length l.initial.pieces);
   short : AreShort 4294967271 l.pieces;
   number : IsNumber l.number;
   can_next : (goal.iterator-loop-piece).can_next l.pieces;

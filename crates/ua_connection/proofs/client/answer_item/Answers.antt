@@ -82,7 +82,7 @@ pub returns-in-Message-clause-answered : goal.returns-in-Message-clause-answered
 returns-in-Message-clause-answered g c client =
     let a = g.A.Archive.state c.args.server.now.replica.archive in
     let b = g.A.Archive.state c.respond.new.server.replica.archive in
-    let site = site_of c.args.server.now.settings a in
+    let config = site_of c.args.server.now.settings a in
     let sessions = c.args.sessions.now in
     let out = c.args.out.now.items in
     let after = c.respond.new.out.items in
@@ -92,20 +92,20 @@ returns-in-Message-clause-answered g c client =
     let next = client_after client c.respond.result
     (Some c.respond.new.channel) c.respond.new.sessions in
     let P : ℤ → Type 0 = λ time. (used : _)
-    × Answered a b (λ R. responded site
+    × Answered a b (λ R. responded config
     (standing_of client sessions R) c.args.channel.now c.in-Message.request_id
     c.as_slice.result.now (record { 0 = time })) (marked used) out after end next in
     let Q : List ℕ → Type 0 = λ message. (used : _)
-    × Answered a b (λ R. responded site
+    × Answered a b (λ R. responded config
     (standing_of client sessions R) c.args.channel.now c.in-Message.request_id message
     (record { 0 = now })) (marked used) out after end next in
     let h = subst Q c.as_slice.ensures (subst P (to_z-of_z w64 now fits)
     (c.respond.ensures.answered client)) in
     let T : Taken → Type 0 = λ t. Answered a b (λ R.
-    answer_to_taken site (standing_of client sessions R) c.args.channel.now t)
+    answer_to_taken config (standing_of client sessions R) c.args.channel.now t)
     (before (read now) (marked h.0)) out after end next in
     let f : Content → Ticks → Answering =
-    λ R t. responded site (standing_of client sessions R) c.args.channel.now
+    λ R t. responded config (standing_of client sessions R) c.args.channel.now
     c.in-Message.request_id c.in-Message.message t in (
       before (read now) (marked h.0),
       c.now-in-Message.ensures,

@@ -14,16 +14,16 @@ pub returns-in-Ok-send_fitting-clause-answered : goal.returns-in-Ok-send_fitting
 returns-in-Ok-send_fitting-clause-answered g c client =
     let done = c.in-Ok.ensures.answers in
     let state = g.A.Archive.state in
-    let site = site_of c.args.server.now.settings (state c.args.server.now.replica.archive) in
+    let config = site_of c.args.server.now.settings (state c.args.server.now.replica.archive) in
     let P : Result Request Status → Type 0 =
     λ r. Refines (state c.args.server.now.replica.archive)
     (state c.answer_message.new.server.replica.archive) done.0
-    (answered_request site c.args.message.now r c.args.sessions.now)
+    (answered_request config c.args.message.now r c.args.sessions.now)
     (done.1, c.answer_message.new.sessions) in
     let handle : c.handle-handle.result ≡ handle_of c.args.message.bytes.now =
     c.handle-handle.ensures ∙ c.read-request.ensures.handle in
     sends-response (state c.args.server.now.replica.archive)
-    (state c.answer_message.new.server.replica.archive) site client c.args.sessions.now
+    (state c.answer_message.new.server.replica.archive) config client c.args.sessions.now
     c.args.channel.now c.send_fitting.new.channel c.args.message.request_id
     c.args.message.bytes.now c.args.message.now c.handle-handle.result
     done.0 done.1 c.answer_message.new.sessions c.args.out.now.items c.send_fitting.new.out.items
@@ -36,11 +36,11 @@ pub returns-in-Err-send_fitting-clause-answered : goal.returns-in-Err-send_fitti
 returns-in-Err-send_fitting-clause-answered g c client =
     let done = c.answer_message.ensures.answers in
     let state = g.A.Archive.state in
-    let site = site_of c.args.server.now.settings (state c.args.server.now.replica.archive) in
+    let config = site_of c.args.server.now.settings (state c.args.server.now.replica.archive) in
     let R : Result Request Status → Type 0 =
     λ r. Refines (state c.args.server.now.replica.archive)
     (state c.answer_message.new.server.replica.archive) done.0
-    (answered_request site c.args.message.now r c.args.sessions.now)
+    (answered_request config c.args.message.now r c.args.sessions.now)
     (done.1, c.answer_message.new.sessions) in
     let is : c.handle-handle.result ≡ handle_of c.args.message.bytes.now =
     c.handle-handle.ensures ∙ c.read-request.ensures.handle in
@@ -54,7 +54,7 @@ returns-in-Err-send_fitting-clause-answered g c client =
     λ s. SendsTurn s c.args.message.request_id body c.send_starved.result
     c.send_fitting.new.out.items c.send_starved.new.out.items c.send_starved.new.channel in
     sends-starved (state c.args.server.now.replica.archive)
-    (state c.answer_message.new.server.replica.archive) site client c.args.sessions.now
+    (state c.answer_message.new.server.replica.archive) config client c.args.sessions.now
     c.args.channel.now c.send_starved.new.channel c.args.message.request_id
     c.args.message.bytes.now c.args.message.now handle
     done.0 (done.1, c.answer_message.new.sessions) c.args.out.now.items c.send_starved.new.out.items
@@ -65,16 +65,16 @@ pub returns-in-Err-clause-answered : goal.returns-in-Err-clause-answered
 returns-in-Err-clause-answered g c client =
     let done = c.answer_message.ensures.answers in
     let state = g.A.Archive.state in
-    let site = site_of c.args.server.now.settings (state c.args.server.now.replica.archive) in
+    let config = site_of c.args.server.now.settings (state c.args.server.now.replica.archive) in
     let R : Result Request Status → Type 0 =
     λ r. Refines (state c.args.server.now.replica.archive)
     (state c.answer_message.new.server.replica.archive) done.0
-    (answered_request site c.args.message.now r c.args.sessions.now)
+    (answered_request config c.args.message.now r c.args.sessions.now)
     (done.1, c.answer_message.new.sessions) in
     let is : c.handle-handle.result ≡ handle_of c.args.message.bytes.now =
     c.handle-handle.ensures ∙ c.read-request.ensures.handle in
     sends-starved (state c.args.server.now.replica.archive)
-    (state c.answer_message.new.server.replica.archive) site client c.args.sessions.now
+    (state c.answer_message.new.server.replica.archive) config client c.args.sessions.now
     c.args.channel.now c.send_starved-in-Err.new.channel c.args.message.request_id
     c.args.message.bytes.now c.args.message.now c.handle-handle.result
     done.0 (done.1, c.answer_message.new.sessions) c.args.out.now.items

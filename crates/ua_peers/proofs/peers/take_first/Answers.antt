@@ -1,4 +1,4 @@
-use Rattle.ua_peers.proofs.Talking.{first-none, leaves-none, first-some, leaves-some, first-ill}
+use Rattle.ua_peers.proofs.Talking.{first-none, leaves-none, first-some, leaves-some, first-malformed}
 use Rattle.ua_peers.proofs.peers.take_first.Goals as goal
 
 pub returns-in-Ok-None-clause-talks : goal.returns-in-Ok-None-clause-talks
@@ -34,7 +34,8 @@ returns-in-Ok-Some-clause-leaves g c =
 
 pub returns-in-Err-clause-talks : goal.returns-in-Err-clause-talks
 returns-in-Err-clause-talks g c =
-    first-ill (g.A.Archive.state c.args.replica.now.archive) c.args.dialog.now c.args.frames.now
+    first-malformed (g.A.Archive.state c.args.replica.now.archive) c.args.dialog.now
+    c.args.frames.now
     c.next_frame.follows.lender-at-none _ c.refuse_bytes.result c.refuse_bytes.new.out.items
     c.requires.sound c.in-Err.ensures.value c.next_frame.follows.holds-at-none
     c.refuse_bytes.ensures

@@ -9,5 +9,8 @@ use Rattle.ua_services.proofs.attributes.data_values_size.Goals as goal
 
 pub returns : goal.returns
 returns c =
-    let all : take c.loop-value.value-index c.args.values.now ≡ c.args.values.now = take_all _ _ c.loop-value-test.false in
-    rw (array_length variant_fault data_value c.args.values.now) (subst (λ vs. c.loop-value.size ≡ saturated (4 + length (flat_map data_value.canon vs))) all c.loop-value.invariant)
+    let all : take c.loop-value.value-index c.args.values.now ≡ c.args.values.now =
+    take_all _ _ c.loop-value-test.false in
+    rw (array_length variant_fault data_value c.args.values.now)
+    (subst (λ vs. c.loop-value.size ≡ saturated (4 + length (flat_map data_value.canon vs))) all
+    c.loop-value.invariant)

@@ -5,4 +5,5 @@ use Rattle.ua_variant.specs.DataValue.{data_value}
 use Rattle.ua_services.proofs.attributes.data_values_size.Given as goal
 
 abbrev pub invariant-loop-value : goal.invariant-loop-value
-invariant-loop-value l = l.size ≡ saturated (4 + length (flat_map data_value.canon (take l.value-index l.values)))
+invariant-loop-value l = l.size ≡ saturated (4
+    + length (flat_map data_value.canon (take l.value-index l.values)))

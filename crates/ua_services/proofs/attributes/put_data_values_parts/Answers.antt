@@ -9,11 +9,18 @@ use Rattle.ua_services.proofs.attributes.put_data_values_parts.Goals as goal
 
 pub returns-clause-spelled : goal.returns-clause-spelled
 returns-clause-spelled c =
-    let all : take c.loop-value.value-index c.args.values.now ≡ c.args.values.now = take_all _ _ c.loop-value-test.false in
-    (c.requires.0, recursion_from_All data_value.Fits c.args.values.now (subst (λ vs. All data_value.Fits vs) all c.loop-value.invariant.spelled))
+    let all : take c.loop-value.value-index c.args.values.now ≡ c.args.values.now =
+    take_all _ _ c.loop-value-test.false in (
+      c.requires.0,
+      recursion_from_All data_value.Fits c.args.values.now
+          (subst (λ vs. All data_value.Fits vs) all c.loop-value.invariant.spelled),
+    )
 
 pub loop-value-preserved : goal.loop-value-preserved
 loop-value-preserved c = record {
   puts = grind (arith, common_steps);
-  spelled = All-more data_value.Fits c.args.values.now c.loop-value.value-index c.value-item.result c.loop-value-test.true c.loop-value.invariant.spelled (subst data_value.Fits c.value-item.is (data_fits _ (c.in_ok-put_data_value.ensures.spelled)));
+  spelled = All-more data_value.Fits c.args.values.now c.loop-value.value-index c.value-item.result
+      c.loop-value-test.true c.loop-value.invariant.spelled
+      (subst data_value.Fits c.value-item.is (data_fits _
+      (c.in_ok-put_data_value.ensures.spelled)));
 }

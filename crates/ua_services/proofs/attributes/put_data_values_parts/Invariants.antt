@@ -7,6 +7,7 @@ use Rattle.ua_services.proofs.attributes.put_data_values_parts.Given as goal
 
 abbrev pub invariant-loop-value : goal.invariant-loop-value
 invariant-loop-value l = record {
-  puts : l.out.items ≡ l.fn.out.items ++ ((signed w32).canon (pos (length l.values)) ++ flat_map data_value.canon (take l.value-index l.values));
+  puts : l.out.items ≡ l.fn.out.items ++ ((signed w32).canon (pos (length l.values))
+      ++ flat_map data_value.canon (take l.value-index l.values));
   spelled : All data_value.Fits (take l.value-index l.values);
 }

@@ -7,6 +7,7 @@ use Rattle.ua_services.proofs.history.put_history_results_parts.Given as goal
 
 abbrev pub invariant-loop-v : goal.invariant-loop-v
 invariant-loop-v l = record {
-  puts : l.out.items ≡ l.fn.out.items ++ ((signed w32).canon (pos (length l.results)) ++ flat_map history_read_result.canon (map history_fields (take l.v-index l.results)));
+  puts : l.out.items ≡ l.fn.out.items ++ ((signed w32).canon (pos (length l.results))
+      ++ flat_map history_read_result.canon (map history_fields (take l.v-index l.results)));
   spelled : All (λ r. history_read_result.Fits (history_fields r)) (take l.v-index l.results);
 }

@@ -15,6 +15,7 @@ pub returns : goal.returns
 returns c =
     let over : length c.items-values.result.now ≤ c.loop-value.value-index = omega arith in
     c.loop-value.invariant
-    ∙ ap (filter_map (λ value. as_table (view value))) (take_all c.loop-value.value-index c.items-values.result.now over)
+    ∙ ap (filter_map (λ value. as_table (view value)))
+    (take_all c.loop-value.value-index c.items-values.result.now over)
     ∙ tables_of_values c.items-values.result.now
     ∙ ap (filter_map as_table) c.items-values.ensures

@@ -8,5 +8,7 @@ use Rattle.ua_settings.proofs.reading.folders_of.Goals as goal
 pub returns : goal.returns
 returns c =
     subst (λ list. IfOk c.read_folders.result (λ folders. map folder_of folders.items ≡ list))
-    (sym (map_twice folder_in (λ table. table_view table.now) c.as_slice.result.now) ∙ ap (map folder_in) (ap (map (λ table. table_view table.now)) c.as_slice.ensures.value ∙ c.in_ok-tables.ensures))
+    (sym (map_twice folder_in (λ table. table_view table.now) c.as_slice.result.now)
+    ∙ ap (map folder_in) (ap (map (λ table. table_view table.now)) c.as_slice.ensures.value
+    ∙ c.in_ok-tables.ensures))
     c.read_folders.ensures

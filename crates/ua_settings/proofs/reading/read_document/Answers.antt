@@ -10,14 +10,23 @@ use Rattle.ua_settings.proofs.reading.read_document.Goals as goal
 pub read_users-requires : goal.read_users-requires
 read_users-requires c =
     all_under (λ table. table_view table.now) IsSoundUser c.as_slice.result.now
-    (subst (AllByRecursion IsSoundUser) (sym (ap (map (λ table. table_view table.now)) c.as_slice.ensures.value ∙ c.in_ok-tables.ensures)) c.requires.users)
+    (subst (AllByRecursion IsSoundUser) (sym
+    (ap (map (λ table. table_view table.now)) c.as_slice.ensures.value
+    ∙ c.in_ok-tables.ensures)) c.requires.users)
 
 pub returns : goal.returns
 returns c =
     let same_archive = ap (λ table. unwrap_or table no_members) c.in-Some.ensures in
     let same_server = ap (λ table. unwrap_or table no_members) c.in-Some-table_at.ensures in
-    let tables = ap (map (λ table. table_view table.now)) c.as_slice.ensures.value ∙ c.in_ok-tables.ensures in
-    let named = sym (map_twice user_in (λ table. table_view table.now) c.as_slice.result.now) ∙ ap (map user_in) tables in
-    accepted (table_view c.args.document.now) (table_view c.in-Some.archive.now) (table_view c.in-Some-table_at.server.now) c.in_ok-users.users c.in_ok-space.space c.settings_of.result same_archive same_server
-    (c.in_ok-users.ensures.ok ∙ users_same (table_view c.args.document.now) (table_view c.in-Some-table_at.server.now) c.truth.result (map (λ user. user_in (table_view user.now)) c.as_slice.result.now) same_server c.truth.ensures named)
+    let tables = ap (map (λ table. table_view table.now)) c.as_slice.ensures.value
+    ∙ c.in_ok-tables.ensures in
+    let named = sym (map_twice user_in (λ table. table_view table.now) c.as_slice.result.now)
+    ∙ ap (map user_in) tables in
+    accepted (table_view c.args.document.now) (table_view c.in-Some.archive.now)
+    (table_view c.in-Some-table_at.server.now) c.in_ok-users.users c.in_ok-space.space
+    c.settings_of.result same_archive same_server
+    (c.in_ok-users.ensures.ok ∙ users_same (table_view c.args.document.now)
+    (table_view c.in-Some-table_at.server.now) c.truth.result
+    (map (λ user. user_in (table_view user.now)) c.as_slice.result.now) same_server
+    c.truth.ensures named)
     c.in_ok-space.ensures c.settings_of.ensures.ok c.settings_of.ensures.err

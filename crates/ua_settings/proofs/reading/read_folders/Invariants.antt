@@ -5,4 +5,5 @@ use Rattle.ua_settings.specs.Reading.{folder_in}
 use Rattle.ua_settings.proofs.reading.read_folders.Given as goal
 
 abbrev pub invariant-loop-table : goal.invariant-loop-table
-invariant-loop-table l = map folder_of l.folders.items ≡ map (λ folder. folder_in (table_view folder.now)) (take l.table-index l.tables)
+invariant-loop-table l = map folder_of l.folders.items
+    ≡ map (λ folder. folder_in (table_view folder.now)) (take l.table-index l.tables)

@@ -4,4 +4,8 @@ use Rattle.ua_settings.proofs.ReadingParts.{user_in}
 use Rattle.ua_settings.proofs.reading.read_users.Given as goal
 
 abbrev pub invariant-loop-table : goal.invariant-loop-table
-invariant-loop-table l = l.users ≡ record { anonymous = l.anonymous; named = map (λ user. user_in (table_view user.now)) (take l.table-index l.tables) }
+invariant-loop-table l = l.users ≡ record {
+  anonymous = l.anonymous;
+  named =
+      map (λ user. user_in (table_view user.now)) (take l.table-index l.tables);
+}

@@ -8,5 +8,7 @@ use Rattle.ua_settings.proofs.reading.variables_of.Goals as goal
 pub returns : goal.returns
 returns c =
     subst (λ list. IfOk c.read_variables.result (λ variables. map entry_of variables.items ≡ list))
-    (sym (map_twice variable_in (λ table. table_view table.now) c.as_slice.result.now) ∙ ap (map variable_in) (ap (map (λ table. table_view table.now)) c.as_slice.ensures.value ∙ c.in_ok-tables.ensures))
+    (sym (map_twice variable_in (λ table. table_view table.now) c.as_slice.result.now)
+    ∙ ap (map variable_in) (ap (map (λ table. table_view table.now)) c.as_slice.ensures.value
+    ∙ c.in_ok-tables.ensures))
     c.read_variables.ensures

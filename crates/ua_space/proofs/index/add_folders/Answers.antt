@@ -5,5 +5,9 @@ use Rattle.ua_space.proofs.index.add_folders.Goals as goal
 
 pub loop-i-preserved : goal.loop-i-preserved
 loop-i-preserved c =
-    let id = c.in_ok-id.ensures.ok ∙ c.as_str.ensures.same ∙ ap (λ (l : List Folder). (get_or l (c.loop-i.i - 1) c.index-folders-i.result).id) c.as_slice-folders.ensures in
-    more_folders c.args.layout.now c.loop-i.places c.insert.new.self c.in_ok-id.id (c.loop-i.i - 1) c.loop-i.i c.index-folders-i.result (search rules) (search rules) id c.in_ok-insert.ensures.updates c.loop-i.invariant
+    let id = c.in_ok-id.ensures.ok ∙ c.as_str.ensures.same
+    ∙ ap (λ (l : List Folder). (get_or l (c.loop-i.i - 1) c.index-folders-i.result).id)
+    c.as_slice-folders.ensures in
+    more_folders c.args.layout.now c.loop-i.places c.insert.new.self c.in_ok-id.id
+    (c.loop-i.i - 1) c.loop-i.i c.index-folders-i.result (search rules)
+    (search rules) id c.in_ok-insert.ensures.updates c.loop-i.invariant

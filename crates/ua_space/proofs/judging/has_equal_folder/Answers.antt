@@ -8,9 +8,20 @@ use Rattle.ua_space.proofs.judging.has_equal_folder.Goals.{then-has_folder-via-t
 pub returns-then-has_folder : goal.returns-then-has_folder
 returns-then-has_folder c =
     elim c.then-has_folder.branch [
-      | then-has_folder-via-then-has_folder w ↦ equal_later folder_id (map variable_id c.args.variables.now) _ c.loop-i.i _ _ _ (search rules) c.loop-i.invariant c.has_folder.ensures w.if-has_folder.true (λ d. ap folder_id (get_or_default _ c.loop-i.i _ d (search rules)))
-      | then-has_folder-via-else-has_folder+then-has_variable w ↦ equal_behind folder_id (map variable_id c.args.variables.now) _ c.loop-i.i _ _ _ _ (search rules) c.loop-i.invariant c.has_folder.ensures w.if-has_folder.false (w.has_variable.ensures ∙ sym (list_any-map _ variable_id c.args.variables.now)) w.if-has_variable.true (λ d. ap folder_id (get_or_default _ c.loop-i.i _ d (search rules)))
+      | then-has_folder-via-then-has_folder w ↦
+          equal_later folder_id (map variable_id c.args.variables.now) _ c.loop-i.i _ _ _
+          (search rules) c.loop-i.invariant c.has_folder.ensures w.if-has_folder.true
+          (λ d. ap folder_id (get_or_default _ c.loop-i.i _ d (search rules)))
+      | then-has_folder-via-else-has_folder+then-has_variable w ↦
+          equal_behind folder_id (map variable_id c.args.variables.now) _ c.loop-i.i _ _ _ _
+          (search rules) c.loop-i.invariant c.has_folder.ensures w.if-has_folder.false
+          (w.has_variable.ensures ∙ sym (list_any-map _ variable_id c.args.variables.now))
+          w.if-has_variable.true (λ d.
+          ap folder_id (get_or_default _ c.loop-i.i _ d (search rules)))
     ]
 
 pub loop-i-preserved : goal.loop-i-preserved
-loop-i-preserved c = equal_on folder_id (map variable_id c.args.variables.now) _ c.loop-i.i _ _ _ _ (search rules) c.loop-i.invariant c.has_folder.ensures c.if-has_folder.false (c.has_variable.ensures ∙ sym (list_any-map _ variable_id c.args.variables.now)) c.if-has_variable.false (λ d. ap folder_id (get_or_default _ c.loop-i.i _ d (search rules)))
+loop-i-preserved c = equal_on folder_id (map variable_id c.args.variables.now) _ c.loop-i.i _ _ _ _
+    (search rules) c.loop-i.invariant c.has_folder.ensures c.if-has_folder.false
+    (c.has_variable.ensures ∙ sym (list_any-map _ variable_id c.args.variables.now))
+    c.if-has_variable.false (λ d. ap folder_id (get_or_default _ c.loop-i.i _ d (search rules)))

@@ -4,4 +4,5 @@ use Rattle.ua_space.proofs.PlanParts.{variable_id}
 use Rattle.ua_space.proofs.judging.has_equal_variable.Given as goal
 
 abbrev pub invariant-loop-i : goal.invariant-loop-i
-invariant-loop-i l = have_equal (map variable_id l.variables) ≡ have_equal (map variable_id (drop l.i l.variables))
+invariant-loop-i l = have_equal (map variable_id l.variables)
+    ≡ have_equal (map variable_id (drop l.i l.variables))

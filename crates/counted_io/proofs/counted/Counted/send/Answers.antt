@@ -13,9 +13,15 @@ pub returns-in_err-n-clause-part : goal.returns-in_err-n-clause-part
 returns-in_err-n-clause-part g c =
     let sent = take c.loop-sent.sent c.args.bytes.now in
     let contents = g.W.Write.contents in
-    let both = Appends-trans (contents c.args.self.now.inner) (contents c.loop-sent.self.inner) (contents c.write_some.new.self.inner) sent [] c.loop-sent.invariant.written c.in_err-n.ensures.none in
-    on_err c.from_residual.result
-    (sent, drop c.loop-sent.sent c.args.bytes.now, sym (take-append-drop c.loop-sent.sent c.args.bytes.now), rw append-nil at both)
+    let both = Appends-trans (contents c.args.self.now.inner) (contents c.loop-sent.self.inner)
+    (contents c.write_some.new.self.inner) sent [] c.loop-sent.invariant.written
+    c.in_err-n.ensures.none in
+    on_err c.from_residual.result (
+      sent,
+      drop c.loop-sent.sent c.args.bytes.now,
+      sym (take-append-drop c.loop-sent.sent c.args.bytes.now),
+      rw append-nil at both,
+    )
 
 -- what is left of the bytes is all of them from there on
 left : (bytes : List ℕ) (sent : ℕ) → take (length bytes - sent) (drop sent bytes) ≡ drop sent bytes
@@ -34,5 +40,6 @@ loop-sent-preserved g c =
       within = omega (arith, within.1, length-drop sent bytes, c.loop-sent-test.true);
       faults = c.in_ok-n.ensures.faults ∙ c.loop-sent.invariant.faults;
       written = rw (take-add sent n bytes)
-          (Appends-trans (contents c.args.self.now.inner) (contents c.loop-sent.self.inner) (contents c.write_some.new.self.inner) _ _ c.loop-sent.invariant.written written);
+          (Appends-trans (contents c.args.self.now.inner) (contents c.loop-sent.self.inner)
+          (contents c.write_some.new.self.inner) _ _ c.loop-sent.invariant.written written);
     }

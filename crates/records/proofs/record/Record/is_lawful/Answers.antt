@@ -18,6 +18,7 @@ returns c =
     let origin : IsReplica c.args.self.now.origin = search rules in
     let said = c.size-size.ensures in (
       λ t. let small = leb-true _ _ t in
-          lawful_by c.args.self.now origin fits utf8 said.node_short said.node_spelled said.value_short said.value_spelled limits (omega (arith, said.counted, small)),
+          lawful_by c.args.self.now origin fits utf8 said.node_short said.node_spelled
+          said.value_short said.value_spelled limits (omega (arith, said.counted, small)),
       λ l. let small = l.size in le-leb _ _ (omega (arith, said.counted, small)),
     )

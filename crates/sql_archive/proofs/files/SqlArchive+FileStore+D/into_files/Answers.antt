@@ -6,7 +6,12 @@ pub returns-clause-held : goal.returns-clause-held
 returns-clause-held g c clean =
     let same = c.into_connection.ensures in
     let late = c.files_of.ensures.clean clean in
-    left_store (image_of g.D.Disk c.files_of.result) (file_state c.args.self.conn).may_leave c.args.self.id c.args.self.number (rw same at (c.files_of.ensures.holds clean)) (c.tables_stand.ensures.left (rw same at late))
+    left_store (image_of g.D.Disk c.files_of.result)
+    (file_state c.args.self.conn).may_leave c.args.self.id c.args.self.number
+    (rw same at (c.files_of.ensures.holds clean))
+    (c.tables_stand.ensures.left (rw same at late))
 
 pub returns-clause-among : goal.returns-clause-among
-returns-clause-among g c clean = resumes_among (image_of g.D.Disk c.files_of.result) (file_state c.args.self.conn).may_leave (rw c.into_connection.ensures at (c.files_of.ensures.holds clean))
+returns-clause-among g c clean = resumes_among (image_of g.D.Disk c.files_of.result)
+    (file_state c.args.self.conn).may_leave (rw c.into_connection.ensures at
+    (c.files_of.ensures.holds clean))

@@ -16,7 +16,15 @@ returns-in-Ok-make-clause-begins c =
     let own = c.in-Ok-make.ensures.own in
     let clean = memory_is_clean c.in-Ok-make.archive.conn in
     let made = c.in-Ok-make.ensures.made clean in
-    record { id = own.0; own = own.1; honest = clean; whole = own.3; empty = nothing_in (state over_memory c.in-Ok-make.archive.conn).now.trees made.records }
+    record {
+      id = own.0;
+      own = own.1;
+      honest = clean;
+      whole = own.3;
+      empty =
+          nothing_in (state over_memory c.in-Ok-make.archive.conn).now.trees made.records;
+    }
 
 pub returns-clause-refused : goal.returns-clause-refused
-returns-clause-refused c of = c.in-Err-make.ensures.wrong (memory_is_clean c.in-Err-make.field-0-1) (subst IsOfOpening (c.as_told.ensures.met of) of)
+returns-clause-refused c of = c.in-Err-make.ensures.wrong (memory_is_clean c.in-Err-make.field-0-1)
+    (subst IsOfOpening (c.as_told.ensures.met of) of)

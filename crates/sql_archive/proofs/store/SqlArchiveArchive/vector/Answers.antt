@@ -11,12 +11,37 @@ use Rattle.sql_archive.proofs.store.SqlArchiveArchive.vector.Goals as goal
 pub returns-then-self-clause-asks : goal.returns-then-self-clause-asks
 returns-then-self-clause-asks g c =
     let e = c.refuse.ensures in
-    refuses g.S.Store (record { settled = g.met.S.Store.settled; stays = g.met.S.Store.stays; survives = g.met.S.Store.survives }) c.args.self.now c.refuse.new.self c.refuse.result _ e.was e.is e.conn e.number e.id e.faults e.broken e.ended e.met
+    refuses g.S.Store
+    (record {
+      settled = g.met.S.Store.settled;
+      stays = g.met.S.Store.stays;
+      survives =
+          g.met.S.Store.survives;
+    }) c.args.self.now c.refuse.new.self c.refuse.result _ e.was e.is
+    e.conn e.number e.id e.faults e.broken e.ended e.met
 
 pub returns-clause-asks : goal.returns-clause-asks
 returns-clause-asks g c =
-    let a : Kept _ = record { conn = c.self.inside.conn; id = c.self.inside.id; number = c.self.inside.number; numbers = c.self.inside.latest.numbers; tick = c.self.inside.latest.tick; faults = c.self.inside.faults; broken = c.self.inside.broken } in
-    let IsAnswer : Kept _ → List ℕ → Type 0 = λ x v. (replica : ℕ) → number_of v replica ≡ vec (content_in (state g.S.Store x.conn).now.trees) replica in
-    let laws : Laws g.S.Store = record { settled = g.met.S.Store.settled; stays = g.met.S.Store.stays; survives = g.met.S.Store.survives } in
-    subst (λ x. Asks (store_of g.S.Store x) (store_of g.S.Store x) (Ok c.self.inside.latest.numbers) (IsAnswer x)) c.self.view_is
-    (tells g.S.Store laws a c.self.inside.latest.numbers (IsAnswer a) c.self.invariant c.if-self.false (λ clean all. all.remembered.lasts))
+    let a : Kept _ = record {
+      conn = c.self.inside.conn;
+      id = c.self.inside.id;
+      number =
+          c.self.inside.number;
+      numbers = c.self.inside.latest.numbers;
+      tick =
+          c.self.inside.latest.tick;
+      faults = c.self.inside.faults;
+      broken = c.self.inside.broken;
+    } in
+    let IsAnswer : Kept _ → List ℕ → Type 0 = λ x v. (replica : ℕ)
+    → number_of v replica ≡ vec (content_in (state g.S.Store x.conn).now.trees) replica in
+    let laws : Laws g.S.Store = record {
+      settled = g.met.S.Store.settled;
+      stays =
+          g.met.S.Store.stays;
+      survives = g.met.S.Store.survives;
+    } in
+    subst (λ x. Asks (store_of g.S.Store x) (store_of g.S.Store x) (Ok c.self.inside.latest.numbers)
+    (IsAnswer x)) c.self.view_is
+    (tells g.S.Store laws a c.self.inside.latest.numbers
+    (IsAnswer a) c.self.invariant c.if-self.false (λ clean all. all.remembered.lasts))

@@ -41,7 +41,7 @@ pub returns-in-Open-clause-answered : goal.returns-in-Open-clause-answered
 returns-in-Open-clause-answered g c client =
     let a = g.A.Archive.state c.args.server.now.replica.archive in
     let b = g.A.Archive.state c.answer_on_channel.new.server.replica.archive in
-    let site = site_of c.args.server.now.settings a in
+    let config = site_of c.args.server.now.settings a in
     let sessions = c.args.self.now.sessions in
     let left = c.answer_on_channel.new.self.sessions in
     let outer : Client = record client { channel = c.args.self.now.channel } in
@@ -56,10 +56,10 @@ returns-in-Open-clause-answered g c client =
     left in (
       h.0,
       h.1,
-      answered-client a b (λ R. chunk_answer_or_starved site (standing_of outer sessions R) piece)
+      answered-client a b (λ R. chunk_answer_or_starved config (standing_of outer sessions R) piece)
           h.0 out after end inner other
           (behind-channel client c.args.self.now.channel c.answer_on_channel.new.self.channel left
           c.answer_on_channel.result)
-          (tried-other a b site outer inner sessions piece h.0 out after end
+          (tried-other a b config outer inner sessions piece h.0 out after end
           (not_hello c.args.chunk.kind c.in-Open.is) h.2),
     )

@@ -7,5 +7,6 @@ use Rattle.ua_session.proofs.sessions.Sessions.close.Goals as goal
 pub returns : goal.returns
 returns c =
     let token = node_of c.args.token in
-    let at = ap (position (is_named token)) (sym c.deref.ensures.value) ∙ sym c.place_of.ensures ∙ c.in-Some.is in
+    let at = ap (position (is_named token)) (sym c.deref.ensures.value) ∙ sym c.place_of.ensures
+    ∙ c.in-Some.is in
     rw (← c.self.view_is) (closes-one _ token c.in-Some.place _ at c.remove.ensures.items)

@@ -5,9 +5,13 @@ use Rattle.ua_settings.specs.declared.place.Place.{Place}
 use Rattle.ua_settings.specs.Place.{IsLineNumber, IsPlaceOf}
 use Rattle.ua_settings.proofs.place.Place.of.Goals as goal
 
-told_line : {E : Type 0} (document : Option Members) (M : Type 0) (result : Result Place E) → (¬ M → document ≡ None) → IfOk result (λ place. IsLineNumber place × ¬ M) → IfOk result (IsPlaceOf document)
-told_line document M (Ok place) refused told = subst (λ d. IsPlaceOf d place) (sym (refused told.1)) told.0
+told_line : {E : Type 0} (document : Option Members) (M : Type 0) (result : Result Place E)
+    → (¬ M → document ≡ None) → IfOk result (λ place. IsLineNumber place × ¬ M)
+    → IfOk result (IsPlaceOf document)
+told_line document M (Ok place) refused told =
+    subst (λ d. IsPlaceOf d place) (sym (refused told.1)) told.0
 told_line document M (Err e) refused told = tt
 
 pub returns-in-Err : goal.returns-in-Err
-returns-in-Err c = told_line _ (IsMemory c.in-Err.error) c.in_text.result c.in-Err.ensures.refused c.in_text.ensures
+returns-in-Err c = told_line _ (IsMemory c.in-Err.error) c.in_text.result c.in-Err.ensures.refused
+    c.in_text.ensures

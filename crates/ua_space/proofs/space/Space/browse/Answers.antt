@@ -13,6 +13,9 @@ returns-clause-short c =
     let d = browse_fields c.args.description.now in
     let direction = c.in-Some-direction.direction in
     let links = ap (map link_of) c.deref.ensures.value ∙ c.in_ok-links.ensures in
-    let P : List Link → Type 0 = λ links. AreShort (map (shown_reference d.1.1.1.1.1) (filter (is_followed direction d) links)) in
-    starved_short BAD_OUT_OF_MEMORY AreShort (Ok (map (shown_reference d.1.1.1.1.1) (filter (is_followed direction d) (map link_of c.deref.result.now)))) c.tell.result
+    let P : List Link → Type 0 = λ links.
+    AreShort (map (shown_reference d.1.1.1.1.1) (filter (is_followed direction d) links)) in
+    starved_short BAD_OUT_OF_MEMORY AreShort (Ok
+    (map (shown_reference d.1.1.1.1.1) (filter (is_followed direction d)
+    (map link_of c.deref.result.now)))) c.tell.result
     (subst P (sym links) (told_all space d c.self.invariant.0 direction node)) c.tell.ensures

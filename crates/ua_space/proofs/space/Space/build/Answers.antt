@@ -8,7 +8,8 @@ use Rattle.ua_space.proofs.space.Space.build.Goals as goal
 
 pub invariant_of-result : goal.invariant_of-result
 invariant_of-result c =
-    let base = judged_short c.args.plan.now c.judge.result c.in_ok-judge.field-0 c.requires.texts c.requires.ids c.judge.ensures c.in_ok-judge.was in
+    let base = judged_short c.args.plan.now c.judge.result c.in_ok-judge.field-0 c.requires.texts
+    c.requires.ids c.judge.ensures c.in_ok-judge.was in
     let folders = c.in_ok-folders.ensures in
     let variables = c.in_ok-variables.ensures.made in (
       record {

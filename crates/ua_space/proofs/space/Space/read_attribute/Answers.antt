@@ -13,5 +13,8 @@ returns-clause-short c =
     let space = c.self.inside.layout in
     let node = node_of c.in-Some.node in
     let is = sym (ap (option_map node_of) c.in-Some.is) ∙ c.find.ensures in
-    starved_short BAD_OUT_OF_MEMORY IsShortAnswered (ok_or (lookup (nat_eq c.args.attribute) (attributes space node)) BAD_ATTRIBUTE_ID_INVALID) c.attribute.result
-    (attribute_short space node c.args.attribute c.self.invariant.0 (node_short space (id_of_lent c.args.node) node c.self.invariant.0 is)) c.attribute.ensures
+    starved_short BAD_OUT_OF_MEMORY IsShortAnswered
+    (ok_or (lookup (nat_eq c.args.attribute) (attributes space node)) BAD_ATTRIBUTE_ID_INVALID)
+    c.attribute.result
+    (attribute_short space node c.args.attribute c.self.invariant.0
+    (node_short space (id_of_lent c.args.node) node c.self.invariant.0 is)) c.attribute.ensures

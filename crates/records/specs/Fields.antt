@@ -1,4 +1,4 @@
--- Names for the fields of a record's spelling, for the contracts of their readers.
+-- The fields of a spelled record, as its readers and their contracts name them.
 use Rattle.std.specs.Prelude.{ℕ, nat_le, ◌==◌, ℤ, pos, int_le, false, ◌&&◌, List, [], length, Some, None, unwrap_or, if◌then◌else◌}
 use Rattle.std.specs.Int.{w16, w64}
 use Rattle.stamp.specs.Limits.{greatest}
