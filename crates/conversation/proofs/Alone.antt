@@ -27,6 +27,7 @@ use Rattle.conversation.specs.OtherEnds.{ConversationEnding, is_peers, known_by,
 use Rattle.conversation.specs.Receiving.{TakesBytes}
 use Rattle.conversation.specs.Answering.{AnswersFirst, client_ending}
 use Rattle.conversation.specs.Alone.{still_behavior, TakesAll, AnswersStretch}
+use Rattle.conversation.specs.Closing.{LogCalls}
 
 -- this connection, with more bytes that wait
 abbrev with_more : ConnectionState → List ℕ → ConnectionState
@@ -50,7 +51,7 @@ fed settings a b link later used made piece advances =
     }) advances
 
 -- nothing came, and nothing was made, behind an end
-abbrev IsStill : {A C : Type 0} → World A C → (came made : List ℕ) → World A C → OtherEnd → Type 0
+abbrev IsStill : {A C L : Type 0} → World A C L → (came made : List ℕ) → World A C L → OtherEnd → Type 0
 IsStill v came made w next = (came ≡ []) × (made ≡ []) × (w ≡ v) × (next ≡ Over)
 
 ends-known : (end : Option ConversationEnding) (link : ConnectionState)
@@ -81,12 +82,12 @@ known came more client = by (nat_lt (length came) 3) refl
     by true e = inl (e, rw e refl)
     by false e = inr (rw e (rw (sym (peers-more came more e) ∙ client) refl))
 
-module _ {R W A C : Type 0} (input : Input R) (output : Output W) (state : A → Store)
-    (gave : C → List ℤ → C → Type 0) where
+module _ {R W A C L : Type 0} (input : Input R) (output : Output W) (state : A → Store)
+    (gave : C → List ℤ → C → Type 0) (log : LogCalls L) where
   -- the steps behind an end
-  still : (v w : World A C) (old new : Slot OtherEnd R W ConversationEnding)
+  still : (v w : World A C L) (old new : Slot OtherEnd R W ConversationEnding)
       (steps : List (Step ConversationEnding)) → old.handler ≡ Over → (old.ending ≡ None → ⊥)
-      → AreOwnSteps input output (still_behavior state gave) v old steps w new
+      → AreOwnSteps input output (still_behavior state gave log) v old steps w new
       → IsStill v (bytes_received steps) (bytes_made steps) w new.handler
   still v w old new [] over ended own =
       (refl, refl, own.0, ap (λ (s : Slot OtherEnd R W ConversationEnding). s.handler) own.1 ∙ over)
@@ -133,18 +134,18 @@ module _ {R W A C : Type 0} (input : Input R) (output : Output W) (state : A →
       (on.0, on.1, on.2 ∙ own.5.0 ∙ own.4, on.3)
 
   -- from the same world
-  same-answered : (v u w : World A C) (link : ConnectionState) (came made : List ℕ)
+  same-answered : (v u w : World A C L) (link : ConnectionState) (came made : List ℕ)
       (next : OtherEnd) → u ≡ v → AnswersStretch state gave u link came made w next
       → AnswersStretch state gave v link came made w next
   same-answered v u w link came made next e is =
-      subst (λ (x : World A C). AnswersStretch state gave x link came made w next) e is
+      subst (λ (x : World A C L). AnswersStretch state gave x link came made w next) e is
 
   -- nothing was answered
   none-answered : ((clock : C) → gave clock [] clock)
-      → (v w : World A C) (link : ConnectionState) (next : OtherEnd) → w ≡ v → next ≡ Client link
+      → (v w : World A C L) (link : ConnectionState) (next : OtherEnd) → w ≡ v → next ≡ Client link
       → AnswersStretch state gave v link [] [] w next
   none-answered gave_none v w link next e is =
-      subst (λ (x : World A C). AnswersStretch state gave v link [] [] x next) (sym e) (record {
+      subst (λ (x : World A C L). AnswersStretch state gave v link [] [] x next) (sym e) (record {
         used = empty_environment;
         ends = None;
         later = with_more link [];
@@ -157,7 +158,7 @@ module _ {R W A C : Type 0} (input : Input R) (output : Output W) (state : A →
       })
 
   -- bytes came, and what came behind them was answered
-  came-answered : (v w : World A C) (link : ConnectionState) (bytes came made : List ℕ)
+  came-answered : (v w : World A C L) (link : ConnectionState) (bytes came made : List ℕ)
       (next : OtherEnd) → AnswersStretch state gave v (with_more link bytes) came made w next
       → AnswersStretch state gave v link (bytes ++ came) made w next
   came-answered v w link bytes came made next is = record {
@@ -175,7 +176,7 @@ module _ {R W A C : Type 0} (input : Input R) (output : Output W) (state : A →
 
   -- an answer, and what came behind it
   first-answered : ((a b c : C) (xs ys : List ℤ) → gave a xs b → gave b ys c → gave a (xs ++ ys) c)
-      → (u b w : World A C) (link : ConnectionState) (made came more : List ℕ)
+      → (u b w : World A C L) (link : ConnectionState) (made came more : List ℕ)
       (ending : Option ConversationEnding) (next last : OtherEnd)
       → AnswersFirst state gave u (Client link) made ending b next
       → ((later : ConnectionState) → next ≡ Client later
@@ -241,7 +242,7 @@ module _ {R W A C : Type 0} (input : Input R) (output : Output W) (state : A →
           (sym rest.0)
           (subst (λ (m : List ℕ). AnswersStretch state gave u link [] (made ++ m) w last)
           (sym rest.1)
-          (subst (λ (x : World A C). AnswersStretch state gave u link [] (made ++ []) x last)
+          (subst (λ (x : World A C L). AnswersStretch state gave u link [] (made ++ []) x last)
           (sym rest.2)
           (subst (λ (o : OtherEnd). AnswersStretch state gave u link [] (made ++ []) b o)
           (sym rest.3) whole)))
@@ -249,10 +250,10 @@ module _ {R W A C : Type 0} (input : Input R) (output : Output W) (state : A →
   module _ (gave_none : (clock : C) → gave clock [] clock)
       (gave_more : (a b c : C) (xs ys : List ℤ) → gave a xs b → gave b ys c → gave a (xs ++ ys) c)
     where
-      alone : (v w : World A C) (link : ConnectionState)
+      alone : (v w : World A C L) (link : ConnectionState)
           (old new : Slot OtherEnd R W ConversationEnding) (steps : List (Step ConversationEnding))
           → old.handler ≡ Client link → TakesAll steps
-          → AreOwnSteps input output (still_behavior state gave) v old steps w new
+          → AreOwnSteps input output (still_behavior state gave log) v old steps w new
           → AnswersStretch state gave v link (bytes_received steps) (bytes_made steps) w new.handler
       alone v w link old new [] is taken own =
           none-answered gave_none v w link new.handler own.0
@@ -321,12 +322,12 @@ module _ {R W A C : Type 0} (input : Input R) (output : Output W) (state : A →
           (λ (s : Slot OtherEnd R W ConversationEnding). s.handler) own.5.1 ∙ is) taken.1 own.6)
 
       -- the same from the first letter on
-      pub from-letters : (v w : World A C) (letters : List ℕ)
+      pub from-letters : (v w : World A C L) (letters : List ℕ)
           (old new : Slot OtherEnd R W ConversationEnding) (steps : List (Step ConversationEnding))
           → old.handler ≡ Unknown letters → nat_lt (length letters) 3 ≡ true → TakesAll steps
           → 3 ≤ length (letters ++ bytes_received steps)
           → is_peers (letters ++ bytes_received steps) ≡ false
-          → AreOwnSteps input output (still_behavior state gave) v old steps w new
+          → AreOwnSteps input output (still_behavior state gave log) v old steps w new
           → AnswersStretch state gave v new_link (letters ++ bytes_received steps)
           (bytes_made steps) w new.handler
       from-letters v w letters old new [] is few taken long client own =

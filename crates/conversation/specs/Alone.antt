@@ -17,13 +17,14 @@ use Rattle.conversation.specs.declared.other_end.OtherEnd.TheVariants.{Unknown, 
 use Rattle.conversation.specs.declared.world.World.{World}
 use Rattle.conversation.specs.OtherEnds.{ConversationEnding, is_peers, unless_over}
 use Rattle.conversation.specs.Answering.{client_ending}
+use Rattle.conversation.specs.Closing.{LogCalls}
 use Rattle.conversation.specs.Conversing.{behavior_over}
 
 -- what is said on a connection between whose steps the world stays
-abbrev pub still_behavior : {A C : Type 0} → (A → Store) → (C → List ℤ → C → Type 0)
-    → Behavior OtherEnd (World A C) ConversationEnding
-still_behavior state gave =
-    let behavior = behavior_over state gave in record behavior { moves = λ v w. w ≡ v }
+abbrev pub still_behavior : {A C L : Type 0} → (A → Store) → (C → List ℤ → C → Type 0)
+    → LogCalls L → Behavior OtherEnd (World A C L) ConversationEnding
+still_behavior state gave log =
+    let behavior = behavior_over state gave log in record behavior { moves = λ v w. w ≡ v }
 
 -- memory for all that came was there
 abbrev pub TakesAll : List (Step ConversationEnding) → Type 0
@@ -37,8 +38,8 @@ AreOfClient steps =
 
 -- for these bytes, that came behind those that wait, this was made: one stretch of the answer to
 -- them, over an archive, by what the clock gave
-pub record AnswersStretch {A C : Type 0} (state : A → Store) (gave : C → List ℤ → C → Type 0)
-    (v : World A C) (link : ConnectionState) (came made : List ℕ) (w : World A C)
+pub record AnswersStretch {A C L : Type 0} (state : A → Store) (gave : C → List ℤ → C → Type 0)
+    (v : World A C L) (link : ConnectionState) (came made : List ℕ) (w : World A C L)
     (next : OtherEnd) : Type 0 where
   pub used : Environment
   pub ends : Option ClientEnding
@@ -52,10 +53,10 @@ pub record AnswersStretch {A C : Type 0} (state : A → Store) (gave : C → Lis
 
 -- while nobody else changes the world a client is answered, from its first byte on, as on a
 -- connection of its own
-abbrev pub ClientAloneIsAnswered : {R W A C : Type 0} → Input R → Output W → (A → Store)
-    → (C → List ℤ → C → Type 0) → Type 0
-ClientAloneIsAnswered {R} {W} {A} {C} input output state gave =
-    (v w : World A C) (old new : Slot OtherEnd R W ConversationEnding)
+abbrev pub ClientAloneIsAnswered : {R W A C L : Type 0} → Input R → Output W → (A → Store)
+    → (C → List ℤ → C → Type 0) → LogCalls L → Type 0
+ClientAloneIsAnswered {R} {W} {A} {C} {L} input output state gave log =
+    (v w : World A C L) (old new : Slot OtherEnd R W ConversationEnding)
     (steps : List (Step ConversationEnding)) → old.handler ≡ Unknown [] → AreOfClient steps
-    → AreOwnSteps input output (still_behavior state gave) v old steps w new
+    → AreOwnSteps input output (still_behavior state gave log) v old steps w new
     → AnswersStretch state gave v new_link (bytes_received steps) (bytes_made steps) w new.handler

@@ -36,15 +36,16 @@ abbrev pub peer_ending : Option (Result PeerEnded ServeFault) → Option Convers
 peer_ending = option_map (result_map_both ended.Peer (λ fault. fault))
 
 -- what stood first on a client's connection was answered, by one step over an archive; what the
--- server is set to stays
-pub record AnswersClient {A C : Type 0} (state : A → Store) (gave : C → List ℤ → C → Type 0)
-    (v : World A C) (link : ConnectionState) (made : List ℕ) (ending : Option ConversationEnding)
-    (w : World A C) (next : OtherEnd) : Type 0 where
+-- server is set to stays, and nothing is told
+pub record AnswersClient {A C L : Type 0} (state : A → Store) (gave : C → List ℤ → C → Type 0)
+    (v : World A C L) (link : ConnectionState) (made : List ℕ) (ending : Option ConversationEnding)
+    (w : World A C L) (next : OtherEnd) : Type 0 where
   pub used : Environment
   pub ends : Option ClientEnding
   pub later : ConnectionState
   pub settings : w.server.settings ≡ v.server.settings
   pub clock : gave v.clock used.readings w.clock
+  pub log : w.log ≡ v.log
   pub advances : Advances v.server.settings (state v.server.replica.archive)
       (state w.server.replica.archive) link used made ends later
   pub ended_so : ending ≡ client_ending ends
@@ -58,9 +59,9 @@ Tells said ends made ending =
     ⊎ ((made ≡ []) × (ending ≡ Some (Err OutOfMemory)))
 
 -- the frame that stood first in a peer's dialog, if it was whole, was answered over an archive;
--- what the server is set to stays, and the time isn't asked for
-pub record AnswersPeer {A C : Type 0} (state : A → Store) (v : World A C) (peer : PeerDialog)
-    (made : List ℕ) (ending : Option ConversationEnding) (w : World A C)
+-- what the server is set to stays, the time isn't asked for, and nothing is told
+pub record AnswersPeer {A C L : Type 0} (state : A → Store) (v : World A C L) (peer : PeerDialog)
+    (made : List ℕ) (ending : Option ConversationEnding) (w : World A C L)
     (next : OtherEnd) : Type 0 where
   pub said : List ℕ
   pub rest : List ℕ
@@ -68,6 +69,7 @@ pub record AnswersPeer {A C : Type 0} (state : A → Store) (v : World A C) (pee
   pub last : DialogState
   pub settings : w.server.settings ≡ v.server.settings
   pub clock : w.clock ≡ v.clock
+  pub log : w.log ≡ v.log
   pub talks : Talks peer.dialog (state v.server.replica.archive) (state w.server.replica.archive)
       peer.frames.waiting said rest ends last
   pub one : ends ≡ None → last.taken ≤ peer.dialog.taken + 1
@@ -75,8 +77,8 @@ pub record AnswersPeer {A C : Type 0} (state : A → Store) (v : World A C) (pee
   pub leaves : next ≡ unless_over ending (Peer (peer_at last rest))
 
 -- what stood first was answered over a world, if it was whole; where nobody is known nothing is
-abbrev pub AnswersFirst : {A C : Type 0} → (A → Store) → (C → List ℤ → C → Type 0) → World A C
-    → OtherEnd → (made : List ℕ) → Option ConversationEnding → World A C → OtherEnd → Type 0
+abbrev pub AnswersFirst : {A C L : Type 0} → (A → Store) → (C → List ℤ → C → Type 0) → World A C L
+    → OtherEnd → (made : List ℕ) → Option ConversationEnding → World A C L → OtherEnd → Type 0
 AnswersFirst state gave v (Client link) made ending w new =
     AnswersClient state gave v link made ending w new
 AnswersFirst state gave v (Peer peer) made ending w new =

@@ -8,16 +8,19 @@ use Rattle.conversation.specs.declared.world.World.{World}
 use Rattle.conversation.specs.OtherEnds.{ConversationEnding, is_established}
 use Rattle.conversation.specs.Receiving.{TakesBytes}
 use Rattle.conversation.specs.Answering.{IsIncomplete, AnswersFirst}
+use Rattle.conversation.specs.Closing.{LogCalls, TellsEnd, TellsFailed}
 use Rattle.conversation.specs.Moves.{Moves}
 
 -- a connection begins with nobody known at its other end, at any listener; none is called yet
-abbrev pub behavior_over : {A C : Type 0} → (A → Store) → (C → List ℤ → C → Type 0)
-    → Behavior OtherEnd (World A C) ConversationEnding
-behavior_over state gave = record {
+abbrev pub behavior_over : {A C L : Type 0} → (A → Store) → (C → List ℤ → C → Type 0)
+    → LogCalls L → Behavior OtherEnd (World A C L) ConversationEnding
+behavior_over state gave log = record {
   begins = λ listener other. other ≡ Unknown [];
   calls = λ v made other w. (made ≡ []) × (other ≡ None) × (w ≡ v);
   receives = TakesBytes;
   answers = AnswersFirst state gave;
+  closes = TellsEnd log;
+  fails_accept = TellsFailed log;
   needs_more = IsIncomplete;
   is_established = is_established;
   moves = Moves state;

@@ -1,6 +1,7 @@
 pub mod OtherEnds
 pub mod Receiving
 pub mod Answering
+pub mod Closing
 pub mod Moves
 pub mod Conversing
 pub mod Growing

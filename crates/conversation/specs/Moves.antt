@@ -13,7 +13,7 @@ pub record OnlyGrows (old new : Store) : Type 0 where
       → (R : Content) × IsLeft old R × IsWithin R S
 
 -- what the server is set to stays, and what its archive holds only grows
-abbrev pub Moves : {A C : Type 0} → (A → Store) → World A C → World A C → Type 0
+abbrev pub Moves : {A C L : Type 0} → (A → Store) → World A C L → World A C L → Type 0
 Moves state v w =
     (w.server.settings ≡ v.server.settings)
     × OnlyGrows (state v.server.replica.archive) (state w.server.replica.archive)

@@ -1,8 +1,9 @@
 -- Who is at the other end of a connection, by what came.
-use Rattle.std.specs.Prelude.{◌≡◌, ℕ, nat_lt, nat_le, Bool, false, ◌||◌, List, ◌++◌, length, codes, Option, None, Some, Result, if◌then◌else◌}
+use Rattle.std.specs.Prelude.{◌≡◌, ℕ, nat_lt, Bool, false, ◌||◌, List, ◌++◌, length, codes, Option, None, Some, Result, if◌then◌else◌}
 use Rattle.exchange.specs.Frames.{begins}
 use Rattle.exchange.specs.Dialogs.{DialogState}
 use Rattle.counted_io.specs.declared.fault.ServeFault.{ServeFault}
+use Rattle.ua_session.specs.Sessions.{has_user}
 use Rattle.ua_connection.specs.Client.{new_client}
 use Rattle.ua_peers.specs.Peers.{responding}
 use Rattle.ua_peers.specs.Talking.{IsReady}
@@ -49,10 +50,10 @@ with_bytes other bytes = elim other [
 abbrev pub unless_over : Option ConversationEnding → OtherEnd → OtherEnd
 unless_over ending other = elim ending [ None ↦ other | Some end ↦ Over ]
 
--- its channel is open, or a whole frame of it came
+-- a session of it was activated, or a whole frame of it came
 abbrev pub is_established : OtherEnd → Bool
 is_established other = elim other [
-  | Client link ↦ nat_le 2 link.client.taken
+  | Client link ↦ has_user link.client.sessions
   | Peer peer ↦ peer.is_heard
   | _ ↦ false
 ]

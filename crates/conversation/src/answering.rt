@@ -38,8 +38,8 @@ fn client_progress(step: Result<Step, ServeFault>) -> Progress<Result<Ended, Ser
 }
 
 /// Answers the chunk that stands first on a client's connection, if it is whole.
-fn answer_client<A: Archive, C: Clock>(
-    world: &mut World<A, C>,
+fn answer_client<A: Archive, C: Clock, L>(
+    world: &mut World<A, C, L>,
     connection: &mut Connection,
     out: &mut Vec<u8>,
 ) -> Progress<Result<Ended, ServeFault>>
@@ -128,8 +128,8 @@ fn append(bytes: Vec<u8>, out: &mut Vec<u8>) -> bool
 }
 
 /// Answers the frame that stands first in a peer's dialog, if it is whole.
-fn answer_peer<A: Archive, C>(
-    world: &mut World<A, C>,
+fn answer_peer<A: Archive, C, L>(
+    world: &mut World<A, C, L>,
     peer: &mut PeerDialog,
     out: &mut Vec<u8>,
 ) -> Progress<Result<Ended, ServeFault>>
@@ -167,8 +167,8 @@ fn leave_at_end(
 }
 
 /// Answers what stands first in what the other end brought, if it is whole.
-pub(crate) fn answer_first<A: Archive, C: Clock>(
-    world: &mut World<A, C>,
+pub(crate) fn answer_first<A: Archive, C: Clock, L>(
+    world: &mut World<A, C, L>,
     other: &mut OtherEnd,
     out: &mut Vec<u8>,
 ) -> Progress<Result<Ended, ServeFault>>
@@ -191,12 +191,12 @@ pub(crate) fn answer_first<A: Archive, C: Clock>(
     }
 }
 
-/// Whether the other end is a client whose channel is open, or a peer of whom a whole frame came.
+/// Whether the other end is a client with a session that was activated, or a peer of whom a whole frame came.
 pub(crate) fn is_established(other: &OtherEnd) -> bool
     ensures { result ≡ is_established other.now }
 {
     match other {
-        OtherEnd::Client(connection) => connection.is_opened(),
+        OtherEnd::Client(connection) => connection.has_user(),
         OtherEnd::Peer(peer) => peer.is_heard,
         OtherEnd::Unknown(_) | OtherEnd::Over => false,
     }

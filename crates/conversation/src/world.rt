@@ -2,11 +2,13 @@
 
 use historian::Server;
 
-/// A server and its clock, which its connections share.
+/// A server, its clock and its log, which its connections share.
 #[derive(Drop)]
-pub struct World<A, C> {
+pub struct World<A, C, L> {
     /// What it is set to, and what it holds.
     pub server: Server<A>,
     /// What tells it the time.
     pub clock: C,
+    /// What is told of them.
+    pub log: L,
 }

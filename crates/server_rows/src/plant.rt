@@ -7,7 +7,7 @@ use std::test::Fail;
 use ua_binary::Text;
 use ua_server::ConstantClock;
 use ua_session::Users;
-use ua_settings::{Parts, Settings};
+use ua_settings::{Parts, Peers, Settings};
 use ua_space::{Plan, Space, VariablePlan};
 use uuid::Uuid;
 
@@ -44,6 +44,10 @@ pub fn plant_of(alloc: Global, number: u8) -> Option<Settings> {
         application: Text::from_str(alloc, "urn:uahist").ok()?,
         users: Users::new(alloc, true),
         space: Space::build(alloc, &plan).ok()?,
+        connections: 64,
+        waiting: 256,
+        broken: None,
+        peers: Peers::new(alloc),
     }))
 }
 

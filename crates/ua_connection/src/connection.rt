@@ -1,6 +1,7 @@
 //! A connection, one item after the other.
 
-ghost use Rattle.std.specs.Prelude.{◌≡◌, ◌≤◌, ◌++◌, Ok, OnOk, OnErr, nat_le};
+ghost use Rattle.std.specs.Prelude.{◌≡◌, ◌≤◌, ◌++◌, Ok, OnOk, OnErr};
+ghost use Rattle.ua_session.specs.Sessions.{has_user};
 ghost use Rattle.ua_connection.specs.Environments.{Environment};
 ghost use Rattle.ua_connection.specs.declared.turn.Step.TheVariants.{NeedsInput};
 ghost use Rattle.ua_connection.specs.Turns.{ConnectionState, new_link, NeedsBytes, IsSmall, IsOwn, IsNextCurrent, AdvancesInto, LeavesIntake, Shortens, IsCounted, ending_of, client_after, link_of};
@@ -105,11 +106,11 @@ impl Connection {
         }
     }
 
-    /// Whether its channel is open: a chunk behind its Hello was taken.
-    pub fn is_opened(&self) -> bool
-        ensures { result ≡ nat_le 2 self.now.client.taken }
+    /// Whether a session of it that is open was activated.
+    pub fn has_user(&self) -> bool
+        ensures { result ≡ has_user self.now.client.sessions }
     {
-        self.client.taken >= 2
+        self.client.sessions.has_user()
     }
 
     /// Answers the chunk that stands first in the bytes that wait, if it is whole, or the fault that stands in its place: the

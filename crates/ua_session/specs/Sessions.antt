@@ -1,5 +1,6 @@
 -- What the sessions of a connection are, and what each call answers and leaves (Part 4, 5.7).
-use Rattle.std.specs.Prelude.{◌≡◌, ◌≤◌, ◌+◌, ◌*◌, ℕ, Bool, false, List, [], ◌∷◌, ◌++◌, length, ◌==◌, ◌&&◌, ◌||◌, nat_le, None, Some, IfSome, Result, Ok, Err, MatchResult, find, if◌then◌else◌}
+use Rattle.std.specs.Prelude.{◌≡◌, ◌≤◌, ◌+◌, ◌*◌, ℕ, Bool, false, List, [], ◌∷◌, ◌++◌, length, ◌==◌, ◌&&◌, ◌||◌, nat_le, None, Some, IfSome, Result, Ok, Err, MatchResult, find, is_some, if◌then◌else◌}
+use Rattle.std.specs.List.{list_any}
 use Rattle.std.specs.Option.{ok_or}
 use Rattle.ua_binary.specs.Format.{◌>>=◌, IsOrStarved}
 use Rattle.ua_binary.specs.declared.values.NodeId.{NodeId}
@@ -53,6 +54,10 @@ abbrev pub user_at : SessionsState → NodeId → Result (List ℕ) SessionFault
 user_at state token =
     ok_or (find (is_named token) state.alive) IdInvalid
     >>= λ session. ok_or session.user NotActivated
+
+-- an open session has a user
+abbrev pub has_user : SessionsState → Bool
+has_user state = list_any (λ session. is_some session.user) state.alive
 
 -- ---- what a call leaves
 

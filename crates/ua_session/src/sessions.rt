@@ -5,7 +5,7 @@ ghost use Rattle.std.specs.List.{AllByRecursion};
 ghost use Rattle.std.specs.Option.{option_copied};
 ghost use Rattle.ua_binary.specs.Binary.{node_of};
 ghost use Rattle.ua_session.specs.Users.{claim_of, user_name_of, IsUserName};
-ghost use Rattle.ua_session.specs.Sessions.{no_sessions, user_at, is_named, HasShortUser, Creates, Activates, Closes};
+ghost use Rattle.ua_session.specs.Sessions.{no_sessions, user_at, has_user, is_named, HasShortUser, Creates, Activates, Closes};
 
 use crate::fault::SessionFault;
 use crate::identity::Identity;
@@ -126,6 +126,13 @@ impl Sessions {
         let session = find_session(&self.alive, token).ok_or(SessionFault::IdInvalid)?;
         let user = session.user.as_ref().ok_or(SessionFault::NotActivated)?;
         Ok(user.as_str())
+    }
+
+    /// Whether a session that is open was activated.
+    pub fn has_user(&self) -> bool
+        ensures { result ≡ has_user self.now }
+    {
+        self.alive.iter().any(|session| session.user.is_some())
     }
 }
 

@@ -21,10 +21,11 @@ use Rattle.ua_space.specs.declared.node.Folder.{Folder as SpaceFolder}
 use Rattle.ua_space.specs.Space.{IsCountable, HasShortTexts, HasShortName}
 use Rattle.ua_settings.specs.declared.fault.SettingsFault.{SettingsFault}
 use Rattle.ua_settings.specs.declared.fault.SettingsFault.TheVariants.{OutOfMemory, Space}
-use Rattle.ua_settings.specs.declared.keys.Section.TheVariants.{User, Folder, Variable}
+use Rattle.ua_settings.specs.declared.keys.Section.TheVariants.{User, Folder, Variable, Peer}
 use Rattle.ua_settings.specs.File.{tables, text_at, is_name, names_in}
 use Rattle.ua_settings.specs.Judging.{is_short}
-use Rattle.ua_settings.specs.Reading.{folder_in, variable_in, table_at, truth_at, values_of_tables, space_fault, space_in, IsSpaceOrStarved, IsAcceptedOrStarved}
+use Rattle.ua_settings.specs.Reading.{folder_in, variable_in, peer_in, table_at, truth_at, values_of_tables, space_fault, space_in, IsSpaceOrStarved, IsAcceptedOrStarved}
+use Rattle.ua_settings.specs.declared.peers.PeerCall.{PeerCall}
 use Rattle.ua_settings.proofs.ReadingParts.{user_in, users_in}
 use Rattle.ua_settings.specs.Settings.{SettingsValues}
 use Rattle.ua_settings.specs.Sound.{IsSound, IsSoundFolder, IsSoundVariable}
@@ -188,14 +189,15 @@ space_built document plan result namespace folders variables is =
 
 -- ---- the settings of a sound document
 
-values_same : (document archive server : Members) (users : Allowed) (space : Layout)
+values_same : (document archive server : Members) (users : Allowed) (peers : List PeerCall)
+    (space : Layout)
     → archive ≡ table_at (codes "archive") document → server ≡ table_at (codes "server") document
-    → users ≡ users_in document
-    → (record (values_of_tables archive server [] space) { users = users })
+    → users ≡ users_in document → peers ≡ map peer_in (tables document Peer)
+    → (record (values_of_tables archive server [] [] space) { users = users; peers = peers })
     ≡ values_of_tables (table_at (codes "archive") document) (table_at (codes "server") document)
-    (tables document User) space
-values_same document archive server users space a s u =
-    λ i. record (values_of_tables (a i) (s i) [] space) { users = u i }
+    (tables document User) (tables document Peer) space
+values_same document archive server users peers space a s u p =
+    λ i. record (values_of_tables (a i) (s i) [] [] space) { users = u i; peers = p i }
 
 given : (values : Layout → SettingsValues) (space : Layout) (made : Result Layout BuildFault)
     → Ok space ≡ result_map_both (λ space. space) Space made
@@ -208,21 +210,23 @@ has_space : (document : Members) (space : Layout) → IsSpaceOrStarved document 
 has_space document space (inl starved) = absurd (false≢true (sym (ap is_ok starved)))
 has_space document space (inr is) = is
 
-pub accepted : (document archive server : Members) (users : Allowed) (space : Layout)
-    (result : Result SettingsValues SettingsFault)
+pub accepted : (document archive server : Members) (users : Allowed) (peers : List PeerCall)
+    (space : Layout) (result : Result SettingsValues SettingsFault)
     → archive ≡ table_at (codes "archive") document → server ≡ table_at (codes "server") document
-    → users ≡ users_in document
+    → users ≡ users_in document → peers ≡ map peer_in (tables document Peer)
     → IsSpaceOrStarved document (Ok space)
     → IfOk result (λ settings. settings
-    ≡ record (values_of_tables archive server [] space) { users = users })
+    ≡ record (values_of_tables archive server [] [] space) { users = users; peers = peers })
     → IfErr result (λ fault. fault ≡ OutOfMemory)
     → IsAcceptedOrStarved document result
-accepted document archive server users space (Ok settings) a s u is_space ok err =
-    inr (ap Ok (ok ∙ values_same document archive server users space a s u)
+accepted document archive server users peers space (Ok settings) a s u p is_space ok err =
+    inr (ap Ok (ok ∙ values_same document archive server users peers space a s u p)
     ∙ given (values_of_tables (table_at (codes "archive") document)
-    (table_at (codes "server") document) (tables document User)) space (space_in document)
+    (table_at (codes "server") document) (tables document User) (tables document Peer)) space
+    (space_in document)
     (has_space document space is_space))
-accepted document archive server users space (Err fault) a s u is_space ok err = inl (ap Err err)
+accepted document archive server users peers space (Err fault) a s u p is_space ok err =
+    inl (ap Err err)
 
 pub users_same : (document server : Members) (anonymous : Bool) (named : List SessionUser)
     → server ≡ table_at (codes "server") document

@@ -6,13 +6,13 @@ use Rattle.std.specs.List.{list_any, AllByRecursion}
 use Rattle.std.specs.Cmp.Lexicographic.{pointwise}
 use Rattle.toml.specs.Data.{Data, Members, no_members, get_member, as_str, as_integer, as_table}
 use Rattle.ua_settings.specs.declared.keys.Section.{Section}
-use Rattle.ua_settings.specs.declared.keys.Section.TheVariants.{Document, Archive, Server, User, Folder, Variable}
+use Rattle.ua_settings.specs.declared.keys.Section.TheVariants.{Document, Archive, Server, User, Folder, Variable, Peer}
 use Rattle.ua_settings.specs.declared.keys.Wrong.{Wrong}
 use Rattle.ua_settings.specs.declared.keys.Wrong.TheVariants.{Unknown, Missing, Bad}
-use Rattle.ua_settings.specs.File.{Names, rules, is_name, text_at, tables, names_in}
+use Rattle.ua_settings.specs.File.{Names, rules, is_name, is_up_to, text_at, tables, names_in}
 use Rattle.ua_settings.specs.Judging.{Spot, test, is_id, is_short, is_replica, is_missing, is_bad, wrong_key, wrong_from, wrong_at, first_wrong}
 use Rattle.ua_settings.proofs.FileParts.{wrong_in, name_of, or_later, or_else}
-use Rattle.ua_settings.specs.Sound.{IsSound, IsSoundArchive, IsSoundServer, IsSoundUser, IsSoundFolder, IsSoundVariable}
+use Rattle.ua_settings.specs.Sound.{IsSound, IsSoundArchive, IsSoundServer, IsSoundUser, IsSoundFolder, IsSoundPeer, IsSoundVariable}
 
 -- ---- nothing is found
 
@@ -59,6 +59,7 @@ each_section document wrong none section =
     let four = none_both (wrong_in document wrong User) _ three.1 in
     let five = none_both (wrong_in document wrong Folder) _ four.1 in
     let six = none_both (wrong_in document wrong Variable) _ five.1 in
+    let seven = none_both (wrong_in document wrong Peer) _ six.1 in
     elim section as (λ s. wrong_in document wrong s ≡ None) [
       | Document ↦ one.0
       | Archive ↦ two.0
@@ -67,6 +68,7 @@ each_section document wrong none section =
       | Folder ↦
           five.0
       | Variable ↦ six.0
+      | Peer ↦ seven.0
     ]
 
 -- ---- a table in which nothing is wrong
@@ -139,16 +141,16 @@ text_held : (p : List ℕ → Bool) (key : List ℕ) (members : Members)
 text_held p key members there good =
     passed p _ [] (tested p as_str _ (held (λ v. test p (as_str v)) _ there good))
 
-optional_held : (p : List ℕ → Bool) (value : Option Data)
-    → test (λ v. not (test p (as_str v))) value ≡ false
-    → IfSome (option_and_then as_str value) (λ text. p text ≡ true)
-optional_held p None good = tt
-optional_held p (Some v) good = some_held p (as_str v) (was_true (test p (as_str v)) good)
-  where
-    some_held : (p : List ℕ → Bool) (text : Option (List ℕ)) → test p text ≡ true
-        → IfSome text (λ text. p text ≡ true)
-    some_held p None good = tt
-    some_held p (Some text) good = good
+some_held : {A : Type 0} (p : A → Bool) (found : Option A) → test p found ≡ true
+    → IfSome found (λ a. p a ≡ true)
+some_held p None good = tt
+some_held p (Some a) good = good
+
+optional_held : {A : Type 0} (p : A → Bool) (f : Data → Option A) (value : Option Data)
+    → test (λ v. not (test p (f v))) value ≡ false
+    → IfSome (option_and_then f value) (λ a. p a ≡ true)
+optional_held p f None good = tt
+optional_held p f (Some v) good = some_held p (f v) (was_true (test p (f v)) good)
 
 only_one : {A : Type 0} (P : A → Type 0) (value : Option A) (d : A) → is_some value ≡ true
     → AllByRecursion P (option_to_list value) → P (unwrap_or value d)
@@ -177,6 +179,10 @@ server_sound names members right =
       url = text_held is_short (codes "url") members lacks.1.0 spoils.1.0;
       application = text_held is_short (codes "application") members lacks.1.1.0 spoils.1.1.0;
       namespace = text_held is_short (codes "namespace") members lacks.1.1.1.0 spoils.1.1.1.0;
+      connections = optional_held (is_up_to 1000) as_integer
+          (get_member (codes "connections") members) spoils.1.1.1.1.1.0;
+      waiting = optional_held (is_up_to 65536) as_integer (get_member (codes "waiting") members)
+          spoils.1.1.1.1.1.1.0;
     }
 
 name_of_user : (users : List (List ℕ)) (name : List ℕ) (b : Bool) → (is_name name && b) ≡ true
@@ -203,6 +209,15 @@ folder_sound names members right =
           text_held is_short (codes "name") members lacks.1.0 spoils.1.0;
     }
 
+peer_sound : (names : Names) (members : Members) → IsRight names Peer members
+    → IsSoundPeer members
+peer_sound names members right =
+    let spoils = spoils_none names Peer members right in
+    record {
+      every = optional_held (is_up_to 86400) as_integer (get_member (codes "every") members)
+          spoils.1.0;
+    }
+
 variable_sound : (names : Names) (members : Members) → IsRight names Variable members
     → IsSoundVariable names.folders members
 variable_sound names members right =
@@ -212,7 +227,7 @@ variable_sound names members right =
       id = text_held is_name (codes "id") members lacks.0 spoils.0;
       name = text_held is_short (codes "name") members lacks.1.0 spoils.1.0;
       folder = optional_held (λ id. list_any (λ folder. pointwise nat_eq folder id) names.folders)
-          (get_member (codes "folder") members) spoils.1.1.1.1.0;
+          as_str (get_member (codes "folder") members) spoils.1.1.1.1.0;
     }
 
 pub sound : (document : Members) → first_wrong document ≡ None → IsSound document
@@ -241,4 +256,5 @@ sound document none =
       users = all_weaker _ _ (user_sound (names_in document)) _ (all User);
       folders = all_weaker _ _ (folder_sound (names_in document)) _ (all Folder);
       variables = all_weaker _ _ (variable_sound (names_in document)) _ (all Variable);
+      peers = all_weaker _ _ (peer_sound (names_in document)) _ (all Peer);
     }

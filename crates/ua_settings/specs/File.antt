@@ -1,15 +1,15 @@
 -- What a settings file says (TOML 1.1): its tables, their keys, what each key must hold, and how a
 -- file is wrong.
-use Rattle.std.specs.Prelude.{◌==◌, ◌&&◌, ℕ, pos, negsuc, Bool, true, false, not, List, [], ◌∷◌, length, map, find, codes, nat_eq, nat_le, Option, None, Some, is_some, is_none, option_and_then, unwrap_or, ℤ}
+use Rattle.std.specs.Prelude.{◌==◌, ◌&&◌, ◌||◌, ℕ, pos, negsuc, Bool, true, false, not, List, [], ◌∷◌, length, map, find, codes, nat_eq, nat_le, Option, None, Some, is_some, is_none, option_and_then, unwrap_or, ℤ}
 use Rattle.std.specs.Option.{option_map_or, option_to_list}
 use Rattle.std.specs.List.{list_all, list_any, count_by, filter_map}
 use Rattle.std.specs.Cmp.Lexicographic.{pointwise}
 use Rattle.toml.specs.Data.{Data, Items, no_items, item, Members, no_members, member, get_member, as_str, as_integer, as_bool, as_array, as_table}
 use Rattle.uuid.specs.Text.{parsed}
 use Rattle.ua_settings.specs.declared.keys.Section.{Section}
-use Rattle.ua_settings.specs.declared.keys.Section.TheVariants.{Document, Archive, Server, User, Folder, Variable}
+use Rattle.ua_settings.specs.declared.keys.Section.TheVariants.{Document, Archive, Server, User, Folder, Variable, Peer}
 use Rattle.ua_settings.specs.declared.keys.Holds.{Holds}
-use Rattle.ua_settings.specs.declared.keys.Holds.TheVariants.{Text, Id, Replica, Truth, NodeName, UserName, FolderId, OneTable, Tables}
+use Rattle.ua_settings.specs.declared.keys.Holds.TheVariants.{Text, Id, Replica, UpTo, Truth, Remedy, NodeName, UserName, FolderId, OneTable, Tables}
 use Rattle.ua_settings.specs.declared.keys.Wrong.{Wrong}
 use Rattle.ua_settings.specs.declared.keys.Wrong.TheVariants.{Unknown, Missing, Bad}
 
@@ -32,20 +32,21 @@ abbrev pub document_keys : List Rule
 document_keys =
     required (codes "archive") OneTable ∷ required (codes "server") OneTable
     ∷ optional (codes "user") Tables ∷ optional (codes "folder") Tables
-    ∷ optional (codes "variable") Tables ∷ []
+    ∷ optional (codes "variable") Tables ∷ optional (codes "peer") Tables ∷ []
 
 -- those of the table `archive`
 abbrev pub archive_keys : List Rule
 archive_keys =
     required (codes "id") Id ∷ required (codes "replica") Replica ∷ optional (codes "store") Text
-    ∷ []
+    ∷ optional (codes "broken") Remedy ∷ []
 
 -- those of the table `server`
 abbrev pub server_keys : List Rule
 server_keys =
     required (codes "listen") Text ∷ required (codes "url") Text
     ∷ required (codes "application") Text ∷ required (codes "namespace") Text
-    ∷ required (codes "anonymous") Truth ∷ []
+    ∷ required (codes "anonymous") Truth ∷ optional (codes "connections") (UpTo 1000)
+    ∷ optional (codes "waiting") (UpTo 65536) ∷ []
 
 -- those of a table of a variable
 abbrev pub variable_keys : List Rule
@@ -61,6 +62,7 @@ rules Server = server_keys
 rules User = required (codes "name") UserName ∷ required (codes "password") Text ∷ []
 rules Folder = required (codes "id") Text ∷ required (codes "name") Text ∷ []
 rules Variable = variable_keys
+rules Peer = required (codes "address") Text ∷ required (codes "every") (UpTo 86400) ∷ []
 
 -- ---- the tables of a document
 
@@ -90,6 +92,7 @@ tables document Server =
 tables document User = many_tables (get_member (codes "user") document)
 tables document Folder = many_tables (get_member (codes "folder") document)
 tables document Variable = many_tables (get_member (codes "variable") document)
+tables document Peer = many_tables (get_member (codes "peer") document)
 
 -- the text at a key, empty where there is none
 abbrev pub text_at : List ℕ → Members → List ℕ
@@ -117,6 +120,15 @@ is_name text = nat_le 1 (length text) && nat_le (length text) 256
 abbrev pub is_replica : ℤ → Bool
 is_replica number = elim number [ pos n ↦ nat_le 1 n && nat_le n 64 | negsuc n ↦ false ]
 
+-- a number from 1 on, up to another
+abbrev pub is_up_to : ℕ → ℤ → Bool
+is_up_to most number = elim number [ pos n ↦ nat_le 1 n && nat_le n most | negsuc n ↦ false ]
+
+-- what is to be done once the store is broken
+abbrev pub is_remedy : List ℕ → Bool
+is_remedy word =
+    pointwise nat_eq word (codes "stop") || pointwise nat_eq word (codes "reopen")
+
 -- the name of a user: one that no other user has, and not that of a user without one
 abbrev pub is_user_name : Names → List ℕ → Bool
 is_user_name names name =
@@ -137,6 +149,8 @@ abbrev pub fits : Names → Holds → Data → Bool
 fits names Text value = option_map_or (λ text. nat_le (length text) 65536) (as_str value) false
 fits names Id value = option_map_or (λ text. is_some (parsed text)) (as_str value) false
 fits names Replica value = option_map_or is_replica (as_integer value) false
+fits names (UpTo most) value = option_map_or (is_up_to most) (as_integer value) false
+fits names Remedy value = option_map_or is_remedy (as_str value) false
 fits names Truth value = is_some (as_bool value)
 fits names NodeName value = option_map_or is_name (as_str value) false
 fits names UserName value = option_map_or (is_user_name names) (as_str value) false
@@ -171,5 +185,5 @@ abbrev pub first_refusal : Members → Option Wrong
 first_refusal document = find (λ wrong.
     list_any
     (λ section. list_any (is_wrong (names_in document) wrong section) (tables document section))
-    (Document ∷ Archive ∷ Server ∷ User ∷ Folder ∷ Variable ∷ [])) (Unknown ∷ Missing ∷ Bad
+    (Document ∷ Archive ∷ Server ∷ User ∷ Folder ∷ Variable ∷ Peer ∷ [])) (Unknown ∷ Missing ∷ Bad
     ∷ [])

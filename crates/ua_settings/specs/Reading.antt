@@ -1,6 +1,7 @@
 -- What settings a file gives.
-use Rattle.std.specs.Prelude.{◌≡◌, ◌⊎◌, ℕ, pos, negsuc, Bool, false, List, [], map, codes, Option, None, Some, option_and_then, unwrap_or, Result, Err}
+use Rattle.std.specs.Prelude.{◌≡◌, ◌⊎◌, ℕ, pos, negsuc, Bool, false, List, [], map, codes, Option, None, Some, option_and_then, unwrap_or, nat_eq, if◌then◌else◌, Result, Err}
 use Rattle.std.specs.Result.{result_map_both}
+use Rattle.std.specs.Cmp.Lexicographic.{pointwise}
 use Rattle.toml.specs.Data.{Members, no_members, get_member, as_str, as_integer, as_bool, as_table}
 use Rattle.uuid.specs.Text.{parsed}
 use Rattle.ua_space.specs.declared.fault.BuildFault.{BuildFault}
@@ -10,11 +11,14 @@ use Rattle.ua_space.specs.declared.node.Folder.{Folder as SpaceFolder}
 use Rattle.ua_space.specs.Plan.{Entry, planned}
 use Rattle.ua_settings.specs.declared.fault.SettingsFault.{SettingsFault}
 use Rattle.ua_settings.specs.declared.fault.SettingsFault.TheVariants.{NotToml, MissingKey, BadValue, UnknownKey, Space, OutOfMemory}
-use Rattle.ua_settings.specs.declared.keys.Section.TheVariants.{User, Folder, Variable}
+use Rattle.ua_settings.specs.declared.keys.Section.TheVariants.{User, Folder, Variable, Peer}
 use Rattle.ua_settings.specs.declared.keys.Wrong.TheVariants.{Unknown, Missing, Bad}
 use Rattle.ua_settings.specs.File.{tables, text_at, first_refusal}
 use Rattle.ua_settings.specs.Settings.{SettingsValues}
 use Rattle.ua_session.specs.Users.{Allowed}
+use Rattle.ua_settings.specs.declared.peers.PeerCall.{PeerCall}
+use Rattle.ua_settings.specs.declared.peers.Remedy.{Remedy}
+use Rattle.ua_settings.specs.declared.peers.Remedy.TheVariants.{Stop, Reopen}
 use Rattle.ua_session.specs.declared.identity.User.{User as NamedUser}
 
 -- ---- what stands in a document in which nothing is wrong
@@ -27,11 +31,21 @@ table_at key members = unwrap_or (option_and_then as_table (get_member key membe
 abbrev pub truth_at : List ℕ → Members → Bool
 truth_at key members = unwrap_or (option_and_then as_bool (get_member key members)) false
 
+-- the number at a key, another one where there is none
+abbrev pub number_or : ℕ → List ℕ → Members → ℕ
+number_or otherwise key members =
+    elim (option_and_then as_integer (get_member key members))
+    [ Some (pos n) ↦ n | Some (negsuc n) ↦ otherwise | None ↦ otherwise ]
+
 -- the number at a key, 0 where there is none
 abbrev pub number_at : List ℕ → Members → ℕ
-number_at key members =
-    elim (option_and_then as_integer (get_member key members))
-    [ Some (pos n) ↦ n | Some (negsuc n) ↦ 0 | None ↦ 0 ]
+number_at key members = number_or 0 key members
+
+-- what is to be done once the store is broken
+abbrev pub remedy_named : List ℕ → Option Remedy
+remedy_named word =
+    if pointwise nat_eq word (codes "stop") then Some Stop
+    else if pointwise nat_eq word (codes "reopen") then Some Reopen else None
 
 -- the folder that a table gives
 abbrev pub folder_in : Members → SpaceFolder
@@ -58,9 +72,16 @@ abbrev pub users_in : Members → List Members → Allowed
 users_in server users =
     record { anonymous = truth_at (codes "anonymous") server; named = map user_in users }
 
--- what the tables `archive`, `server` and those of users give, with these nodes
-abbrev pub values_of_tables : Members → Members → List Members → Layout → SettingsValues
-values_of_tables archive server users space = record {
+-- a peer that a table gives
+abbrev pub peer_in : Members → PeerCall
+peer_in peer =
+    record { address = text_at (codes "address") peer; every = number_at (codes "every") peer }
+
+-- what the tables `archive`, `server` and those of users and peers give, with these nodes; 64
+-- connections at a time, and 256 MiB, where the tables don't say
+abbrev pub values_of_tables : (archive server : Members) → (users peers : List Members) → Layout
+    → SettingsValues
+values_of_tables archive server users peers space = record {
   archive = unwrap_or (parsed (text_at (codes "id") archive)) [];
   replica = number_at (codes "replica") archive;
   store = option_and_then as_str (get_member (codes "store") archive);
@@ -69,6 +90,11 @@ values_of_tables archive server users space = record {
   application = text_at (codes "application") server;
   users = users_in server users;
   space = space;
+  connections = number_or 64 (codes "connections") server;
+  waiting = number_or 256 (codes "waiting") server;
+  broken = option_and_then remedy_named
+      (option_and_then as_str (get_member (codes "broken") archive));
+  peers = map peer_in peers;
 }
 
 -- ---- what a file gives
@@ -84,7 +110,7 @@ abbrev pub settings_in : Members → Result SettingsValues SettingsFault
 settings_in document =
     result_map_both
     (values_of_tables (table_at (codes "archive") document) (table_at (codes "server") document)
-    (tables document User)) Space (space_in document)
+    (tables document User) (tables document Peer)) Space (space_in document)
 
 -- the settings that a text gives, by the document that it is, or the first fault
 abbrev pub read_in : Option Members → Result SettingsValues SettingsFault

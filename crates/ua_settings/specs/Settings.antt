@@ -4,12 +4,14 @@ use Rattle.ua_settings.specs.declared.settings.Parts.{Parts}
 
 -- the archive's id, the number of this replica of it, and the file of its store, none for memory;
 -- where the server listens, the URL of its endpoint, the URI of the application; who may use it;
--- and its nodes
+-- its nodes; how many connections it serves at a time, and how many MiB may wait to be written;
+-- what
+-- it does once its store is broken; and the peers that it calls
 abbrev pub SettingsValues : Type 0
 SettingsValues = Parts
 
 -- without settings: replica 1 of the archive whose id is all zeros, in memory; any user without a
--- name; no variables
+-- name; no variables; no peers
 unfoldable pub bare : SettingsValues
 bare = record {
   archive = replicate 16 0;
@@ -20,6 +22,10 @@ bare = record {
   application = codes "urn:uahist";
   users = record { anonymous = true; named = [] };
   space = record { namespace = codes "urn:uahist:archive"; folders = []; variables = [] };
+  connections = 64;
+  waiting = 256;
+  broken = None;
+  peers = [];
 }
 
 -- a text of settings has at most 65,536 bytes

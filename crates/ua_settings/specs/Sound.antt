@@ -3,10 +3,16 @@ use Rattle.std.specs.Prelude.{◌≡◌, true, codes, nat_eq, List, ℕ, IfSome,
 use Rattle.std.specs.List.{list_any, AllByRecursion}
 use Rattle.std.specs.Cmp.Lexicographic.{pointwise}
 use Rattle.toml.specs.Data.{Members, get_member, as_str, as_integer, as_table}
-use Rattle.ua_settings.specs.declared.keys.Section.TheVariants.{User, Folder, Variable}
-use Rattle.ua_settings.specs.File.{tables, text_at, is_name, names_in}
+use Rattle.ua_settings.specs.declared.keys.Section.TheVariants.{User, Folder, Variable, Peer}
+use Rattle.ua_settings.specs.File.{tables, text_at, is_name, is_up_to, names_in}
 use Rattle.ua_settings.specs.Judging.{is_id, is_replica, is_short, test}
 use Rattle.ua_settings.specs.Reading.{table_at}
+
+-- a number at a key, if one is there, is from 1 up to this one
+abbrev pub IsUpTo : ℕ → List ℕ → Members → Type 0
+IsUpTo most key members =
+    IfSome (option_and_then as_integer (get_member key members))
+    (λ number. is_up_to most number ≡ true)
 
 pub record IsSoundArchive (archive : Members) : Type 0 where
   pub id : is_id (text_at (codes "id") archive) ≡ true
@@ -17,6 +23,8 @@ pub record IsSoundServer (server : Members) : Type 0 where
   pub url : is_short (text_at (codes "url") server) ≡ true
   pub application : is_short (text_at (codes "application") server) ≡ true
   pub namespace : is_short (text_at (codes "namespace") server) ≡ true
+  pub connections : IsUpTo 1000 (codes "connections") server
+  pub waiting : IsUpTo 65536 (codes "waiting") server
 
 pub record IsSoundUser (user : Members) : Type 0 where
   pub name : is_name (text_at (codes "name") user) ≡ true
@@ -24,6 +32,9 @@ pub record IsSoundUser (user : Members) : Type 0 where
 pub record IsSoundFolder (folder : Members) : Type 0 where
   pub id : is_short (text_at (codes "id") folder) ≡ true
   pub name : is_short (text_at (codes "name") folder) ≡ true
+
+pub record IsSoundPeer (peer : Members) : Type 0 where
+  pub every : IsUpTo 86400 (codes "every") peer
 
 pub record IsSoundVariable (folders : List (List ℕ)) (variable : Members) : Type 0 where
   pub id : is_name (text_at (codes "id") variable) ≡ true
@@ -41,3 +52,4 @@ pub record IsSound (document : Members) : Type 0 where
   pub folders : AllByRecursion IsSoundFolder (tables document Folder)
   pub variables : AllByRecursion (IsSoundVariable (names_in document).folders)
       (tables document Variable)
+  pub peers : AllByRecursion IsSoundPeer (tables document Peer)

@@ -8,7 +8,7 @@ ghost use Rattle.std.specs.BTreeMap.{keys};
 ghost use Rattle.std.specs.List.{list_all, count_by};
 ghost use Rattle.toml.specs.Data.{as_table, string};
 ghost use Rattle.toml.specs.View.{view, table_view};
-ghost use Rattle.ua_settings.specs.File.{is_name, fits, keys_in, rules, names_in, text_at};
+ghost use Rattle.ua_settings.specs.File.{is_name, is_up_to, is_remedy, fits, keys_in, rules, names_in, text_at};
 ghost use Rattle.ua_settings.specs.Judging.{is_user_name, is_id, is_replica, is_key, is_missing, is_bad, wrong_key, wrong_from, wrong_at, first_wrong};
 ghost use Rattle.ua_settings.specs.Keys.{rule_of, known_of, spot_of, refusal_of};
 
@@ -26,13 +26,14 @@ const MOST_TEXT: usize = 65_536;
 const MOST_NAME: usize = 256;
 
 /// The kinds of tables, in the order in which a document is judged.
-const SECTIONS: [Section; 6] = [
+const SECTIONS: [Section; 7] = [
     Section::Document,
     Section::Archive,
     Section::Server,
     Section::User,
     Section::Folder,
     Section::Variable,
+    Section::Peer,
 ];
 
 /// What may be wrong, in the order in which it is judged.
@@ -100,7 +101,8 @@ fn fits_text(known: &Known<'_>, holds: Holds, text: &str) -> bool
         Holds::NodeName => is_name(text),
         Holds::UserName => is_user_name(known, text),
         Holds::FolderId => is_among(text, known.folders.as_slice()),
-        Holds::Replica | Holds::Truth | Holds::OneTable | Holds::Tables => false,
+        Holds::Remedy => is_remedy(text),
+        Holds::Replica | Holds::UpTo(_) | Holds::Truth | Holds::OneTable | Holds::Tables => false,
     }
 }
 
@@ -118,6 +120,23 @@ fn is_replica(number: i64) -> bool
     replica(number).is_some()
 }
 
+/// Whether a number is one from 1 up to another.
+fn is_up_to(most: u32, number: i64) -> bool
+    ensures { result ≡ is_up_to most number }
+{
+    match u32::try_from(number) {
+        Ok(number) => 1 <= number && number <= most,
+        Err(_) => false,
+    }
+}
+
+/// Whether a text says what is to be done once the store is broken.
+fn is_remedy(text: &str) -> bool
+    ensures { result ≡ is_remedy text.now }
+{
+    text == "stop" || text == "reopen"
+}
+
 /// Whether a value is what a key must hold.
 #[tactic(auto, using(crate::proofs::Tables::tables_in_array))]
 fn fits(known: &Known<'_>, holds: Holds, value: &Value) -> bool
@@ -128,18 +147,25 @@ fn fits(known: &Known<'_>, holds: Holds, value: &Value) -> bool
             Some(number) => is_replica(number),
             None => false,
         },
+        Holds::UpTo(most) => match value.as_integer() {
+            Some(number) => is_up_to(most, number),
+            None => false,
+        },
         Holds::Truth => value.is_bool(),
         Holds::OneTable => value.is_table(),
         Holds::Tables => match value.as_array() {
             Some(values) => are_tables(values.as_slice()),
             None => false,
         },
-        Holds::Text | Holds::Id | Holds::NodeName | Holds::UserName | Holds::FolderId => {
-            match value.as_str() {
-                Some(text) => fits_text(known, holds, text),
-                None => false,
-            }
-        }
+        Holds::Text
+        | Holds::Id
+        | Holds::Remedy
+        | Holds::NodeName
+        | Holds::UserName
+        | Holds::FolderId => match value.as_str() {
+            Some(text) => fits_text(known, holds, text),
+            None => false,
+        },
     }
 }
 

@@ -17,6 +17,7 @@ pub enum Section {
     User,
     Folder,
     Variable,
+    Peer,
 }
 
 /// What a key must hold.
@@ -28,8 +29,12 @@ pub(crate) enum Holds {
     Id,
     /// A number of 1 to 64.
     Replica,
+    /// A number from 1 up to this one.
+    UpTo(u32),
     /// `true` or `false`.
     Truth,
+    /// What is to be done once the store is broken: `stop` or `reopen`.
+    Remedy,
     /// A text of 1 to 256 bytes.
     NodeName,
     /// A text of 1 to 256 bytes that no other user has for a name, and not `anonymous`.
@@ -83,6 +88,20 @@ macro_rules! key {
             holds: Holds::$holds,
         }
     };
+    ($name:literal, up to $most:literal) => {
+        Key {
+            name: $name,
+            required: true,
+            holds: Holds::UpTo($most),
+        }
+    };
+    ($name:literal, up to $most:literal, optional) => {
+        Key {
+            name: $name,
+            required: false,
+            holds: Holds::UpTo($most),
+        }
+    };
     ($name:literal, $holds:ident, optional) => {
         Key {
             name: $name,
@@ -92,26 +111,30 @@ macro_rules! key {
     };
 }
 
-static DOCUMENT: [Key; 5] = [
+static DOCUMENT: [Key; 6] = [
     key!("archive", OneTable),
     key!("server", OneTable),
     key!("user", Tables, optional),
     key!("folder", Tables, optional),
     key!("variable", Tables, optional),
+    key!("peer", Tables, optional),
 ];
 
-static ARCHIVE: [Key; 3] = [
+static ARCHIVE: [Key; 4] = [
     key!("id", Id),
     key!("replica", Replica),
     key!("store", Text, optional),
+    key!("broken", Remedy, optional),
 ];
 
-static SERVER: [Key; 5] = [
+static SERVER: [Key; 7] = [
     key!("listen", Text),
     key!("url", Text),
     key!("application", Text),
     key!("namespace", Text),
     key!("anonymous", Truth),
+    key!("connections", up to 1000, optional),
+    key!("waiting", up to 65536, optional),
 ];
 
 static USER: [Key; 2] = [key!("name", UserName), key!("password", Text)];
@@ -126,6 +149,8 @@ static VARIABLE: [Key; 5] = [
     key!("folder", FolderId, optional),
 ];
 
+static PEER: [Key; 2] = [key!("address", Text), key!("every", up to 86400)];
+
 /// The keys of a kind of table.
 pub(crate) fn keys_of(section: Section) -> &'static [Key]
     ensures { map rule_of result.now ≡ rules section }
@@ -137,5 +162,6 @@ pub(crate) fn keys_of(section: Section) -> &'static [Key]
         Section::User => &USER,
         Section::Folder => &FOLDER,
         Section::Variable => &VARIABLE,
+        Section::Peer => &PEER,
     }
 }

@@ -1,15 +1,17 @@
-//! What a server is set to: its endpoint's URL, its application, its namespace and its users.
+//! What a server is set to: its endpoint's URL, its application, its namespace, its users, and the peers that it calls.
 #![tactic(auto)]
 
 mod fault;
 mod judging;
 mod keys;
 mod looking;
+mod peers;
 mod place;
 mod reading;
 mod settings;
 
 pub use fault::SettingsFault;
 pub use keys::Section;
+pub use peers::{PeerCall, Peers, Remedy};
 pub use place::Place;
 pub use settings::{Parts, Settings};

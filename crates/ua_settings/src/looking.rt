@@ -6,6 +6,8 @@ ghost use Rattle.toml.specs.Data.{get_member, as_str, as_bool, as_integer, as_ta
 ghost use Rattle.toml.specs.View.{view, table_view};
 ghost use Rattle.ua_settings.specs.File.{tables, text_at, many_tables, items_in};
 ghost use Rattle.ua_settings.specs.Judging.{is_replica};
+ghost use Rattle.ua_settings.specs.Reading.{number_or};
+ghost use Rattle.ua_settings.specs.Sound.{IsUpTo};
 ghost use Rattle.toml.specs.Data.{as_array};
 
 use crate::keys::Section;
@@ -59,6 +61,20 @@ pub(crate) fn number(table: &Table, key: &str) -> Option<i64>
     match find(table, key) {
         Some(value) => value.as_integer(),
         None => None,
+    }
+}
+
+/// The number at a key, which is 1 to `most` if one is there; `otherwise` where none is.
+pub(crate) fn number_or(table: &Table, key: &str, most: u32, otherwise: u32) -> u32
+    requires { IsUpTo most key.now (table_view table.now) }
+    ensures { result ≡ number_or otherwise key.now (table_view table.now) }
+{
+    let Some(number) = number(table, key) else {
+        return otherwise;
+    };
+    match u32::try_from(number) {
+        Ok(number) => number,
+        Err(_) => otherwise,
     }
 }
 
@@ -151,5 +167,6 @@ pub(crate) fn tables_of<'a>(
         Section::User => many(alloc, document, "user"),
         Section::Folder => many(alloc, document, "folder"),
         Section::Variable => many(alloc, document, "variable"),
+        Section::Peer => many(alloc, document, "peer"),
     }
 }

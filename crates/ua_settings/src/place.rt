@@ -137,6 +137,7 @@ fn put_heading(section: Section, number: usize, text: &mut String) -> Result<(),
         Section::User => write!(text, "[[user]] {number}, "),
         Section::Folder => write!(text, "[[folder]] {number}, "),
         Section::Variable => write!(text, "[[variable]] {number}, "),
+        Section::Peer => write!(text, "[[peer]] {number}, "),
     }
 }
 

@@ -9,13 +9,14 @@ ghost use Rattle.ua_space.specs.declared.plan.Plan.{Plan};
 ghost use Rattle.ua_space.specs.Lent.{entry_of, folder_of};
 ghost use Rattle.ua_settings.specs.File.{tables, text_at};
 ghost use Rattle.ua_settings.specs.Judging.{is_id, is_replica, test};
-ghost use Rattle.ua_settings.specs.Reading.{folder_in, variable_in, number_at, table_at, values_of_tables, IsAcceptedOrStarved, IsSpaceOrStarved, space_fault};
-ghost use Rattle.ua_settings.specs.Sound.{IsSound, IsSoundArchive, IsSoundUser, IsSoundServer};
+ghost use Rattle.ua_settings.specs.Reading.{folder_in, variable_in, number_at, table_at, peer_in, remedy_named, values_of_tables, IsAcceptedOrStarved, IsSpaceOrStarved, space_fault};
+ghost use Rattle.ua_settings.specs.Sound.{IsSound, IsSoundArchive, IsSoundUser, IsSoundServer, IsSoundPeer};
 
 use crate::fault::SettingsFault;
 use crate::keys::Section;
-use crate::looking::{find_text, number, replica, table_at, tables_of, text, truth};
-use crate::settings::{Parts, Settings};
+use crate::looking::{find_text, number, number_or, replica, table_at, tables_of, text, truth};
+use crate::peers::{Peers, Remedy};
+use crate::settings::{CONNECTIONS, Parts, Settings, WAITING};
 use stamp::ReplicaNo;
 use std::alloc::{AllocError, Global};
 use toml::Table;
@@ -76,6 +77,48 @@ fn read_users(alloc: Global, anonymous: bool, tables: &[&Table]) -> Result<Users
         }
     }
     Ok(users)
+}
+
+/// The peers of these tables.
+fn read_peers(alloc: Global, tables: &[&Table]) -> Result<Peers, SettingsFault>
+    requires { AllByRecursion (λ peer. IsSoundPeer (table_view peer.now)) tables.now }
+    ensures ok { IfOk result
+        (λ peers. peers ≡ map (λ peer. peer_in (table_view peer.now)) tables.now) }
+    ensures err { IfErr result (λ fault. fault ≡ SettingsFault.OutOfMemory) }
+{
+    let mut peers = Peers::new(alloc);
+    for table in tables {
+        match peers.add(text(table, "address"), number_or(table, "every", 86_400, 0)) {
+            Ok(()) => {}
+            Err(_) => return Err(SettingsFault::OutOfMemory),
+        }
+    }
+    Ok(peers)
+}
+
+/// The remedy of this name.
+fn remedy_named(word: &str) -> Option<Remedy>
+    ensures { result ≡ remedy_named word.now }
+{
+    if word == "stop" {
+        Some(Remedy::Stop)
+    } else if word == "reopen" {
+        Some(Remedy::Reopen)
+    } else {
+        None
+    }
+}
+
+/// What is done once the store is broken.
+fn read_remedy(archive: &Table) -> Option<Remedy>
+    ensures { result
+        ≡ option_and_then remedy_named
+        (option_and_then as_str (get_member (codes "broken") (table_view archive.now))) }
+{
+    match find_text(archive, "broken") {
+        None => None,
+        Some(word) => remedy_named(word),
+    }
 }
 
 /// The folders of these tables.
@@ -202,20 +245,27 @@ fn read_store(alloc: Global, archive: &Table) -> Result<Option<Text>, AllocError
     }
 }
 
-/// The settings of the tables `archive` and `server`, with these users and nodes.
+/// Who may use a server, whom it calls, and its nodes.
+struct Listed {
+    users: Users,
+    peers: Peers,
+    space: Space,
+}
+
+/// The settings of the tables `archive` and `server`, with these users, peers and nodes.
 fn settings_of(
     alloc: Global,
     archive: &Table,
     server: &Table,
-    users: Users,
-    space: Space,
+    listed: Listed,
 ) -> Result<Settings, SettingsFault>
     requires archive { IsSoundArchive (table_view archive.now) }
     requires server { IsSoundServer (table_view server.now) }
     ensures ok { IfOk result
         (λ settings. settings
-        ≡ record (values_of_tables (table_view archive.now) (table_view server.now) [] space)
-        { users = users }) }
+        ≡ record
+        (values_of_tables (table_view archive.now) (table_view server.now) [] [] listed.space)
+        { users = listed.users; peers = listed.peers }) }
     ensures err { IfErr result (λ fault. fault ≡ SettingsFault.OutOfMemory) }
 {
     Ok(Settings::of(Parts {
@@ -225,8 +275,12 @@ fn settings_of(
         listen: Text::from_str(alloc, text(server, "listen"))?,
         url: Text::from_str(alloc, text(server, "url"))?,
         application: Text::from_str(alloc, text(server, "application"))?,
-        users,
-        space,
+        users: listed.users,
+        space: listed.space,
+        connections: number_or(server, "connections", 1_000, CONNECTIONS),
+        waiting: number_or(server, "waiting", 65_536, WAITING),
+        broken: read_remedy(archive),
+        peers: listed.peers,
     }))
 }
 
@@ -243,6 +297,13 @@ pub(crate) fn read_document(alloc: Global, document: &Table) -> Result<Settings,
     };
     let tables = tables_of(alloc, document, Section::User)?;
     let users = read_users(alloc, truth(server, "anonymous"), tables.as_slice())?;
+    let callees = tables_of(alloc, document, Section::Peer)?;
+    let peers = read_peers(alloc, callees.as_slice())?;
     let space = read_space(alloc, document, server)?;
-    settings_of(alloc, archive, server, users, space)
+    let listed = Listed {
+        users,
+        peers,
+        space,
+    };
+    settings_of(alloc, archive, server, listed)
 }

@@ -10,6 +10,7 @@ ghost use Rattle.ua_settings.specs.Settings.{bare, IsSettingsText};
 
 use crate::fault::SettingsFault;
 use crate::judging::judge;
+use crate::peers::{Peers, Remedy};
 use crate::reading::read_document;
 use stamp::ReplicaNo;
 use std::alloc::Global;
@@ -19,6 +20,12 @@ use ua_binary::Text;
 use ua_session::Users;
 use ua_space::{Plan, Space};
 use uuid::Uuid;
+
+/// How many connections are served at a time, where the settings don't say.
+pub(crate) const CONNECTIONS: u32 = 64;
+
+/// How many MiB may wait to be written, where the settings don't say.
+pub(crate) const WAITING: u32 = 256;
 
 /// What settings are made of.
 #[derive(Debug, Drop)]
@@ -39,6 +46,14 @@ pub struct Parts {
     pub users: Users,
     /// The nodes of the server.
     pub space: Space,
+    /// How many connections are served at a time, 1 to 1,000.
+    pub connections: u32,
+    /// How many MiB may wait to be written, at all connections together, 1 to 65,536.
+    pub waiting: u32,
+    /// What is done once the store is broken; none: it answers that it is.
+    pub broken: Option<Remedy>,
+    /// The peers that are called.
+    pub peers: Peers,
 }
 
 /// What a server is set to.
@@ -52,6 +67,10 @@ pub struct Settings {
     application: Text,
     users: Users,
     space: Space,
+    connections: u32,
+    waiting: u32,
+    broken: Option<Remedy>,
+    peers: Peers,
 }
 
 impl Model for Settings {
@@ -69,6 +88,10 @@ impl Model for Settings {
           application = s.application;
           users = s.users;
           space = s.space;
+          connections = s.connections;
+          waiting = s.waiting;
+          broken = s.broken;
+          peers = s.peers;
         } };
 
     ghost invariant = { λ s. IsSettingsText s.url × IsSettingsText s.application };
@@ -77,7 +100,7 @@ impl Model for Settings {
 impl Settings {
     /// The settings of a server that was given none: replica 1 of the archive whose id is all zeros, in
     /// memory; `opc.tcp://localhost:4840`, the application `urn:uahist`, the namespace `urn:uahist:archive`
-    /// without variables, and any user without a name. The one error is `OutOfMemory`.
+    /// without variables, any user without a name, and no peers. The one error is `OutOfMemory`.
     #[tactic(auto, unfolding(crate::specs::Settings::bare))]
     pub fn bare(alloc: Global) -> Result<Settings, SettingsFault>
         ensures ok { IfOk result (λ settings. settings ≡ bare) }
@@ -106,6 +129,10 @@ impl Settings {
             application,
             users: Users::new(alloc, true),
             space,
+            connections: CONNECTIONS,
+            waiting: WAITING,
+            broken: None,
+            peers: Peers::new(alloc),
         })
     }
 
@@ -138,6 +165,10 @@ impl Settings {
             application: parts.application,
             users: parts.users,
             space: parts.space,
+            connections: parts.connections,
+            waiting: parts.waiting,
+            broken: parts.broken,
+            peers: parts.peers,
         }
     }
 
@@ -200,6 +231,34 @@ impl Settings {
         ensures { result.now ≡ self.now.space }
     {
         &self.space
+    }
+
+    /// How many connections are served at a time.
+    pub fn connections(&self) -> u32
+        ensures { result ≡ self.now.connections }
+    {
+        self.connections
+    }
+
+    /// How many MiB may wait to be written, at all connections together.
+    pub fn waiting(&self) -> u32
+        ensures { result ≡ self.now.waiting }
+    {
+        self.waiting
+    }
+
+    /// What is done once the store is broken; none: it answers that it is.
+    pub fn broken(&self) -> Option<Remedy>
+        ensures { result ≡ self.now.broken }
+    {
+        self.broken
+    }
+
+    /// The peers that are called.
+    pub fn peers(&self) -> &Peers
+        ensures { result.now ≡ self.now.peers }
+    {
+        &self.peers
     }
 }
 

@@ -3,7 +3,8 @@ use Rattle.std.specs.List.{AllByRecursion}
 use Rattle.toml.specs.Data.{no_members}
 use Rattle.toml.specs.View.{table_view}
 use Rattle.ua_settings.proofs.ReadingParts.{user_in}
-use Rattle.ua_settings.specs.Sound.{IsSoundUser}
+use Rattle.ua_settings.specs.Reading.{peer_in}
+use Rattle.ua_settings.specs.Sound.{IsSoundUser, IsSoundPeer}
 use Rattle.ua_settings.proofs.Plans.{map_twice, all_under, accepted, users_same}
 use Rattle.ua_settings.proofs.reading.read_document.Goals as goal
 
@@ -14,19 +15,31 @@ read_users-requires c =
     (ap (map (λ table. table_view table.now)) c.as_slice.ensures.value
     ∙ c.in_ok-tables.ensures)) c.requires.users)
 
+pub read_peers-requires : goal.read_peers-requires
+read_peers-requires c =
+    all_under (λ table. table_view table.now) IsSoundPeer c.as_slice-2.result.now
+    (subst (AllByRecursion IsSoundPeer) (sym
+    (ap (map (λ table. table_view table.now)) c.as_slice-2.ensures.value
+    ∙ c.in_ok-callees.ensures)) c.requires.peers)
+
 pub returns : goal.returns
 returns c =
     let same_archive = ap (λ table. unwrap_or table no_members) c.in-Some.ensures in
     let same_server = ap (λ table. unwrap_or table no_members) c.in-Some-table_at.ensures in
     let tables = ap (map (λ table. table_view table.now)) c.as_slice.ensures.value
     ∙ c.in_ok-tables.ensures in
+    let callees = ap (map (λ table. table_view table.now)) c.as_slice-2.ensures.value
+    ∙ c.in_ok-callees.ensures in
     let named = sym (map_twice user_in (λ table. table_view table.now) c.as_slice.result.now)
     ∙ ap (map user_in) tables in
+    let called = sym (map_twice peer_in (λ table. table_view table.now) c.as_slice-2.result.now)
+    ∙ ap (map peer_in) callees in
     accepted (table_view c.args.document.now) (table_view c.in-Some.archive.now)
-    (table_view c.in-Some-table_at.server.now) c.in_ok-users.users c.in_ok-space.space
-    c.settings_of.result same_archive same_server
+    (table_view c.in-Some-table_at.server.now) c.in_ok-users.users c.in_ok-peers.peers
+    c.in_ok-space.space c.settings_of.result same_archive same_server
     (c.in_ok-users.ensures.ok ∙ users_same (table_view c.args.document.now)
     (table_view c.in-Some-table_at.server.now) c.truth.result
     (map (λ user. user_in (table_view user.now)) c.as_slice.result.now) same_server
     c.truth.ensures named)
-    c.in_ok-space.ensures c.settings_of.ensures.ok c.settings_of.ensures.err
+    (c.in_ok-peers.ensures.ok ∙ called) c.in_ok-space.ensures
+    c.settings_of.ensures.ok c.settings_of.ensures.err
