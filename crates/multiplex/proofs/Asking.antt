@@ -71,7 +71,7 @@ module _ {E : Type 0} where
   long_waits CallFails none long = true≢false (sym long)
   long_waits CallsNobody none long = true≢false (sym long)
   long_waits (Steps k step) none long = true≢false (sym long)
-  long_waits (Closes k) none long = true≢false (sym long)
+  long_waits (Closes k ending) none long = true≢false (sym long)
 
   -- no wait is among turns without a wait
   first_none : (turn : LoopTurn E) (turns : List (LoopTurn E)) → count_waits (turn ∷ turns) ≡ 0

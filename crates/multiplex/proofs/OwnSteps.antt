@@ -108,9 +108,9 @@ module _ {S H R W V E : Type 0} (source : Effects S R W) (input : Input R) (outp
       passed old middle new k slot (steps_at k turns) (stays old.world middle.world same)
       (own_steps middle new k slot turns rest still stays-open.1)
   own_steps old new k slot (AcceptFails ∷ turns) (middle, is, rest) got stays-open =
-      let still = ap (λ (a : Loop S H R W V E). slice_get a.slots k) is.1 ∙ got in
-      let same = ap (λ (a : Loop S H R W V E). a.world) is.1 in
-      passed old middle new k slot (steps_at k turns) (stays old.world middle.world same)
+      let still = ap (λ (a : Loop S H R W V E). slice_get a.slots k) is.others ∙ got in
+      passed old middle new k slot (steps_at k turns)
+      (laws.fails_accept old.world middle.world old.now is.fails)
       (own_steps middle new k slot turns rest still stays-open.1)
   own_steps old new k slot (AcceptsNobody ∷ turns) (middle, is, rest) got stays-open =
       let still = ap (λ (a : Loop S H R W V E). slice_get a.slots k) is.1 ∙ got in
@@ -140,12 +140,12 @@ module _ {S H R W V E : Type 0} (source : Effects S R W) (input : Input R) (outp
       let same = ap (λ (a : Loop S H R W V E). a.world) is.1 in
       passed old middle new k slot (steps_at k turns) (stays old.world middle.world same)
       (own_steps middle new k slot turns rest still stays-open.1)
-  own_steps old new k slot (Closes j ∷ turns) (middle, is, rest) got stays-open =
+  own_steps old new k slot (Closes j ending ∷ turns) (middle, is, rest) got stays-open =
       let still = elsewhere old middle new j k slot None (steps_at k turns)
       (λ e. stays-open.0 (sym e))
       (ap (λ (a : Loop S H R W V E). a.slots) is.others) got in
-      let same = ap (λ (a : Loop S H R W V E). a.world) is.others in
-      passed old middle new k slot (steps_at k turns) (stays old.world middle.world same)
+      passed old middle new k slot (steps_at k turns)
+      (laws.closes old.world middle.world is.slot.handler ending is.closes)
       (own_steps middle new k slot turns rest still stays-open.1)
   own_steps old new k slot (Steps j step ∷ turns) (middle, is, rest) got stays-open =
       elim (eqb_tells j k) [

@@ -1,7 +1,8 @@
 -- What is in a slot, and how many bytes wait in all of them: the contracts of `turns` and
 -- `serving`.
 use Rattle.std.proofs.Common.{◌≡◌, ℕ, zero, suc, ◌+◌, ◌-◌, ◌<◌, ◌≤◌, Bool, true, false, take, List, [], ◌∷◌, length, get_or, refl, sym, ◌∙◌, ap, subst, arith}
-use Rattle.std.specs.Prelude.{Option, None, Some, slice_get, slice_set, sum_by, nat_lt}
+use Rattle.std.specs.Prelude.{Option, None, Some, IfSome, IfNone, slice_get, slice_set, sum_by, nat_lt}
+use Rattle.multiplex.specs.declared.handler.SlotEnd.{SlotEnd}
 use Rattle.std.proofs.lemmas.Option.{slice_get-get_or, get_or_from_slice_get, same_Some, none-some}
 use Rattle.std.proofs.lemmas.List.{set-get_or, take_all}
 use Rattle.std.proofs.lemmas.List.Sums.{sum_by-cons, sum_by_more, sum_by_more_le}
@@ -150,3 +151,21 @@ pub rests-open : {H R W V E : Type 0} (handler : Behavior H V E) (room : Bool)
     → ((slot : Slot H R W E) → slice_get slots k ≡ Some (Some slot) → MayClose slot → ⊥)
     → IsAtRestAt handler room slots k
 rests-open handler room slots k quiet still slot found = (quiet slot found, still slot found)
+
+-- how the connection in a slot ended, where it is known of the connection that was found there
+pub end-some : {H R W E : Type 0} (slots : List (Option (Slot H R W E))) (k : ℕ)
+    (slot : Slot H R W E) (end : Option (SlotEnd E)) → slice_get slots k ≡ Some (Some slot)
+    → IfSome end (λ ending. MayClose slot × (slot.ending ≡ Some ending))
+    → IfSome end (λ ending. (s : Slot H R W E) × (slice_get slots k ≡ Some (Some s))
+    × MayClose s × (s.ending ≡ Some ending))
+end-some slots k slot None got is = tt
+end-some slots k slot (Some ending) got is = (slot, got, is.0, is.1)
+
+pub end-none : {H R W E : Type 0} (slots : List (Option (Slot H R W E))) (k : ℕ)
+    (slot : Slot H R W E) (end : Option (SlotEnd E)) → slice_get slots k ≡ Some (Some slot)
+    → IfNone end (MayClose slot → ⊥)
+    → IfNone end ((s : Slot H R W E) → slice_get slots k ≡ Some (Some s) → MayClose s → ⊥)
+end-none {H} {R} {W} {E} slots k slot None got is = λ s found may.
+    is (subst (λ (x : Slot H R W E). MayClose x) (same_Some s slot
+    (same_Some (Some s) (Some slot) (sym found ∙ got))) may)
+end-none slots k slot (Some ending) got is = tt

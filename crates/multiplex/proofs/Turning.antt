@@ -4,6 +4,7 @@ use Rattle.std.specs.Prelude.{Option, None, Some, slice_get, slice_set, count_by
 use Rattle.std.proofs.KnownBytes.{Keeps-refl}
 use Rattle.std.proofs.lemmas.Option.{same_Some}
 use Rattle.std.proofs.lemmas.List.Sums.{sum_by-append, sum_by-cons}
+use Rattle.multiplex.specs.declared.handler.SlotEnd.{SlotEnd}
 use Rattle.multiplex.specs.declared.handler.SlotEnd.TheVariants.{Finished, EndOfInput, Broken, IdleTimeout, Displaced}
 use Rattle.multiplex.specs.declared.source.Arrival.{Arrival}
 use Rattle.multiplex.specs.declared.source.Arrival.TheVariants.{Nobody, Failed, Connection}
@@ -151,21 +152,27 @@ module _ {S H R W V E : Type 0} (source : Effects S R W) (input : Input R) (outp
       (subst (λ b. AreSteps input output handler b now v old steps w new) judged is))
 
   -- the connection of a slot was closed
-  pub closed : (old new : S) (slots : List (Option (Slot H R W E))) (v : V) (now k : ℕ)
-      (slot : Slot H R W E)
+  pub closed : (old new : S) (slots : List (Option (Slot H R W E))) (v w : V) (now k : ℕ)
+      (slot : Slot H R W E) (ending : SlotEnd E)
       (left : Option (Slot H R W E)) (ends : R × W) → slice_get slots k ≡ Some (Some slot)
-      → ((s : Slot H R W E) × (slice_get slots k ≡ Some (Some s)) × MayClose s)
+      → ((s : Slot H R W E) × (slice_get slots k ≡ Some (Some s)) × MayClose s
+      × (s.ending ≡ Some ending))
+      → handler.closes v slot.handler ending w
       → ends ≡ (slot.reader, slot.writer)
       → source.closed old ends.0 ends.1 new → left ≡ None
-      → Goes 0 0 (state old slots v now) (state new (slice_set slots k left) v now)
-  closed old new slots v now k slot left ends got (s, found, may) is gave empty =
+      → Goes 0 0 (state old slots v now) (state new (slice_set slots k left) w now)
+  closed old new slots v w now k slot ending left ends got (s, found, may, ended) tells is gave
+      empty =
       let same : s ≡ slot = same_Some s slot (same_Some (Some s) (Some slot) (sym found ∙ got)) in
-      subst (λ l. Goes 0 0 (state old slots v now) (state new (slice_set slots k l) v now))
+      subst (λ l. Goes 0 0 (state old slots v now) (state new (slice_set slots k l) w now))
       (sym empty)
-      (one (Closes k) (state old slots v now) (state new (slice_set slots k None) v now) (record {
+      (one (Closes k ending) (state old slots v now) (state new (slice_set slots k None) w now)
+      (record {
         slot = slot;
         there = got;
         may = subst (λ (x : Slot H R W E). MayClose x) same may;
+        ended = subst (λ (x : Slot H R W E). x.ending ≡ Some ending) same ended;
+        closes = tells;
         closed = subst (λ (p : R × W). source.closed old p.0 p.1 new) is gave;
         others = refl;
       }))
@@ -211,18 +218,19 @@ module _ {S H R W V E : Type 0} (source : Effects S R W) (input : Input R) (outp
       )
 
   -- one came and failed
-  pub accept_failed : (old new : S) (slots : List (Option (Slot H R W E))) (v : V) (now before : ℕ)
-      (came : Arrival R W)
-      → came ≡ Failed → source.accepted old came new → Asked before 1 (state old slots v now)
-      (state new slots v now)
-  accept_failed old new slots v now before came is accepts = (
+  pub accept_failed : (old new : S) (slots : List (Option (Slot H R W E))) (v w : V)
+      (now before : ℕ) (came : Arrival R W)
+      → came ≡ Failed → source.accepted old came new → handler.fails_accept v now w
+      → Asked before 1 (state old slots v now) (state new slots w now)
+  accept_failed old new slots v w now before came is accepts fails = (
     AcceptFails ∷ [],
     (
-      state new slots v now,
-      (
-        subst (λ (a : Arrival R W). source.accepted old a new) is accepts,
-        refl,
-      ),
+      state new slots w now,
+      record {
+        accepted = subst (λ (a : Arrival R W). source.accepted old a new) is accepts;
+        fails = fails;
+        others = refl;
+      },
       refl,
     ),
     refl,

@@ -20,7 +20,7 @@ steps_at k turns = flat_map (λ turn. elim turn [
 
 -- the connection in this slot isn't closed in these turns
 abbrev pub StaysOpen : {E : Type 0} → ℕ → List (LoopTurn E) → Type 0
-StaysOpen k turns = AllByRecursion (λ t. elim t [ Closes j ↦ j ≢ k | _ ↦ Unit {0} ]) turns
+StaysOpen k turns = AllByRecursion (λ t. elim t [ Closes j ending ↦ j ≢ k | _ ↦ Unit {0} ]) turns
 
 -- the bytes that came in some steps
 abbrev pub bytes_received : {E : Type 0} → List (Step E) → List ℕ

@@ -1,5 +1,6 @@
 -- The event loop: what one turn of it is, and an execution of turns.
 use Rattle.std.specs.Prelude.{◌≡◌, ℕ, ◌≤◌, ◌<◌, Bool, true, false, List, [], ◌∷◌, count_by, slice_get, slice_set, Option, None, Some}
+use Rattle.multiplex.specs.declared.handler.SlotEnd.{SlotEnd}
 use Rattle.multiplex.specs.declared.source.Arrival.TheVariants.{Nobody, Failed, Connection}
 use Rattle.multiplex.specs.declared.limits.Limits.{Limits}
 use Rattle.multiplex.specs.Effects.{Effects}
@@ -36,8 +37,8 @@ pub data LoopTurn (E : Type 0) : Type 0 where
   CallFails CallsNobody : LoopTurn E
   -- this happened at the connection of a slot
   Steps : (slot : ℕ) → Step E → LoopTurn E
-  -- the connection of a slot was closed
-  Closes : (slot : ℕ) → LoopTurn E
+  -- the connection of a slot was closed, which ended so
+  Closes : (slot : ℕ) → SlotEnd E → LoopTurn E
 
 -- it was waited
 abbrev pub is_wait : {E : Type 0} → LoopTurn E → Bool
@@ -80,6 +81,12 @@ module _ {S H R W V E : Type 0} (source : Effects S R W) (input : Input R) (outp
       slots = slice_set old.slots k (Some (first_slot first reader writer [] old.now));
     }
 
+  -- a connection came and failed, and the world was told
+  pub record IsFailedAccept (old new : Loop S H R W V E) : Type 0 where
+    pub accepted : source.accepted old.source Failed new.source
+    pub fails : handler.fails_accept old.world old.now new.world
+    pub others : new ≡ record old { source = new.source; world = new.world }
+
   -- a call began, and got a free slot behind those for accepted ones
   pub record IsCall (old : Loop S H R W V E) (k : ℕ) (made : List ℕ)
       (new : Loop S H R W V E) : Type 0 where
@@ -119,13 +126,20 @@ module _ {S H R W V E : Type 0} (source : Effects S R W) (input : Input R) (outp
     pub step_is : IsStep input output handler old.now old.world before step new.world behind
     pub others : new ≡ record old { slots = slice_set old.slots k (Some behind); world = new.world }
 
-  -- the connection of a slot was given back, which is free then
-  pub record IsClose (old : Loop S H R W V E) (k : ℕ) (new : Loop S H R W V E) : Type 0 where
+  -- the connection of a slot was given back, which is free then; the world was told how it ended
+  pub record IsClose (old : Loop S H R W V E) (k : ℕ) (ending : SlotEnd E)
+      (new : Loop S H R W V E) : Type 0 where
     pub slot : Slot H R W E
     pub there : slice_get old.slots k ≡ Some (Some slot)
     pub may : MayClose slot
+    pub ended : slot.ending ≡ Some ending
+    pub closes : handler.closes old.world slot.handler ending new.world
     pub closed : source.closed old.source slot.reader slot.writer new.source
-    pub others : new ≡ record old { source = new.source; slots = slice_set old.slots k None }
+    pub others : new ≡ record old {
+      source = new.source;
+      world = new.world;
+      slots = slice_set old.slots k None;
+    }
 
   -- a call changed the source so, and nothing else
   abbrev pub ChangesSource : (S → Type 0) → Loop S H R W V E → Loop S H R W V E → Type 0
@@ -135,14 +149,14 @@ module _ {S H R W V E : Type 0} (source : Effects S R W) (input : Input R) (outp
   abbrev pub IsLoopTurn : Loop S H R W V E → LoopTurn E → Loop S H R W V E → Type 0
   IsLoopTurn old (Waits busy now) new = IsWait old busy now new
   IsLoopTurn old (Accepts k listener) new = IsAccept old k listener new
-  IsLoopTurn old AcceptFails new = ChangesSource (source.accepted old.source Failed) old new
+  IsLoopTurn old AcceptFails new = IsFailedAccept old new
   IsLoopTurn old AcceptsNobody new = ChangesSource (source.accepted old.source Nobody) old new
   IsLoopTurn old HasNoSlot new = AreTaken limits.accept_slots old.slots × (new ≡ old)
   IsLoopTurn old (Calls k made) new = IsCall old k made new
   IsLoopTurn old CallFails new = IsFailedCall old new
   IsLoopTurn old CallsNobody new = ChangesSource (source.called old.source None) old new
   IsLoopTurn old (Steps k step) new = IsStepAt old k step new
-  IsLoopTurn old (Closes k) new = IsClose old k new
+  IsLoopTurn old (Closes k ending) new = IsClose old k ending new
 
   -- an execution: one turn after the other
   abbrev pub AreTurns : Loop S H R W V E → List (LoopTurn E) → Loop S H R W V E → Type 0

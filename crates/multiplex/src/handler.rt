@@ -72,6 +72,14 @@ pub trait Handler: Drop {
     fn is_established(&self) -> bool
         ensures { result ≡ behavior.is_established self.now };
 
-    /// What answers and calls do are moves of the world.
+    /// Its connection ended so, and is given back: the last call.
+    fn close(self, world: &mut Self::World, ending: SlotEnd<Self::End>)
+        ensures { behavior.closes world.old self ending world.new };
+
+    /// A connection came at a listener, and failed before it could be used.
+    fn fail_accept(world: &mut Self::World, now: u64)
+        ensures { behavior.fails_accept world.old now world.new };
+
+    /// What answers, calls, ends and failed connections do are moves of the world.
     ghost moves_add_up: { MovesAddUp behavior };
 }

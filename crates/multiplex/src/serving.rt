@@ -49,10 +49,12 @@ fn is_done<X>(slots: &[Option<X>], accepted: u64, limits: Limits) -> bool
     is_all(accepted, limits) && are_all_free(slots)
 }
 
-/// Asks who comes; a connection gets this slot, which is free. How many came, one or none.
+/// Asks who comes; a connection gets this slot, which is free, and of one that failed the world is told. How many came,
+/// one or none.
 fn accept_at<S: Source, H: Handler>(
     alloc: Global,
     source: &mut S,
+    world: &mut H::World,
     slots: &mut [Option<Slot<H, S::Reader, S::Writer, H::End>>],
     place: usize,
     round: Round,
@@ -60,9 +62,10 @@ fn accept_at<S: Source, H: Handler>(
     requires within { place < length slots.old }
     requires accepts { place < round.limits.accept_slots }
     requires free { slice_get slots.old place ≡ Some None }
-    ensures turns { (world : H.World) (before : ℕ)
+    ensures turns { (before : ℕ)
         → HasAsked S.effects S.Reader.input S.Writer.output H.behavior round.limits before result
-        (state source.old slots.old world round.now) (state source.new slots.new world round.now) }
+        (state source.old slots.old world.old round.now)
+        (state source.new slots.new world.new round.now) }
     ensures one { result ≤ 1 }
 {
     match source.accept(place) {
@@ -76,7 +79,10 @@ fn accept_at<S: Source, H: Handler>(
             slots[place] = Some(slot);
             1
         }
-        Arrival::Failed => 1,
+        Arrival::Failed => {
+            H::fail_accept(world, round.now);
+            1
+        }
         Arrival::Nobody => 0,
     }
 }
@@ -86,13 +92,14 @@ fn accept_at<S: Source, H: Handler>(
 fn accept_next<S: Source, H: Handler>(
     alloc: Global,
     source: &mut S,
+    world: &mut H::World,
     slots: &mut [Option<Slot<H, S::Reader, S::Writer, H::End>>],
     accepted: u64,
     round: Round,
 ) -> u64
-    ensures turns { (world : H.World)
-        → HasAsked S.effects S.Reader.input S.Writer.output H.behavior round.limits accepted result
-        (state source.old slots.old world round.now) (state source.new slots.new world round.now) }
+    ensures turns { HasAsked S.effects S.Reader.input S.Writer.output H.behavior round.limits accepted result
+        (state source.old slots.old world.old round.now)
+        (state source.new slots.new world.new round.now) }
     ensures one { result ≤ 1 }
     ensures most { IfSome round.limits.connections
         (λ most. accepted ≤ most → accepted + result ≤ most) }
@@ -101,7 +108,7 @@ fn accept_next<S: Source, H: Handler>(
         return 0;
     }
     match free_slot(slots, 0, round.limits.accept_slots) {
-        Some(place) => accept_at::<S, H>(alloc, source, slots, place, round),
+        Some(place) => accept_at::<S, H>(alloc, source, world, slots, place, round),
         None => {
             if source.is_coming() {
                 make_place::<S, H>(slots, round);
@@ -194,7 +201,7 @@ pub fn serve<S: Source, H: Handler>(
             may_call,
             now,
         };
-        accepted += accept_next::<S, H>(alloc, source, slots, accepted, round);
+        accepted += accept_next::<S, H>(alloc, source, world, slots, accepted, round);
         call_next::<S, H>(alloc, source, world, slots, round);
         busy = serve_round::<S, H>(source, world, slots, round, &mut longest_turn);
     }

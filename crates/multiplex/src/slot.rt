@@ -1,6 +1,6 @@
 //! One connection among many.
 
-ghost use Rattle.std.specs.Prelude.{◌≡◌, ◌<◌, ◌⊎◌, ◌↔◌, Bool, IsTrue, false, true, ℕ, length, [], Some};
+ghost use Rattle.std.specs.Prelude.{◌≡◌, ◌<◌, ◌⊎◌, ◌↔◌, Bool, IsTrue, false, true, ℕ, length, [], Some, IfSome, IfNone};
 ghost use Rattle.std.specs.Option.{option_map};
 ghost use Rattle.multiplex.specs.declared.handler.SlotEnd.TheVariants.{Finished, Displaced};
 ghost use Rattle.multiplex.specs.Slots.{first_slot, IsResponsive, IsUnheard, IsQuiet, IsWriteAtRest, MayClose};
@@ -109,7 +109,7 @@ impl<H, R, W, E> Slot<H, R, W, E> {
     }
 
     /// Whether it is over, and all was written that can be.
-    pub(crate) fn may_close(&self) -> bool
+    fn may_close(&self) -> bool
         ensures { IsTrue result ↔ MayClose self.now }
     {
         match &self.ending {
@@ -117,16 +117,6 @@ impl<H, R, W, E> Slot<H, R, W, E> {
             Some(SlotEnd::Finished(_) | SlotEnd::EndOfInput) => self.is_written(),
             Some(SlotEnd::Broken | SlotEnd::IdleTimeout | SlotEnd::Displaced) => true,
         }
-    }
-
-    /// Its reader and its writer.
-    pub(crate) fn into_ends(self) -> (R, W)
-    where
-        H: Drop,
-        E: Drop,
-        ensures { result ≡ (self.reader, self.writer) }
-    {
-        (self.reader, self.writer)
     }
 
     /// When it began, or last brought a whole message.
@@ -171,6 +161,24 @@ impl<H: Handler, R: NonBlockingRead, W: NonBlockingWrite> Slot<H, R, W, H::End> 
     {
         let too_long = now.saturating_sub(self.heard) >= UNHEARD_LIMIT;
         !self.handler.is_established() && too_long
+    }
+
+    /// How it ended, if it is over and all was written that can be.
+    pub(crate) fn end(&self) -> Option<SlotEnd<H::End>>
+        ensures some { IfSome result
+            (λ ending. MayClose self.now × (self.now.ending ≡ Some ending)) }
+        ensures none { IfNone result (MayClose self.now → ⊥) }
+    {
+        if self.may_close() { self.ending } else { None }
+    }
+
+    /// Tells its handler that it ended so. Its reader and its writer.
+    pub(crate) fn close(self, world: &mut H::World, ending: SlotEnd<H::End>) -> (R, W)
+        ensures ends { result ≡ (self.reader, self.writer) }
+        ensures tells { H.behavior.closes world.old self.handler ending world.new }
+    {
+        self.handler.close(world, ending);
+        (self.reader, self.writer)
     }
 
     /// Ends it: it makes place for the next connection.

@@ -1,10 +1,10 @@
 //! One turn of each connection.
 
-ghost use Rattle.std.specs.Prelude.{◌≡◌, ◌≢◌, ◌<◌, ◌≤◌, ℕ, length, IsTrue, true, false, slice_get, Some, None};
+ghost use Rattle.std.specs.Prelude.{◌≡◌, ◌≢◌, ◌<◌, ◌≤◌, ℕ, length, true, false, slice_get, Some, None, IfSome, IfNone};
 ghost use Rattle.multiplex.specs.Slots.{MayClose, has_room, IsQuietAt, IsAtRestAt, waiting_in, all_waiting};
 ghost use Rattle.multiplex.specs.Turns.{TakesTurns, state};
 
-use crate::handler::Handler;
+use crate::handler::{Handler, SlotEnd};
 use crate::limits::Round;
 use crate::slot::{Slot, either};
 use crate::source::Source;
@@ -59,47 +59,52 @@ fn visit_at<S: Source, H: Handler>(
     }
 }
 
-/// Whether the connection in a slot may be closed.
-fn may_close_at<H, R, W, E>(slots: &[Option<Slot<H, R, W, E>>], place: usize) -> bool
+/// How the connection in a slot ended, if it may be closed.
+fn end_at<S: Source, H: Handler>(
+    slots: &[Option<Slot<H, S::Reader, S::Writer, H::End>>],
+    place: usize,
+) -> Option<SlotEnd<H::End>>
     requires { place < length slots.now }
-    ensures may { IsTrue result
-        → (slot : _) × (slice_get slots.now place ≡ Some (Some slot)) × MayClose slot }
-    ensures other { result ≡ false → (slot : _)
-        → slice_get slots.now place ≡ Some (Some slot) → MayClose slot → ⊥ }
+    ensures some { IfSome result
+        (λ ending. (slot : _) × (slice_get slots.now place ≡ Some (Some slot))
+        × MayClose slot × (slot.ending ≡ Some ending)) }
+    ensures none { IfNone result
+        ((slot : _) → slice_get slots.now place ≡ Some (Some slot) → MayClose slot → ⊥) }
 {
     match &slots[place] {
-        Some(slot) => slot.may_close(),
-        None => false,
+        Some(slot) => slot.end(),
+        None => None,
     }
 }
 
-/// Gives back the connection in a slot, where it is over and all was written that can be. Whether it was.
+/// Gives back the connection in a slot, where it is over and all was written that can be, and tells its handler how it
+/// ended. Whether it was.
 fn close_at<S: Source, H: Handler>(
     source: &mut S,
+    world: &mut H::World,
     slots: &mut [Option<Slot<H, S::Reader, S::Writer, H::End>>],
     place: usize,
     round: Round,
 ) -> bool
     requires { place < length slots.old }
-    ensures turns { (world : H.World)
-        → TakesTurns S.effects S.Reader.input S.Writer.output H.behavior round.limits 0 0
-        (state source.old slots.old world round.now) (state source.new slots.new world round.now) }
+    ensures turns { TakesTurns S.effects S.Reader.input S.Writer.output H.behavior round.limits 0 0
+        (state source.old slots.old world.old round.now)
+        (state source.new slots.new world.new round.now) }
     ensures length { length slots.new ≡ length slots.old }
     ensures others { (k : ℕ) → k ≢ place → slice_get slots.new k ≡ slice_get slots.old k }
     ensures same { result ≡ false → slots.new ≡ slots.old }
     ensures other { result ≡ false → (slot : _)
         → slice_get slots.old place ≡ Some (Some slot) → MayClose slot → ⊥ }
 {
-    if !may_close_at(slots, place) {
-        return false;
-    }
-    match slots[place].take() {
-        Some(slot) => {
-            let (reader, writer) = slot.into_ends();
-            source.close(place, reader, writer);
+    match end_at::<S, H>(slots, place) {
+        Some(ending) => {
+            if let Some(slot) = slots[place].take() {
+                let (reader, writer) = slot.close(world, ending);
+                source.close(place, reader, writer);
+            }
             true
         }
-        None => true,
+        None => false,
     }
 }
 
@@ -123,7 +128,7 @@ fn turn_at<S: Source, H: Handler>(
 {
     let ready = source.is_ready(place);
     let busy = visit_at::<S, H>(ready, world, slots, place, round);
-    let closed = close_at::<S, H>(source, slots, place, round);
+    let closed = close_at::<S, H>(source, world, slots, place, round);
     either(busy, closed)
 }
 

@@ -5,7 +5,7 @@ ghost use Rattle.std.specs.Prelude.{◌<◌, ◌≤◌, None};
 
 use multiplex::{
     Arrival, Handler, Limits, NonBlockingRead, NonBlockingWrite, Progress, ReadAttempt,
-    ServeReport, Slot, Source, WriteAttempt, serve,
+    ServeReport, Slot, SlotEnd, Source, WriteAttempt, serve,
 };
 use std::alloc::{AllocError, Global};
 
@@ -239,6 +239,8 @@ impl Handler for Echo {
       answers = λ v old made end w new. Unit {0};
       needs_more = λ h. Unit {0};
       is_established = λ h. h.established;
+      closes = λ v h ending w. Unit {0};
+      fails_accept = λ v now w. Unit {0};
       moves = λ v w. Unit {0};
     } };
 
@@ -247,6 +249,8 @@ impl Handler for Echo {
       more = λ u v w first later. tt;
       answers = λ v w old new made end is. tt;
       calls = λ v w made h is. tt;
+      closes = λ v w h ending is. tt;
+      fails_accept = λ v w now is. tt;
     } };
 
     fn begin(alloc: Global, listener: usize) -> Echo {
@@ -291,6 +295,10 @@ impl Handler for Echo {
     fn is_established(&self) -> bool {
         self.established
     }
+
+    fn close(self, _world: &mut Vec<u8>, _ending: SlotEnd<u8>) {}
+
+    fn fail_accept(_world: &mut Vec<u8>, _now: u64) {}
 }
 
 /// What came of a script.

@@ -2,10 +2,11 @@ use Rattle.multiplex.proofs.Turning.{accepted, accept_failed, nobody_came}
 use Rattle.multiplex.proofs.serving.accept_at.Goals as goal
 
 pub returns-in-Connection-clause-turns : goal.returns-in-Connection-clause-turns
-returns-in-Connection-clause-turns g c world before =
+returns-in-Connection-clause-turns g c before =
     accepted g.S.Source.effects g.S.Reader.NonBlockingRead.input g.S.Writer.NonBlockingWrite.output
     g.H.Handler.behavior c.args.round.limits c.args.source.now
-    c.accept.new.self c.args.slots.now world c.args.round.now c.args.place c.in-Connection.listener
+    c.accept.new.self c.args.slots.now c.args.world.now c.args.round.now c.args.place
+    c.in-Connection.listener
     before c.accept.result
     c.in-Connection.reader c.in-Connection.writer c.begin-first.result c.new.result.items
     c.new-slot.result
@@ -14,17 +15,18 @@ returns-in-Connection-clause-turns g c world before =
     c.new-slot.ensures
 
 pub returns-in-Failed-clause-turns : goal.returns-in-Failed-clause-turns
-returns-in-Failed-clause-turns g c world before =
+returns-in-Failed-clause-turns g c before =
     accept_failed g.S.Source.effects g.S.Reader.NonBlockingRead.input
     g.S.Writer.NonBlockingWrite.output g.H.Handler.behavior c.args.round.limits
     c.args.source.now
-    c.accept.new.self c.args.slots.now world c.args.round.now before c.accept.result c.in-Failed.is
-    c.accept.ensures
+    c.accept.new.self c.args.slots.now c.args.world.now c.fail_accept.new.world c.args.round.now
+    before c.accept.result c.in-Failed.is c.accept.ensures c.fail_accept.ensures
 
 pub returns-in-Nobody-clause-turns : goal.returns-in-Nobody-clause-turns
-returns-in-Nobody-clause-turns g c world before =
+returns-in-Nobody-clause-turns g c before =
     nobody_came g.S.Source.effects g.S.Reader.NonBlockingRead.input
     g.S.Writer.NonBlockingWrite.output g.H.Handler.behavior c.args.round.limits
     c.args.source.now
-    c.accept.new.self c.args.slots.now world c.args.round.now before c.accept.result c.in-Nobody.is
+    c.accept.new.self c.args.slots.now c.args.world.now c.args.round.now before c.accept.result
+    c.in-Nobody.is
     c.accept.ensures

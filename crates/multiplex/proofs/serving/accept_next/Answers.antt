@@ -11,10 +11,11 @@ pub returns-else-is_coming-clause-most : goal.returns-else-is_coming-clause-most
 returns-else-is_coming-clause-most g c = none_more c.args.round.limits.connections c.args.accepted
 
 pub returns-in-Some-clause-turns : goal.returns-in-Some-clause-turns
-returns-in-Some-clause-turns g c world = c.accept_at.ensures.turns world c.args.accepted
+returns-in-Some-clause-turns g c = c.accept_at.ensures.turns c.args.accepted
 
 pub returns-then-is_coming-clause-turns : goal.returns-then-is_coming-clause-turns
-returns-then-is_coming-clause-turns g c world =
+returns-then-is_coming-clause-turns g c =
+    let world = c.args.world.now in
     let now = c.args.round.now in
     no_slot g.S.Source.effects g.S.Reader.NonBlockingRead.input g.S.Writer.NonBlockingWrite.output
     g.H.Handler.behavior c.args.round.limits c.args.accepted
@@ -24,8 +25,8 @@ returns-then-is_coming-clause-turns g c world =
     (c.make_place.ensures c.args.source.now world)
 
 pub returns-else-is_coming-clause-turns : goal.returns-else-is_coming-clause-turns
-returns-else-is_coming-clause-turns g c world =
-    let here = state c.args.source.now c.args.slots.now world c.args.round.now in
+returns-else-is_coming-clause-turns g c =
+    let here = state c.args.source.now c.args.slots.now c.args.world.now c.args.round.now in
     no_slot g.S.Source.effects g.S.Reader.NonBlockingRead.input g.S.Writer.NonBlockingWrite.output
     g.H.Handler.behavior c.args.round.limits c.args.accepted here here
     (λ k below free. c.in-None.ensures.none k (omega arith) below free)

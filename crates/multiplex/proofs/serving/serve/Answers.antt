@@ -60,7 +60,8 @@ loop-preserved g c = record {
             (state c.args.source.now c.args.slots.now c.args.world.now first)
             (state c.loop.source c.loop.slots world last) (state c.wait-now.new.self c.loop.slots
             world now)
-            (state c.accept_next-accepted.new.source c.accept_next-accepted.new.slots world now)
+            (state c.accept_next-accepted.new.source c.accept_next-accepted.new.slots
+            c.accept_next-accepted.new.world now)
             (state c.call_next.new.source c.call_next.new.slots c.call_next.new.world now)
             (state c.serve_round-busy.new.source c.serve_round-busy.new.slots
             c.serve_round-busy.new.world now)
@@ -70,7 +71,7 @@ loop-preserved g c = record {
               others =
                   refl;
             })
-            (c.accept_next-accepted.ensures.turns world) c.call_next.ensures
+            c.accept_next-accepted.ensures.turns c.call_next.ensures
             c.serve_round-busy.ensures.turns
             c.accept_next-accepted.ensures.most,
       );

@@ -4,31 +4,29 @@ use Rattle.multiplex.proofs.Places.{there, get-set_other}
 use Rattle.multiplex.proofs.Turning.{closed, free_still}
 use Rattle.multiplex.proofs.turns.close_at.Goals as goal
 
-pub returns-in-Some-clause-turns : goal.returns-in-Some-clause-turns
-returns-in-Some-clause-turns g c world =
+pub returns-in-Some-take-clause-turns : goal.returns-in-Some-take-clause-turns
+returns-in-Some-take-clause-turns g c =
     closed g.S.Source.effects g.S.Reader.NonBlockingRead.input g.S.Writer.NonBlockingWrite.output
     g.H.Handler.behavior c.args.round.limits c.args.source.now
-    c.close.new.self c.args.slots.now world c.args.round.now c.args.place c.in-Some.slot
-    c.take.new.self c.into_ends-reader.result
-    (there c.args.slots.now c.args.place c.index-slots-place.result (Some c.in-Some.slot) c.requires
-    (sym c.take.ensures.value ∙ c.in-Some.is))
-    (c.may_close_at.ensures.may c.if-not-may_close_at.false) c.into_ends-reader.ensures
+    c.close.new.self c.args.slots.now c.args.world.now c.close-reader.new.world c.args.round.now
+    c.args.place c.in-Some-take.slot c.in-Some.ending
+    c.take.new.self c.close-reader.result
+    (there c.args.slots.now c.args.place c.index-slots-place.result (Some c.in-Some-take.slot)
+    c.requires
+    (sym c.take.ensures.value ∙ c.in-Some-take.is))
+    c.in-Some.ensures.some c.close-reader.ensures.tells c.close-reader.ensures.ends
     c.close.ensures
     c.take.ensures.after
 
-pub returns-in-Some-clause-others : goal.returns-in-Some-clause-others
-returns-in-Some-clause-others g c k other = get-set_other c.args.slots.now c.args.place k
+pub returns-in-Some-take-clause-others : goal.returns-in-Some-take-clause-others
+returns-in-Some-take-clause-others g c k other = get-set_other c.args.slots.now c.args.place k
     c.take.new.self other
 
-pub returns-in-None-clause-turns : goal.returns-in-None-clause-turns
-returns-in-None-clause-turns g c world =
+pub returns-in_default-clause-turns : goal.returns-in_default-clause-turns
+returns-in_default-clause-turns g c =
     free_still g.S.Source.effects g.S.Reader.NonBlockingRead.input
     g.S.Writer.NonBlockingWrite.output g.H.Handler.behavior c.args.round.limits
     c.args.source.now
-    c.args.slots.now world c.args.round.now c.args.place c.take.new.self
+    c.args.slots.now c.args.world.now c.args.round.now c.args.place c.take.new.self
     (there c.args.slots.now c.args.place c.index-slots-place.result None c.requires
-    (sym c.take.ensures.value ∙ c.in-None.is)) c.take.ensures.after
-
-pub returns-in-None-clause-others : goal.returns-in-None-clause-others
-returns-in-None-clause-others g c k other = get-set_other c.args.slots.now c.args.place k
-    c.take.new.self other
+    (sym c.take.ensures.value ∙ c.in_default.is)) c.take.ensures.after

@@ -12,9 +12,8 @@ returns-clause-turns g c =
     g.H.Handler.behavior c.args.round.limits 0 0 0 0
     (state c.args.source.now c.args.slots.now c.args.world.now now)
     (state c.args.source.now c.visit_at-busy.new.slots c.visit_at-busy.new.world now)
-    (state c.close_at-closed.new.source c.close_at-closed.new.slots c.visit_at-busy.new.world now)
-    (c.visit_at-busy.ensures.turns c.args.source.now) (c.close_at-closed.ensures.turns
-    c.visit_at-busy.new.world)
+    (state c.close_at-closed.new.source c.close_at-closed.new.slots c.close_at-closed.new.world now)
+    (c.visit_at-busy.ensures.turns c.args.source.now) c.close_at-closed.ensures.turns
 
 pub returns-clause-others : goal.returns-clause-others
 returns-clause-others g c k other = c.close_at-closed.ensures.others k other
