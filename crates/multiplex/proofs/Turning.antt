@@ -5,7 +5,7 @@ use Rattle.std.proofs.KnownBytes.{Keeps-refl}
 use Rattle.std.proofs.lemmas.Option.{same_Some}
 use Rattle.std.proofs.lemmas.List.Sums.{sum_by-append, sum_by-cons}
 use Rattle.multiplex.specs.declared.handler.SlotEnd.{SlotEnd}
-use Rattle.multiplex.specs.declared.handler.SlotEnd.TheVariants.{Finished, EndOfInput, Broken, IdleTimeout, Displaced}
+use Rattle.multiplex.specs.declared.handler.SlotEnd.TheVariants.{Finished, EndOfInput, ReadFailed, WriteFailed, IdleTimeout, Displaced}
 use Rattle.multiplex.specs.declared.source.Arrival.{Arrival}
 use Rattle.multiplex.specs.declared.source.Arrival.TheVariants.{Nobody, Failed, Connection}
 use Rattle.multiplex.specs.declared.limits.Limits.{Limits}
@@ -91,7 +91,8 @@ module _ {S H R W V E : Type 0} (source : Effects S R W) (input : Input R) (outp
   still_allowed slots k now v w first old new (Writes bytes) has_to got allowed is = tt
   still_allowed slots k now v w first old new (Stops (Finished end)) has_to got allowed is = tt
   still_allowed slots k now v w first old new (Stops EndOfInput) has_to got allowed is = tt
-  still_allowed slots k now v w first old new (Stops Broken) has_to got allowed is = tt
+  still_allowed slots k now v w first old new (Stops ReadFailed) has_to got allowed is = tt
+  still_allowed slots k now v w first old new (Stops WriteFailed) has_to got allowed is = tt
   still_allowed slots k now v w first old new (Stops IdleTimeout) has_to got allowed is = tt
   still_allowed slots k now v w first old new (Stops Displaced) has_to got allowed is = absurd
       allowed

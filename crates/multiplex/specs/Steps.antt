@@ -3,7 +3,7 @@ use Rattle.std.specs.Prelude.{◌≡◌, ◌⊎◌, ℕ, ◌+◌, ◌≤◌, Boo
 use Rattle.std.specs.Option.{option_map}
 use Rattle.std.specs.Io.KnownBytes.{Appends, Consumes, IsAtEnd, Keeps}
 use Rattle.multiplex.specs.declared.handler.SlotEnd.{SlotEnd}
-use Rattle.multiplex.specs.declared.handler.SlotEnd.TheVariants.{Finished, EndOfInput, Broken, IdleTimeout, Displaced}
+use Rattle.multiplex.specs.declared.handler.SlotEnd.TheVariants.{Finished, EndOfInput, ReadFailed, WriteFailed, IdleTimeout, Displaced}
 use Rattle.multiplex.specs.Input.{Input}
 use Rattle.multiplex.specs.Output.{Output}
 use Rattle.multiplex.specs.Behavior.{Behavior}
@@ -82,7 +82,8 @@ module _ {H R W V E : Type 0} (input : Input R) (output : Output W) (handler : B
   MayStop now old ending new = elim ending [
     | Finished end ↦ ⊥
     | EndOfInput ↦ IsAtEnd (input.unread new.reader) × handler.needs_more old.handler
-    | Broken ↦ input.has_failed new.reader ⊎ output.has_failed new.writer
+    | ReadFailed ↦ input.has_failed new.reader
+    | WriteFailed ↦ output.has_failed new.writer
     | IdleTimeout ↦ old.active + idle_limit ≤ now
     | Displaced ↦ IsUnheard handler now old
   ]

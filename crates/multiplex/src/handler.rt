@@ -14,8 +14,10 @@ pub enum SlotEnd<E> {
     Finished(E),
     /// Its other end writes no more.
     EndOfInput,
-    /// A read or a write failed.
-    Broken,
+    /// A read failed.
+    ReadFailed,
+    /// A write failed.
+    WriteFailed,
     /// No byte came or went for too long.
     IdleTimeout,
     /// It made place for the next connection.

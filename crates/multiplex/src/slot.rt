@@ -115,7 +115,12 @@ impl<H, R, W, E> Slot<H, R, W, E> {
         match &self.ending {
             None => false,
             Some(SlotEnd::Finished(_) | SlotEnd::EndOfInput) => self.is_written(),
-            Some(SlotEnd::Broken | SlotEnd::IdleTimeout | SlotEnd::Displaced) => true,
+            Some(
+                SlotEnd::ReadFailed
+                | SlotEnd::WriteFailed
+                | SlotEnd::IdleTimeout
+                | SlotEnd::Displaced,
+            ) => true,
         }
     }
 
@@ -251,7 +256,7 @@ impl<H: Handler, R: NonBlockingRead, W: NonBlockingWrite> Slot<H, R, W, H::End> 
                 false
             }
             WriteAttempt::Failed => {
-                self.ending = Some(SlotEnd::Broken);
+                self.ending = Some(SlotEnd::WriteFailed);
                 false
             }
         }
@@ -342,7 +347,7 @@ impl<H: Handler, R: NonBlockingRead, W: NonBlockingWrite> Slot<H, R, W, H::End> 
                 false
             }
             ReadAttempt::Failed => {
-                self.ending = Some(SlotEnd::Broken);
+                self.ending = Some(SlotEnd::ReadFailed);
                 false
             }
         }

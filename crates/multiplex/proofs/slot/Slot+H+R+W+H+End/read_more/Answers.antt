@@ -1,7 +1,7 @@
-use Rattle.std.proofs.Common.{refl, take, inl, subst, sym}
+use Rattle.std.proofs.Common.{refl, take, subst, sym}
 use Rattle.std.proofs.KnownBytes.{Keeps-refl}
 use Rattle.multiplex.specs.Slots.{Slot}
-use Rattle.multiplex.specs.declared.handler.SlotEnd.TheVariants.{EndOfInput, Broken}
+use Rattle.multiplex.specs.declared.handler.SlotEnd.TheVariants.{EndOfInput, ReadFailed}
 use Rattle.multiplex.proofs.Stepping.{received, found_empty, stopped}
 use Rattle.multiplex.proofs.slot.Slot+H+R+W+H+End.read_more.Goals as goal
 
@@ -42,5 +42,5 @@ returns-in-Failed-clause-steps g c v room =
     let did = rw c.in-Failed.is at c.try_read.ensures in
     stopped g.R.NonBlockingRead.input g.W.NonBlockingWrite.output g.H.Handler.behavior room
     c.args.now v _ _
-    c.try_read.new.self c.self.inside.writer Broken c.self.view_is did.0 (Keeps-refl _) tt
-    (inl did.1)
+    c.try_read.new.self c.self.inside.writer ReadFailed c.self.view_is did.0 (Keeps-refl _)
+    tt did.1

@@ -1,6 +1,6 @@
-use Rattle.std.proofs.Common.{length, take, drop, inr, ◌+◌, ◌-◌}
+use Rattle.std.proofs.Common.{length, take, drop, ◌+◌, ◌-◌}
 use Rattle.std.proofs.KnownBytes.{Keeps-refl}
-use Rattle.multiplex.specs.declared.handler.SlotEnd.TheVariants.{Broken}
+use Rattle.multiplex.specs.declared.handler.SlotEnd.TheVariants.{WriteFailed}
 use Rattle.multiplex.proofs.Stepping.{wrote, found_full, stopped, first_of}
 use Rattle.multiplex.proofs.slot.Slot+H+R+W+H+End.write_some.Goals as goal
 
@@ -27,5 +27,5 @@ returns-in-Failed-clause-steps g c v room =
     let did = rw c.in-Failed.is at c.try_write.ensures in
     stopped g.R.NonBlockingRead.input g.W.NonBlockingWrite.output g.H.Handler.behavior room
     c.args.now v _ _
-    c.self.inside.reader c.try_write.new.self Broken c.self.view_is (Keeps-refl _) did.0 tt
-    (inr did.1)
+    c.self.inside.reader c.try_write.new.self WriteFailed c.self.view_is (Keeps-refl _) did.0
+    tt did.1
