@@ -1,12 +1,14 @@
-//! Connections one after the other, of clients and of peers.
+//! Connections at once, of clients and of peers.
 
 use crate::peers::{answered, called, filled_replica, replica};
-use server_rows::network::{Client, Clients};
+use archive::ListArchive;
+use multiplex::serve;
+use server_rows::network::{Client, Clients, Faults};
 use server_rows::plant::{archive_of, clock, plant};
 use server_rows::streams::{ACK, ANSWER, BEGIN, BEGUN, HELLO, OPEN, OPENED, REQUEST, bytes_of};
 use std::alloc::Global;
 use std::test::Fail;
-use ua_server::{Counted, Server, serve_connections};
+use ua_server::{ConstantClock, Conversation, Limits, ServeFault, Server, World};
 
 /// A Read of the value as the fourth message of a connection, and its answer.
 const READ: &str =
@@ -15,27 +17,52 @@ const READ: &str =
 const VALUE: &str =
     "4D534746520000000100000001000000040000000900000001007A0200803ED5DEB19D01090000000000000000FFFFFFFF000000010000000D06070000000A0000000000000000803ED5DEB19D01FFFFFFFF";
 
-/// Of so many connections a plant's server writes this, and this is told.
+/// The slots of a server for this many connections at a time.
+const SLOTS: usize = 4;
+
+/// Of so many connections a plant's server writes these bytes to the clients of these numbers, and these faults are told.
 fn is_served(
     alloc: Global,
     clients: &[Option<Client<'_>>],
     connections: u32,
-    want: &[Vec<u8>],
-    told: &str,
+    want: &[(usize, Vec<u8>)],
+    told: &[ServeFault],
 ) -> Result<bool, Fail> {
     let settings = plant(alloc)?;
     let archive = archive_of(alloc, &settings);
-    let mut server = Server::new(alloc, settings, archive);
-    let mut listener = Clients::new(alloc, clients);
-    let mut errors = Counted::new(Vec::new(alloc));
-    serve_connections(
-        &mut server,
-        &mut listener,
-        connections,
-        &mut clock(),
-        &mut errors,
+    let mut world = World {
+        server: Server::new(alloc, settings, archive),
+        clock: clock(),
+        log: Faults {
+            told: Vec::new(alloc),
+        },
+    };
+    let mut source = Clients::new(alloc, clients);
+    let mut slots = Vec::new(alloc);
+    for _ in 0..SLOTS {
+        slots.push(None)?;
+    }
+    let limits = Limits {
+        connections: Some(u64::from(connections)),
+        accept_slots: SLOTS,
+        waiting_bytes: 1_000_000,
+        rounds: 10_000,
+    };
+    let report = serve::<Clients<'_>, Conversation<ListArchive, ConstantClock, Faults>>(
+        alloc,
+        &mut source,
+        &mut world,
+        slots.as_mut_slice(),
+        limits,
     );
-    Ok(listener.written.as_slice() == want && errors.into_inner().as_slice() == told.as_bytes())
+    let written = want.iter().all(|(number, bytes)| source.written_to(*number)
+        == Some(bytes.as_slice()));
+    Ok(
+        report.is_done
+            && written
+            && source.written.len() == want.len()
+            && world.log.told.as_slice() == told,
+    )
 }
 
 /// A client that reads all it is written, and ends well.
@@ -47,11 +74,11 @@ fn well(bytes: &[u8]) -> Option<Client<'_>> {
     })
 }
 
-/// The bytes of each of these answers.
-fn all_of(alloc: Global, answers: &[&[&str]]) -> Result<Vec<Vec<u8>>, Fail> {
+/// The bytes of each of these answers, to the clients of these numbers.
+fn all_of(alloc: Global, answers: &[(usize, &[&str])]) -> Result<Vec<(usize, Vec<u8>)>, Fail> {
     let mut all = Vec::new(alloc);
-    for parts in answers {
-        all.push(bytes_of(alloc, parts)?)?;
+    for (number, parts) in answers {
+        all.push((*number, bytes_of(alloc, parts)?))?;
     }
     Ok(all)
 }
@@ -70,10 +97,16 @@ fn goes_on<'a>(alloc: Global, bytes: &'a [u8], begun: &'a [u8]) -> Result<bool, 
         room: 28,
     });
     let clients = [breaks, deaf, None, well(bytes), well(begun)];
-    let want = all_of(alloc, &[&[ACK, OPENED], &[ACK], &[ACK, OPENED, ANSWER]])?;
-    let told =
-        "uahist: connection ended (1)\nuahist: connection ended (2)\nuahist: connection ended (1)\n";
-    is_served(alloc, &clients, 4, want.as_slice(), told)
+    let want = all_of(
+        alloc,
+        &[
+            (0, &[ACK, OPENED]),
+            (1, &[ACK]),
+            (3, &[ACK, OPENED, ANSWER]),
+        ],
+    )?;
+    let told = [ServeFault::Read, ServeFault::Write, ServeFault::Read];
+    is_served(alloc, &clients, 4, want.as_slice(), &told)
 }
 
 /// One that breaks off inside a message, one that takes no answer, and one that can't be had are told, and the next one is
@@ -102,9 +135,14 @@ fn brought(alloc: Global) -> Result<(Vec<u8>, Vec<u8>), Fail> {
 
 /// Whether a client is greeted, a peer is answered so to what it brings, and the next client reads that.
 fn reads_what_came(alloc: Global, brings: &[u8], answer: Vec<u8>) -> Result<bool, Fail> {
-    let mut want = all_of(alloc, &[&[ACK, OPENED, ANSWER]])?;
-    want.push(answer)?;
-    want.push(bytes_of(alloc, &[ACK, OPENED, BEGUN[0], BEGUN[1], VALUE])?)?;
+    let mut want = all_of(
+        alloc,
+        &[
+            (0, &[ACK, OPENED, ANSWER]),
+            (2, &[ACK, OPENED, BEGUN[0], BEGUN[1], VALUE]),
+        ],
+    )?;
+    want.push((1, answer))?;
     let greets = bytes_of(alloc, &[HELLO, OPEN, REQUEST])?;
     let reads = bytes_of(alloc, &[HELLO, OPEN, BEGIN[0], BEGIN[1], READ])?;
     let clients = [
@@ -112,7 +150,7 @@ fn reads_what_came(alloc: Global, brings: &[u8], answer: Vec<u8>) -> Result<bool
         well(brings),
         well(reads.as_slice()),
     ];
-    is_served(alloc, &clients, 3, want.as_slice(), "")
+    is_served(alloc, &clients, 3, want.as_slice(), &[])
 }
 
 /// A client reads what a peer brought between it and the client before.
@@ -134,11 +172,10 @@ fn serves_short_inputs(rt: HostRuntime) -> Result<(), Fail> {
         room: 10_000,
     });
     let mut want = Vec::new(alloc);
-    for _ in 0..3 {
-        want.push(Vec::new(alloc))?;
+    for number in 0..3 {
+        want.push((number, Vec::new(alloc)))?;
     }
     let clients = [well(b""), well(b"RX"), breaks];
-    let told = "uahist: connection ended (1)\n";
-    assert!(rt; is_served(alloc, &clients, 3, want.as_slice(), told)?);
+    assert!(rt; is_served(alloc, &clients, 3, want.as_slice(), &[ServeFault::Read])?);
     Ok(())
 }

@@ -9,8 +9,8 @@ use stamp::ReplicaNo;
 use std::alloc::Global;
 use std::net::SocketAddr;
 use ua_server::{
-    Asked, ConstantClock, Counted, Host, Line, LineFault, Listener, ProgramFault, ServeFault,
-    read_line, report, run,
+    Asked, ConstantClock, Counted, Host, Line, LineFault, ProgramFault, ServeFault, read_line,
+    report, run,
 };
 use uuid::Uuid;
 
@@ -501,7 +501,7 @@ static RUNS: [(&[&str], &[u8], usize, &str, &str, u8); 34] = [
         b"",
         1000,
         "",
-        "uahist: connection ended (2)\nuahist: connection ended (1)\n",
+        "uahist: connection ended (1)\nuahist: connection ended (2)\n",
         0,
     ),
 ];
@@ -577,7 +577,7 @@ struct Machine(Global);
 impl Host for Machine {
     type Archive = ListArchive;
 
-    type Listener = Clients<'static>;
+    type Source = Clients<'static>;
 
     type Reader = Slow<'static>;
 
@@ -621,12 +621,13 @@ impl Host for Machine {
     /// The first of the clients is the peer at port 4840; the one at port 4842 holds nothing, and that at 4843
     /// refuses.
     fn call(&mut self, address: SocketAddr) -> Option<(Slow<'static>, Narrow)> {
-        match address.port() {
-            4840 => Clients::new(self.0, &CALLERS).accept(),
-            4842 => Clients::new(self.0, &QUIET_PEER).accept(),
-            4843 => Clients::new(self.0, &REFUSING_PEER).accept(),
-            _ => None,
-        }
+        let peer = match address.port() {
+            4840 => CALLERS[0]?,
+            4842 => QUIET_PEER[0]?,
+            4843 => REFUSING_PEER[0]?,
+            _ => return None,
+        };
+        Some(peer.ends(self.0))
     }
 
     fn part(&mut self, reader: Counted<Slow<'static>>, writer: Counted<Narrow>)
@@ -647,24 +648,23 @@ fn is_run(
     said: &str,
     status: u8,
 ) -> bool {
-    let mut errors = Counted::new(Vec::new(alloc));
     let mut reader = Counted::new(input);
     let mut writer = Counted::new(Narrow {
         bytes: Vec::new(alloc),
         room,
     });
-    let ending = run(
+    let mut ran = run(
         alloc,
         words,
         &mut Machine(alloc),
-        &mut ConstantClock(116_444_736_000_000_000),
+        ConstantClock(116_444_736_000_000_000),
         &mut reader,
         &mut writer,
-        &mut errors,
+        Counted::new(Vec::new(alloc)),
     );
-    report(ending, &mut errors) == status
+    report(ran.ending, &mut ran.errors) == status
         && writer.into_inner().bytes.starts_with(printed.as_bytes())
-        && errors.into_inner().as_slice() == said.as_bytes()
+        && ran.errors.into_inner().as_slice() == said.as_bytes()
 }
 
 #[test]

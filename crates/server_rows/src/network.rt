@@ -1,8 +1,11 @@
-//! Connections in memory: the clients that come, one after the other.
+//! Connections in memory: the clients that come, and what each of them is written.
 
 use crate::ends::{Narrow, Slow};
+use counted_io::ServeFault;
+use multiplex::{Arrival, NonBlockingRead, NonBlockingWrite, ReadAttempt, Source, WriteAttempt};
 use std::alloc::Global;
-use ua_server::{Counted, Listener};
+use std::io::{Read, Write};
+use ua_server::Log;
 
 /// A client: what it writes, whether its connection breaks behind that, and how many bytes it takes.
 #[derive(Clone, Copy)]
@@ -12,13 +15,68 @@ pub struct Client<'a> {
     pub room: usize,
 }
 
+impl<'a> Client<'a> {
+    /// What it writes, and what it reads.
+    pub fn ends(&self, alloc: Global) -> (Slow<'a>, Narrow) {
+        let reader = Slow {
+            bytes: self.bytes,
+            size: 40,
+            fails: self.breaks,
+        };
+        let writer = Narrow {
+            bytes: Vec::new(alloc),
+            room: self.room,
+        };
+        (reader, writer)
+    }
+}
+
+/// What a client writes, without waiting.
+#[derive(Drop)]
+pub struct Mouth<'a>(Slow<'a>);
+
+impl NonBlockingRead for Mouth<'_> {
+    ghost use Rattle.std.specs.Prelude.{None};
+
+    ghost input = { record { unread = λ m. None; is_empty = λ m. Unit {0}; has_failed = λ m. Unit {0} } };
+
+    fn try_read(&mut self, piece: &mut [u8]) -> ReadAttempt {
+        match self.0.read(piece) {
+            Ok(0) => ReadAttempt::EndOfInput,
+            Ok(n) => ReadAttempt::Read(n),
+            Err(_) => ReadAttempt::Failed,
+        }
+    }
+}
+
+/// What the client of a number reads, without waiting.
+#[derive(Drop)]
+pub struct Ear {
+    number: usize,
+    end: Narrow,
+}
+
+impl NonBlockingWrite for Ear {
+    ghost use Rattle.std.specs.Prelude.{None};
+
+    ghost output = { record { written = λ m. None; is_full = λ m. Unit {0}; has_failed = λ m. Unit {0} } };
+
+    fn try_write(&mut self, bytes: &[u8]) -> WriteAttempt {
+        match self.end.write(bytes) {
+            Ok(0) => WriteAttempt::Failed,
+            Ok(n) => WriteAttempt::Written(n),
+            Err(_) => WriteAttempt::Failed,
+        }
+    }
+}
+
 /// Gives these clients, one after the other, where one is there, and keeps what each of them was written.
 #[derive(Drop)]
 pub struct Clients<'a> {
     pub alloc: Global,
     pub clients: &'a [Option<Client<'a>>],
     pub taken: usize,
-    pub written: Vec<Vec<u8>>,
+    pub written: Vec<(usize, Vec<u8>)>,
 }
 
 impl<'a> Clients<'a> {
@@ -31,37 +89,86 @@ impl<'a> Clients<'a> {
             written: Vec::new(alloc),
         }
     }
+
+    /// What the client of this number was written, once its connection was closed.
+    pub fn written_to(&self, number: usize) -> Option<&[u8]> {
+        let (_, bytes) = self.written.iter().find(|(other, _)| *other == number)?;
+        Some(bytes.as_slice())
+    }
 }
 
-impl<'a> Listener for Clients<'a> {
-    type Reader = Slow<'a>;
+impl<'a> Source for Clients<'a> {
+    type Reader = Mouth<'a>;
 
-    type Writer = Narrow;
+    type Writer = Ear;
 
-    ghost accepted = { λ old came new. Unit {0} };
+    ghost effects = { record {
+      waited = λ old busy now new. Unit {0};
+      accepted = λ old came new. Unit {0};
+      called = λ old came new. Unit {0};
+      closed = λ old reader writer new. Unit {0};
+    } };
 
-    ghost closed = { λ old reader writer new. Unit {0} };
-
-    fn accept(&mut self) -> Option<(Slow<'a>, Narrow)> {
-        let next = self.taken;
-        self.taken = next.saturating_add(1);
-        let client = (*self.clients.get(next)?)?;
-        let reader = Slow {
-            bytes: client.bytes,
-            size: 40,
-            fails: client.breaks,
-        };
-        let writer = Narrow {
-            bytes: Vec::new(self.alloc),
-            room: client.room,
-        };
-        Some((reader, writer))
+    fn wait(&mut self, _busy: bool) -> u64 {
+        0
     }
 
-    fn close(&mut self, reader: Counted<Slow<'a>>, writer: Counted<Narrow>)
+    fn clock(&self) -> u64 {
+        0
+    }
+
+    fn accept(&mut self, _slot: usize) -> Arrival<Mouth<'a>, Ear> {
+        let number = self.taken;
+        self.taken = number.saturating_add(1);
+        match self.clients.get(number) {
+            Some(Some(client)) => {
+                let (reader, end) = client.ends(self.alloc);
+                Arrival::Connection {
+                    listener: 0,
+                    reader: Mouth(reader),
+                    writer: Ear { number, end },
+                }
+            }
+            Some(None) | None => Arrival::Failed,
+        }
+    }
+
+    fn call(&mut self, _slot: usize, _now: u64) -> Option<(Mouth<'a>, Ear)> {
+        None
+    }
+
+    fn is_ready(&self, _slot: usize) -> bool {
+        true
+    }
+
+    fn is_coming(&self) -> bool {
+        true
+    }
+
+    fn close(&mut self, _slot: usize, reader: Mouth<'a>, writer: Ear)
         ensures { Unit {0} }
     {
         drop(reader);
-        let _ = self.written.push(writer.into_inner().bytes);
+        let _ = self.written.push((writer.number, writer.end.bytes));
+    }
+}
+
+/// Keeps what it is told; a connection that failed before it could be used is one of reading.
+#[derive(Drop)]
+pub struct Faults {
+    pub told: Vec<ServeFault>,
+}
+
+impl Log for Faults {
+    ghost told = { λ old fault new. Unit {0} };
+
+    ghost told_failed = { λ old now new. Unit {0} };
+
+    fn tell(&mut self, fault: ServeFault) {
+        let _ = self.told.push(fault);
+    }
+
+    fn tell_failed(&mut self, _now: u64) {
+        let _ = self.told.push(ServeFault::Read);
     }
 }

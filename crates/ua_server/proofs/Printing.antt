@@ -20,9 +20,9 @@ use Rattle.command_line.specs.Line.{IsLine, MayAskForText}
 use Rattle.ua_settings.specs.Settings.{SettingsValues}
 use Rattle.archive.specs.Store.{Store}
 use Rattle.ua_server.specs.Host.{Machine, KnownMachine}
-use Rattle.ua_server.specs.Network.{Readings, Known}
+use Rattle.ua_server.specs.Network.{Readings}
 use Rattle.ua_server.specs.Program.{SettingsAt, OpensBy, CallsPeer, Calling, Scene, PrintsSynced, Shows, Findings, IsMistaken, DoesCommand, DoesLine, Runs, settings_path}
-use Rattle.ua_server.specs.Telling.{dump_fault, fault_of}
+use Rattle.ua_server.specs.Telling.{Known, dump_fault, fault_of}
 use Rattle.ua_server.proofs.ProgramParts.{IsUnbegun}
 
 -- settings are refused as a line where memory for those without a file was wanting

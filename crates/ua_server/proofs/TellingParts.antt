@@ -1,5 +1,5 @@
 -- Names for parts of the definitions in specs/Telling, for the lemmas on these parts.
-use Rattle.std.proofs.Common.{◌≡◌, ◌≤◌, ◌<◌, ◌+◌, ◌-◌, ℕ, Bool, List, [], ◌++◌, length, take, codes, cond, Some, None, refl, ap, ◌∙◌, arith}
+use Rattle.std.proofs.Common.{◌≡◌, ◌≤◌, ◌<◌, ◌+◌, ◌-◌, ℕ, Bool, List, [], ◌++◌, length, take, codes, cond, Some, None, refl, ap, ◌∙◌, append_assoc, arith}
 use Rattle.std.proofs.lemmas.Bool.{le-leb}
 use Rattle.std.proofs.lemmas.List.{length-append}
 use Rattle.std.specs.Fmt.{decimal}
@@ -7,7 +7,7 @@ use Rattle.std.specs.Fmt.Cut.{cut_to, dots, floor_char_boundary}
 use Rattle.std.specs.Prelude.{Option}
 use Rattle.ua_server.specs.declared.program.ProgramFault.{ProgramFault}
 use Rattle.ua_server.specs.declared.program.ProgramFault.TheVariants.{Line, File, Settings, Store, BadHex, Address, Connection, Call, Exchange, Peer}
-use Rattle.ua_server.specs.Telling.{words_of, number_told, numbered, fault_text, told_line, place_line}
+use Rattle.ua_server.specs.Telling.{words_of, number_told, numbered, fault_text, failed_text, told_line, place_line}
 
 -- the text of a fault without a number, and of one with it
 pub text-without : (fault : ProgramFault) → number_told fault ≡ None
@@ -76,6 +76,28 @@ numbered-text t0 t1 t2 t3 t4 words digits n none short is few one two three four
     ∙ ap (λ (l : List ℕ). ((words ++ left) ++ decimal n) ++ l)
     (cut-fits 1 (codes ")") (omega arith))) in
     fourth
+
+-- a number between two texts, where there is room for all of them
+pub missed-text : (t0 t1 t2 t3 digits : List ℕ) (n : ℕ) → t0 ≡ [] → digits ≡ decimal n
+    → length digits ≤ 40
+    → (length t0 + 40 < 100 → t1 ≡ t0 ++ cut_to 40 (codes "connection ended (1), and "))
+    → (length t1 + 40 < 100 → t2 ≡ t1 ++ cut_to 40 digits)
+    → (length t2 + 10 < 100 → t3 ≡ t2 ++ cut_to 10 (codes " before it"))
+    → t3 ≡ failed_text n
+missed-text t0 t1 t2 t3 digits n none is few one two three =
+    let left = codes "connection ended (1), and " in
+    let right = codes " before it" in
+    let first : t1 ≡ left =
+    one (omega (arith, ap length none)) ∙ (ap (λ (l : List ℕ). l ++ cut_to 40 left) none
+    ∙ cut-fits 40 left (omega arith)) in
+    let second : t2 ≡ left ++ decimal n =
+    two (omega (arith, ap length first))
+    ∙ (ap (λ (l : List ℕ). l ++ cut_to 40 digits) first
+    ∙ ap (λ (l : List ℕ). left ++ l) (cut-fits 40 digits few ∙ is)) in
+    three (omega (arith, ap length second, length-append left (decimal n), ap length is, few))
+    ∙ (ap (λ (l : List ℕ). l ++ cut_to 10 right) second
+    ∙ (ap (λ (l : List ℕ). (left ++ decimal n) ++ l) (cut-fits 10 right (omega arith))
+    ∙ append_assoc left (decimal n) right))
 
 -- where settings are refused
 abbrev pub place_of : ProgramFault → Option (List ℕ)

@@ -4,7 +4,9 @@ use Rattle.std.specs.declared.net.socket_addr.SocketAddr.{SocketAddr}
 use Rattle.counted_io.specs.Tally.{Tally}
 use Rattle.archive.specs.declared.fault.StoreFault.{StoreFault}
 use Rattle.archive.specs.Store.{Store}
-use Rattle.ua_server.specs.Network.{NetworkCalls, calls_of}
+use Rattle.multiplex.specs.Effects.{Effects}
+use Rattle.multiplex.specs.Input.{Input}
+use Rattle.multiplex.specs.Output.{Output}
 
 -- what a machine does in a call, from its state before to that behind
 pub record Machine (H A L R W : Type 0) : Type 1 where
@@ -14,7 +16,7 @@ pub record Machine (H A L R W : Type 0) : Type 1 where
   pub opens : H → List ℕ → List ℕ → ℕ → Result A StoreFault → H → Type 0
   -- an archive was closed
   pub closes : H → A → H → Type 0
-  -- a listener at an address; None where it can't be listened at
+  -- what gives the connections to an address; None where it can't be listened at
   pub listens : H → SocketAddr → Option L → H → Type 0
   -- a connection with the peer at an address; None where it can't be had
   pub calls : H → SocketAddr → Option (R × W) → H → Type 0
@@ -32,39 +34,41 @@ unknown_machine = record {
   parts = λ old reader writer new. Unit {0};
 }
 
--- a machine, with what its archives hold, how connections come to its listeners, and what is known
--- of what a called peer writes, and of what it reads
+-- a machine, with what its archives hold, how connections come to an address, what is known of what
+-- their other end writes, and of what it reads, and the same of a peer that is called
 pub record KnownMachine : Type 1 where
   pub Host : Type 0
   pub Archive : Type 0
-  pub Listener : Type 0
+  pub Source : Type 0
   pub Reader : Type 0
   pub Writer : Type 0
   pub ClientReader : Type 0
   pub ClientWriter : Type 0
-  pub machine : Machine Host Archive Listener Reader Writer
+  pub machine : Machine Host Archive Source Reader Writer
   pub held : Archive → Store
-  pub clients : NetworkCalls Listener ClientReader ClientWriter
+  pub effects : Effects Source ClientReader ClientWriter
+  pub input : Input ClientReader
+  pub output : Output ClientWriter
   pub unread : Reader → Option (List ℕ)
   pub written : Writer → Option (List ℕ)
 
 -- the record of these, from what the traits of a machine say
-abbrev pub known_machine : {H A L R W P Q : Type 0} → Machine H A L R W → (A → Store)
-    → (L → Option (P × Q) → L → Type 0) → (L → Tally P → Tally Q → L → Type 0)
-    → (P → Option (List ℕ)) → (Q → Option (List ℕ)) → (R → Option (List ℕ))
-    → (W → Option (List ℕ)) → KnownMachine
-known_machine {H} {A} {L} {R} {W} {P} {Q}
-    machine held accepted closed client_unread client_written unread written = record {
-      Host = H;
-      Archive = A;
-      Listener = L;
-      Reader = R;
-      Writer = W;
-      ClientReader = P;
-      ClientWriter = Q;
-      machine = machine;
-      held = held;
-      clients = calls_of accepted closed client_unread client_written;
-      unread = unread;
-      written = written;
-    }
+abbrev pub known_machine : {H A S R W P Q : Type 0} → Machine H A S R W → (A → Store)
+    → Effects S P Q → Input P → Output Q → (R → Option (List ℕ)) → (W → Option (List ℕ))
+    → KnownMachine
+known_machine {H} {A} {S} {R} {W} {P} {Q} machine held effects input output unread written = record {
+  Host = H;
+  Archive = A;
+  Source = S;
+  Reader = R;
+  Writer = W;
+  ClientReader = P;
+  ClientWriter = Q;
+  machine = machine;
+  held = held;
+  effects = effects;
+  input = input;
+  output = output;
+  unread = unread;
+  written = written;
+}

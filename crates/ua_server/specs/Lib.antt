@@ -2,7 +2,7 @@ pub mod Telling
 pub mod Either
 pub mod Hexed
 pub mod Single
-pub mod Network
 pub mod Host
+pub mod Network
 pub mod Dumping
 pub mod Program

@@ -1,48 +1,28 @@
--- Connections that come over a network, one after the other.
-use Rattle.std.specs.Prelude.{◌≡◌, ℕ, ℤ, zero, suc, List, Option, None, Some, Ok, Err}
+-- Connections over a network, many at once.
+use Rattle.std.specs.Prelude.{◌≡◌, ◌⊎◌, ℕ, ◌*◌, ◌^◌, ◌-◌, ℤ, List, Option, Some, Bool}
 use Rattle.archive.specs.Store.{Store}
 use Rattle.ua_settings.specs.Settings.{SettingsValues}
 use Rattle.counted_io.specs.declared.fault.ServeFault.{ServeFault}
-use Rattle.counted_io.specs.declared.fault.ServeFault.TheVariants.{Read, Write}
-use Rattle.ua_server.specs.declared.program.ProgramFault.TheVariants.{Connection}
-use Rattle.ua_server.specs.Either.{ConnectionEnding, ServesEither}
-use Rattle.ua_connection.specs.Environments.{Environment}
+use Rattle.counted_io.specs.declared.fault.ServeFault.TheVariants.{Read, Write, OutOfMemory}
 use Rattle.counted_io.specs.Tally.{Tally, HasCounted}
-use Rattle.ua_server.specs.Telling.{LogsLine, error_lines}
-
--- how connections come, and are given back with their failed calls; and what is known of what their
--- other end writes, and of what it reads
-pub record NetworkCalls (S R W : Type 0) : Type 1 where
-  -- None: none came
-  pub comes : S → Option (R × W) → S → Type 0
-  -- given back, with its failed calls counted
-  pub closed : S → Tally R → Tally W → S → Type 0
-  pub unread : R → Option (List ℕ)
-  pub written : W → Option (List ℕ)
-
--- the record of these four
-abbrev pub calls_of : {S R W : Type 0} → (S → Option (R × W) → S → Type 0)
-    → (S → Tally R → Tally W → S → Type 0) → (R → Option (List ℕ)) → (W → Option (List ℕ))
-    → NetworkCalls S R W
-calls_of comes closed unread written =
-    record { comes = comes; closed = closed; unread = unread; written = written }
+use Rattle.multiplex.specs.declared.limits.Limits.{Limits}
+use Rattle.multiplex.specs.Behavior.{Behavior}
+use Rattle.multiplex.specs.Turns.{Loop}
+use Rattle.multiplex.specs.Serving.{AreAllFree, HasServed}
+use Rattle.conversation.specs.declared.other_end.OtherEnd.{OtherEnd}
+use Rattle.conversation.specs.declared.world.World.{World}
+use Rattle.conversation.specs.OtherEnds.{ConversationEnding}
+use Rattle.conversation.specs.Closing.{log_calls}
+use Rattle.conversation.specs.Conversing.{behavior_over}
+use Rattle.ua_server.specs.declared.log.ErrorLog.{ErrorLog}
+use Rattle.ua_server.specs.declared.program.ProgramFault.{ProgramFault}
+use Rattle.ua_server.specs.declared.program.ProgramFault.TheVariants.{Address, Connection}
+use Rattle.ua_server.specs.Host.{KnownMachine}
+use Rattle.ua_server.specs.Telling.{Known, LogsFault, LogsFailed}
 
 -- how a clock goes from one state to another and gives readings
 abbrev pub Readings : Type 0 → Type 1
 Readings C = C → List ℤ → C → Type 0
-
--- what is known to stand in what a writer writes to; None where nothing is
-abbrev pub Known : Type 0 → Type 0
-Known E = E → Option (List ℕ)
-
--- what connections come from, the archive that they are served over, and the clock
-abbrev pub Surroundings : Type 0 → Type 0 → Type 0 → Type 0
-Surroundings S A C = record { source : S; archive : A; clock : C }
-
--- the record of these three
-abbrev pub surroundings_of : {S A C : Type 0} → S → A → C → Surroundings S A C
-surroundings_of source archive clock =
-    record { source = source; archive = archive; clock = clock }
 
 -- this was done with a connection, and its failed calls were counted: of each kind 1 where the
 -- connection ended by that fault, and else 0
@@ -52,42 +32,62 @@ Counts {R} {W} ended_by done =
     (read : Tally R) × (wrote : Tally W) × HasCounted (ended_by Read) read
     × HasCounted (ended_by Write) wrote × done read wrote
 
--- a connection that came was served, a client's or a peer's, and given back
-abbrev pub ServesOne : {L R W A C : Type 0} → NetworkCalls L R W → Readings C
-    → (A → Store) → SettingsValues → R → W → L → Surroundings L A C → Surroundings L A C
-    → ConnectionEnding → Type 0
-ServesOne wires gave held settings reader writer between old new ending =
-    (used : Environment) × gave old.clock used.readings new.clock
-    × Counts (λ fault. ending ≡ Err fault) (λ read wrote. wires.closed between read wrote new.source
-    × ServesEither settings (held old.archive) (held new.archive) (wires.unread reader)
-    (wires.unread read.inner) (wires.written writer) (wires.written wrote.inner) used ending)
+-- what connections are served over that come to an address: the machine, the archive, the clock,
+-- and standard error
+abbrev pub Serving : (H A C E : Type 0) → Type 0
+Serving H A C E = record { host : H; archive : A; clock : C; errors : Tally E }
 
--- the next connection was waited for, and served over what the archive held; that none came is a
--- fault of reading
-abbrev pub Connects : {L R W A C : Type 0} → NetworkCalls L R W → Readings C
-    → (A → Store) → SettingsValues → Surroundings L A C → Surroundings L A C → ConnectionEnding
-    → Type 0
-Connects {L} {R} {W} wires gave held settings old new ending =
-    (came : Option (R × W)) × (between : L) × wires.comes old.source came between × elim came [
-      | None ↦ (ending ≡ Err Read) × (new ≡ record old { source = between })
-      | Some
-          (reader, writer) ↦ ServesOne wires gave held settings reader writer between old new ending
-    ]
+-- what a machine and the world that connections share are for them
+abbrev pub serving_of : {H A C E : Type 0} → H → World A C (ErrorLog E) → Serving H A C E
+serving_of host world = record {
+  host = host;
+  archive = world.server.replica.archive;
+  clock = world.clock;
+  errors = world.log.errors;
+}
 
--- an end that is no fault leaves standard error as it was; a fault is told there by its lines
-abbrev pub LogsEnd : {E : Type 0} → (E → Option (List ℕ)) → ConnectionEnding → Tally E → Tally E
-    → Type 0
-LogsEnd told v old new =
-    elim v
-    [ Ok ended ↦ new ≡ old | Err fault ↦ LogsLine told old new (error_lines (Connection fault)) ]
+-- what a server of these settings takes at most, which accepts so many connections
+abbrev pub limits_of : SettingsValues → ℕ → Limits
+limits_of settings count = record {
+  connections = Some count;
+  accept_slots = settings.connections;
+  waiting_bytes = settings.waiting * 1048576;
+  rounds = 2 ^ 64 - 1;
+}
 
--- So many connections were served, each over what the one before it left, and of each end it was
--- told: nothing, or of a fault its line, or a first part of that where it can't be written.
-abbrev pub ServesEach : {L R W A C E : Type 0} → NetworkCalls L R W → Readings C → (A → Store)
-    → Known E → SettingsValues → ℕ → (old : Surroundings L A C) → (before : Tally E)
-    → (new : Surroundings L A C) → (after : Tally E) → Type 0
-ServesEach wires gave held told settings zero old before new after = (new ≡ old) × (after ≡ before)
-ServesEach {L} {R} {W} {A} {C} {E} wires gave held told settings (suc more) old before new after =
-    (middle : Surroundings L A C) × (soon : Tally E) × (ending : ConnectionEnding)
-    × Connects wires gave held settings old middle ending × LogsEnd told ending before soon
-    × ServesEach wires gave held told settings more middle soon new after
+-- what is said on connections over an archive, and told of them on standard error
+abbrev pub conversations : {A C E : Type 0} → (A → Store) → Readings C → Known E
+    → Behavior OtherEnd (World A C (ErrorLog E)) ConversationEnding
+conversations held gave told = behavior_over held gave (log_calls (LogsFault told) (LogsFailed told))
+
+-- the loop that serves connections over an archive of a machine
+abbrev pub ServingLoop : KnownMachine → (C E : Type 0) → Type 0
+ServingLoop known C E =
+    Loop known.Source OtherEnd known.ClientReader known.ClientWriter
+    (World known.Archive C (ErrorLog E)) ConversationEnding
+
+-- it serves over these settings, this archive, this clock and standard error
+pub record IsAround {C E : Type 0} (known : KnownMachine) (settings : SettingsValues)
+    (around : Serving known.Host known.Archive C E) (loop : ServingLoop known C E) : Type 0 where
+  pub settings_are : loop.world.server.settings ≡ settings
+  pub archive : loop.world.server.replica.archive ≡ around.archive
+  pub clock : loop.world.clock ≡ around.clock
+  pub errors : loop.world.log.errors ≡ around.errors
+
+-- connections were served that came from a source, each in its turn, from when there was none
+pub record ServesMany {C E : Type 0} (known : KnownMachine) (gave : Readings C) (told : Known E)
+    (settings : SettingsValues) (count : ℕ) (source : known.Source)
+    (old new : Serving known.Host known.Archive C E) : Type 0 where
+  pub first : ServingLoop known C E
+  pub last : ServingLoop known C E
+  pub done : Bool
+  pub begins : IsAround known settings old first
+  pub ends : IsAround known settings new last
+  pub from : first.source ≡ source
+  pub free : AreAllFree first.slots
+  pub served : HasServed known.effects known.input known.output (conversations known.held gave told)
+      (limits_of settings count) first last done
+
+-- nothing could be had at the address, or memory was wanting before
+abbrev pub IsServingFault : ProgramFault → Type 0
+IsServingFault fault = (fault ≡ Address) ⊎ (fault ≡ Connection OutOfMemory)

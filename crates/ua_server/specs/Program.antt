@@ -27,12 +27,12 @@ use Rattle.ua_connection.specs.Environments.{Environment}
 use Rattle.ua_server.specs.Single.{AnswersAt}
 use Rattle.ua_server.specs.Dumping.{Dumps}
 use Rattle.ua_peers.specs.Calling.{Syncs}
-use Rattle.ua_server.specs.Telling.{synced_line, fault_of, dump_fault, sync_fault}
+use Rattle.ua_server.specs.Telling.{Known, synced_line, fault_of, dump_fault, sync_fault}
 use Rattle.ua_peers.specs.declared.calling.Synced.{Synced}
 use Rattle.ua_peers.specs.declared.calling.SyncFault.{SyncFault}
 use Rattle.ua_peers.specs.declared.calling.SyncFault.TheVariants as sync
 use Rattle.std.specs.Net.Grammar.{IsSocketText}
-use Rattle.ua_server.specs.Network.{Counts, ServesEach, Surroundings, Readings, Known}
+use Rattle.ua_server.specs.Network.{Counts, Serving, ServesMany, Readings}
 use Rattle.ua_server.specs.Host.{Machine, KnownMachine}
 use Rattle.clap.specs.Words.{Row, Text, subcommand_of}
 use Rattle.clap.specs.Takes.{takes}
@@ -110,28 +110,16 @@ IsUnheard had text old new =
     (((address : SocketAddr) → IsSocketText text address → ⊥) × (new ≡ old))
     ⊎ ((address : SocketAddr) × IsSocketText text address × had address None new)
 
--- what connections are served over that come to an address: the machine, the archive, the clock,
--- and standard error
-abbrev pub Serving : (H A C E : Type 0) → Type 0
-Serving H A C E = record { host : H; archive : A; clock : C; errors : Tally E }
-
--- what is around connections that this listener gives
-abbrev pub from_listener : {H L A C E : Type 0} → L → Serving H A C E → Surroundings L A C
-from_listener listener around =
-    record { source = listener; archive = around.archive; clock = around.clock }
-
--- so many connections were served that came to the address of the settings
+-- connections were served that came to the address of the settings
 abbrev pub ListensAt : {C E : Type 0} → (known : KnownMachine) → Readings C → Known E
     → SettingsValues → ℕ → (old new : Serving known.Host known.Archive C E) → Type 0
 ListensAt known gave told settings count old new =
     (address : SocketAddr) × IsSocketText settings.listen address
-    × ((first : known.Listener) × (last : known.Listener)
-    × known.machine.listens old.host address (Some first) new.host
-    × ServesEach known.clients gave known.held told settings count (from_listener first old)
-    old.errors (from_listener last new) new.errors)
+    × ((source : known.Source) × known.machine.listens old.host address (Some source) new.host
+    × ServesMany known gave told settings count source old new)
 
--- so many connections were served that came to the address of the settings; or nothing is had
--- there, and the archive, the clock and standard error stay; no other fault ends it
+-- connections were served that came to the address of the settings; or nothing is had there, and the
+-- archive, the clock and standard error stay, or memory was wanting before; no other fault ends it
 abbrev pub Listens : {C E : Type 0} → (known : KnownMachine) → Readings C → Known E
     → SettingsValues → ℕ → (old new : Serving known.Host known.Archive C E)
     → Result (Unit {0}) ProgramFault → Type 0
@@ -140,6 +128,7 @@ Listens known gave told settings count old new (Ok done) =
 Listens known gave told settings count old new (Err Address) =
     IsUnheard (known.machine.listens old.host) settings.listen old.host new.host
     × (new ≡ record old { host = new.host })
+Listens known gave told settings count old new (Err (Connection OutOfMemory)) = new ≡ old
 Listens known gave told settings count old new (Err fault) = ⊥
 
 -- of a dialog that came to its end the line was printed, a first part of it where the writer

@@ -1,7 +1,8 @@
 -- What a run of the program tells on standard error, its exit status, and the line of a call of a
 -- peer.
-use Rattle.std.specs.Prelude.{◌≡◌, ℕ, List, [], ◌∷◌, ◌++◌, Option, None, Some, Result, Ok, Err, ◌⊎◌, codes}
+use Rattle.std.specs.Prelude.{◌≡◌, ℕ, ◌-◌, ◌==◌, nat_lt, Bool, false, List, [], ◌∷◌, ◌++◌, Option, None, Some, Result, Ok, Err, ◌⊎◌, codes, if◌then◌else◌}
 use Rattle.std.specs.Fmt.{decimal}
+use Rattle.std.specs.Option.{option_map_or}
 use Rattle.std.specs.Io.KnownBytes.{Appends}
 use Rattle.counted_io.specs.Fault.{serve_fault_number as connection_number}
 use Rattle.ua_server.specs.declared.program.ProgramFault.{ProgramFault}
@@ -16,7 +17,9 @@ use Rattle.ua_settings.specs.Fault.{settings_fault_number as settings_number}
 use Rattle.ua_server.specs.declared.hexed.HexFault.{HexFault}
 use Rattle.ua_server.specs.declared.dumps.DumpFault.{DumpFault}
 use Rattle.ua_peers.specs.declared.calling.SyncFault.{SyncFault}
+use Rattle.counted_io.specs.declared.fault.ServeFault.{ServeFault}
 use Rattle.counted_io.specs.declared.fault.ServeFault.TheVariants.{Write, OutOfMemory}
+use Rattle.ua_server.specs.declared.log.ErrorLog.{ErrorLog}
 use Rattle.ua_server.specs.declared.hexed.HexFault.TheVariants as hexed
 use Rattle.ua_server.specs.declared.dumps.DumpFault.TheVariants as dump
 use Rattle.ua_peers.specs.declared.calling.SyncFault.TheVariants as sync
@@ -86,6 +89,38 @@ LogsLine contents old new line =
     (Appends (contents old.inner) (contents new.inner) line × (new.faults ≡ old.faults))
     ⊎
     (AppendsPart (contents old.inner) (contents new.inner) line × (new.faults ≡ counted old.faults))
+
+-- what is known to stand in what a writer writes to; None where nothing is
+abbrev pub Known : Type 0 → Type 0
+Known E = E → Option (List ℕ)
+
+-- it was told by its lines that a connection ended by this fault
+abbrev pub LogsFault : {E : Type 0} → Known E → ErrorLog E → ServeFault → ErrorLog E → Type 0
+LogsFault contents old fault new =
+    (new ≡ record old { errors = new.errors })
+    × LogsLine contents old.errors new.errors (error_lines (Connection fault))
+
+-- it was told less than a second ago that a connection failed before it could be used
+abbrev pub is_quiet : {E : Type 0} → ErrorLog E → (now : ℕ) → Bool
+is_quiet log now = option_map_or (λ told_at. nat_lt (now - told_at) 1000) log.told_at false
+
+-- what tells that a connection failed, and so many before it of which nothing was told
+abbrev pub failed_text : ℕ → List ℕ
+failed_text missed =
+    codes "connection ended (1), and " ++ (decimal missed ++ codes " before it")
+
+-- the line that tells that a connection failed before it could be used
+abbrev pub failed_lines : ℕ → List ℕ
+failed_lines missed =
+    told_line (if missed == 0 then codes "connection ended (1)" else failed_text missed)
+
+-- a connection failed before it could be used: it was counted, where that was told less than a
+-- second ago of another, and else told, with how many were counted
+abbrev pub LogsFailed : {E : Type 0} → Known E → ErrorLog E → (now : ℕ) → ErrorLog E → Type 0
+LogsFailed contents old now new =
+    if is_quiet old now then new ≡ record old { missed = counted old.missed }
+    else (new ≡ record { errors = new.errors; told_at = Some now; missed = 0 })
+    × LogsLine contents old.errors new.errors (failed_lines old.missed)
 
 -- the second line of a fault, if it has one
 abbrev pub place_line : Option (List ℕ) → List ℕ

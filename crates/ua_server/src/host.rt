@@ -1,12 +1,12 @@
 //! The machine around a run: its files, its stores, and its network.
 
 ghost use Rattle.std.specs.Prelude.{Option, IfOk, option_map, string_bytes};
-ghost use Rattle.counted_io.specs.Tally.{Tally};
 ghost use Rattle.archive.specs.Beginning.{HoldsNothing};
 ghost use Rattle.ua_server.specs.Host.{Machine};
 
 use archive::{Archive, StoreFault};
 use counted_io::Counted;
+use multiplex::Source;
 use stamp::ReplicaNo;
 use std::io::{Read, Write};
 use std::net::SocketAddr;
@@ -18,7 +18,7 @@ pub trait Host {
     type Archive: Archive + Drop;
 
     /// What gives the connections to an address.
-    type Listener: Listener + Drop;
+    type Source: Source + Drop;
 
     /// What a peer that was called writes.
     type Reader: Read + Drop;
@@ -27,7 +27,7 @@ pub trait Host {
     type Writer: Write + Drop;
 
     /// What it does in each of the calls below.
-    ghost means: { Machine Self Self.Archive Self.Listener Self.Reader Self.Writer };
+    ghost means: { Machine Self Self.Archive Self.Source Self.Reader Self.Writer };
 
     /// The text of the file at a path; none where it can't be read as UTF-8.
     fn read(&mut self, path: &str) -> Option<String>
@@ -50,8 +50,8 @@ pub trait Host {
     fn close(&mut self, archive: Self::Archive)
         ensures { means.closes self.old archive self.new };
 
-    /// A listener at the address; none where it can't be listened at.
-    fn listen(&mut self, address: SocketAddr) -> Option<Self::Listener>
+    /// What gives the connections to an address; none where it can't be listened at.
+    fn listen(&mut self, address: SocketAddr) -> Option<Self::Source>
         ensures { means.listens self.old address result self.new };
 
     /// A connection with the peer at the address; none where it can't be had.
@@ -61,27 +61,4 @@ pub trait Host {
     /// Takes back a connection with a peer that is over.
     fn part(&mut self, reader: Counted<Self::Reader>, writer: Counted<Self::Writer>)
         ensures { means.parts self.old reader writer self.new };
-}
-
-/// What gives connections, one after the other, and takes each back when it is over.
-pub trait Listener {
-    /// What a client writes.
-    type Reader: Read + Drop;
-
-    /// What a client reads.
-    type Writer: Write + Drop;
-
-    /// Between these two states a connection was waited for, and this one came; none where that failed.
-    ghost accepted: { Self → Option (Self.Reader × Self.Writer) → Self → Type 0 };
-
-    /// Between these two states a connection was given back.
-    ghost closed: { Self → Tally Self.Reader → Tally Self.Writer → Self → Type 0 };
-
-    /// The next connection; none where it can't be had.
-    fn accept(&mut self) -> Option<(Self::Reader, Self::Writer)>
-        ensures { accepted self.old result self.new };
-
-    /// Takes back a connection that is over.
-    fn close(&mut self, reader: Counted<Self::Reader>, writer: Counted<Self::Writer>)
-        ensures { closed self.old reader writer self.new };
 }

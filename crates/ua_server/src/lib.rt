@@ -8,19 +8,21 @@ mod files;
 mod hexed;
 mod host;
 mod laws;
+mod log;
 mod program;
 mod single;
 
 pub use command_line::{Asked, Line, LineFault, read_line};
-pub use connections::serve_connections;
+pub use conversation::{Conversation, Ended, Log, World, a_client_alone_is_answered};
 pub use counted_io::{Counted, ServeFault};
 pub use dumps::{DumpFault, dump};
 pub use either::{Served, serve};
 pub use hexed::{HexFault, answer_hex};
 pub use historian::Server;
-pub use host::{Host, Listener};
+pub use host::Host;
 pub use laws::connections_are_updates;
-pub use program::{ProgramFault, report, run};
+pub use multiplex::{Limits, Slot, each_connection_is_alone};
+pub use program::{ProgramFault, Ran, report, run};
 pub use single::answer_at;
 pub use ua_connection::{
     Clock, ConstantClock, MOST_CHUNKS, SystemClock, answers_go_item_by_item, chunks_are_counted,

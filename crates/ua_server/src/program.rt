@@ -9,7 +9,7 @@ ghost use Rattle.ua_connection.specs.Environments.{Environment};
 ghost use Rattle.ua_server.specs.Single.{AnswersAt};
 ghost use Rattle.ua_server.specs.Telling.{exit_status, LogsLine, fault_text, numbered, told_line, error_lines, synced_line, fault_of, dump_fault, sync_fault, place_line};
 ghost use Rattle.ua_server.specs.Host.{known_machine};
-ghost use Rattle.ua_server.specs.Program.{OpensArchive, OpensBy, PrintsSynced, PrintsText, CallsPeer, DoesCommand, DoesLine, Runs, findings_in, scene_of, settings_path};
+ghost use Rattle.ua_server.specs.Program.{OpensArchive, OpensBy, PrintsSynced, PrintsText, CallsPeer, DoesCommand, DoesAndCloses, DoesLine, Runs, findings_in, scene_of, settings_path};
 ghost use Rattle.ua_server.specs.Dumping.{Dumps};
 
 use crate::connections::serve_at;
@@ -17,9 +17,11 @@ use crate::dumps::{DumpFault, dump};
 use crate::files::settings_at;
 use crate::hexed::HexFault;
 use crate::host::Host;
+use crate::log::ErrorLog;
 use crate::single::answer_at;
 use archive::{Archive, StoreFault};
 use command_line::{Asked, Line, LineFault, read_line};
+use conversation::World;
 use counted_io::{Counted, ServeFault};
 use exchange::ExchangeFault;
 use historian::Server;
@@ -292,8 +294,8 @@ fn sync_over<H: Host, W: Write>(
     ensures write { IsErrOf result (ProgramFault.Connection ServeFault.Write)
         → output.new.faults ≡ counted output.old.faults }
     ensures calls { CallsPeer
-        (known_machine H.means H.Archive.state H.Listener.accepted H.Listener.closed
-        H.Listener.Reader.remaining H.Listener.Writer.contents H.Reader.remaining H.Writer.contents)
+        (known_machine H.means H.Archive.state H.Source.effects H.Source.Reader.input
+        H.Source.Writer.output H.Reader.remaining H.Writer.contents)
         peer.now
         (record {
           host = host.old;
@@ -331,35 +333,76 @@ fn settings_path<'a>(line: &Line<'a>) -> Option<&'a str>
     }
 }
 
-/// Does what a line says over the archive of its settings.
+/// What a run comes to: its ending, and the clock and the standard error that it was given.
+#[derive(Drop)]
+pub struct Ran<C, E> {
+    /// How it ended.
+    pub ending: Result<(), ProgramFault>,
+    /// Its clock.
+    pub clock: C,
+    /// Its standard error.
+    pub errors: Counted<E>,
+}
+
+/// Does what a line says over the server of its settings.
 fn do_command<H: Host, C: Clock, R: Read, W: Write, E: Write>(
-    server: &mut Server<H::Archive>,
+    world: &mut World<H::Archive, C, ErrorLog<E>>,
     line: Line<'_>,
     host: &mut H,
-    clock: &mut C,
     input: &mut Counted<R>,
     output: &mut Counted<W>,
-    errors: &mut Counted<E>,
 ) -> Result<(), ProgramFault>
     ensures read { IsErrOf result (ProgramFault.Connection ServeFault.Read)
         → input.new.faults ≡ counted input.old.faults }
     ensures write { IsErrOf result (ProgramFault.Connection ServeFault.Write)
         → output.new.faults ≡ counted output.old.faults }
     ensures does { DoesCommand
-        (known_machine H.means H.Archive.state H.Listener.accepted H.Listener.closed
-        H.Listener.Reader.remaining H.Listener.Writer.contents H.Reader.remaining H.Writer.contents)
-        C.gave E.contents line.entry server.old.settings server.old.replica.archive
-        server.new.replica.archive
-        (scene_of (R.remaining input.old.inner) (W.contents output.old.inner) host.old clock.old
-        errors.old)
-        (scene_of (R.remaining input.new.inner) (W.contents output.new.inner) host.new clock.new
-        errors.new) result }
+        (known_machine H.means H.Archive.state H.Source.effects H.Source.Reader.input
+        H.Source.Writer.output H.Reader.remaining H.Writer.contents)
+        C.gave E.contents line.entry world.old.server.settings world.old.server.replica.archive
+        world.new.server.replica.archive
+        (scene_of (R.remaining input.old.inner) (W.contents output.old.inner) host.old
+        world.old.clock world.old.log.errors)
+        (scene_of (R.remaining input.new.inner) (W.contents output.new.inner) host.new
+        world.new.clock world.new.log.errors) result }
 {
     match line {
-        Line::Answer { hex, now, .. } => answer_over(server, hex, now, clock, input, output),
-        Line::Serve { connections, .. } => serve_at(server, connections, host, clock, errors),
-        Line::Dump { .. } => dump_over(server, output),
-        Line::Sync { peer, .. } => sync_over(server, peer, host, output),
+        Line::Answer { hex, now, .. } => {
+            answer_over(&mut world.server, hex, now, &mut world.clock, input, output)
+        }
+        Line::Serve { connections, .. } => serve_at(world, connections, host),
+        Line::Dump { .. } => dump_over(&mut world.server, output),
+        Line::Sync { peer, .. } => sync_over(&mut world.server, peer, host, output),
+    }
+}
+
+/// Does what a line says over the server of its settings, whose archive is closed then.
+fn do_over<H: Host, C: Clock, R: Read, W: Write, E: Write>(
+    mut world: World<H::Archive, C, ErrorLog<E>>,
+    line: Line<'_>,
+    host: &mut H,
+    input: &mut Counted<R>,
+    output: &mut Counted<W>,
+) -> Ran<C, E>
+    ensures read { IsErrOf result.ending (ProgramFault.Connection ServeFault.Read)
+        → input.new.faults ≡ counted input.old.faults }
+    ensures write { IsErrOf result.ending (ProgramFault.Connection ServeFault.Write)
+        → output.new.faults ≡ counted output.old.faults }
+    ensures does { DoesAndCloses
+        (known_machine H.means H.Archive.state H.Source.effects H.Source.Reader.input
+        H.Source.Writer.output H.Reader.remaining H.Writer.contents)
+        C.gave E.contents line.entry world.server.settings world.server.replica.archive
+        (scene_of (R.remaining input.old.inner) (W.contents output.old.inner) host.old world.clock
+        world.log.errors)
+        (scene_of (R.remaining input.new.inner) (W.contents output.new.inner) host.new result.clock
+        result.errors) result.ending }
+{
+    let ending = do_command(&mut world, line, host, input, output);
+    host.close(world.server.replica.archive);
+    Ran {
+        ending,
+        clock: world.clock,
+        errors: world.log.errors,
     }
 }
 
@@ -368,28 +411,35 @@ fn do_line<H: Host, C: Clock, R: Read, W: Write, E: Write>(
     alloc: Global,
     line: Line<'_>,
     host: &mut H,
-    clock: &mut C,
+    clock: C,
     input: &mut Counted<R>,
     output: &mut Counted<W>,
-    errors: &mut Counted<E>,
-) -> Result<(), ProgramFault>
-    ensures read { IsErrOf result (ProgramFault.Connection ServeFault.Read)
+    errors: Counted<E>,
+) -> Ran<C, E>
+    ensures read { IsErrOf result.ending (ProgramFault.Connection ServeFault.Read)
         → input.new.faults ≡ counted input.old.faults }
-    ensures write { IsErrOf result (ProgramFault.Connection ServeFault.Write)
+    ensures write { IsErrOf result.ending (ProgramFault.Connection ServeFault.Write)
         → output.new.faults ≡ counted output.old.faults }
     ensures does { DoesLine
-        (known_machine H.means H.Archive.state H.Listener.accepted H.Listener.closed
-        H.Listener.Reader.remaining H.Listener.Writer.contents H.Reader.remaining H.Writer.contents)
+        (known_machine H.means H.Archive.state H.Source.effects H.Source.Reader.input
+        H.Source.Writer.output H.Reader.remaining H.Writer.contents)
         C.gave E.contents line.entry
-        (scene_of (R.remaining input.old.inner) (W.contents output.old.inner) host.old clock.old
-        errors.old)
-        (scene_of (R.remaining input.new.inner) (W.contents output.new.inner) host.new clock.new
-        errors.new) result }
+        (scene_of (R.remaining input.old.inner) (W.contents output.old.inner) host.old clock errors)
+        (scene_of (R.remaining input.new.inner) (W.contents output.new.inner) host.new result.clock
+        result.errors) result.ending }
 {
-    let mut server = open_server(alloc, settings_path(&line), host)?;
-    let ending = do_command(&mut server, line, host, clock, input, output, errors);
-    host.close(server.replica.archive);
-    ending
+    match open_server(alloc, settings_path(&line), host) {
+        Ok(server) => {
+            let log = ErrorLog::new(errors);
+            let world = World { server, clock, log };
+            do_over(world, line, host, input, output)
+        }
+        Err(fault) => Ran {
+            ending: Err(fault),
+            clock,
+            errors,
+        },
+    }
 }
 
 /// Prints the text of help, or of the version.
@@ -406,7 +456,7 @@ fn print_text<W: Write>(text: &[u8], output: &mut Counted<W>) -> Result<(), Prog
 
 /// Does what a command line asks for. Where that names a file of settings, it is read first, and then the store that they
 /// name is opened; where it gives a moment, the clock isn't read. What a connection over the network ended by is told on
-/// `errors` when it ends.
+/// `errors` when it ends. The clock and `errors` are given back.
 ///
 /// Errors: `Line` where the words are no command, `File` and `Settings` where the settings file can't be read or is refused,
 /// `Store` where the settings' store can't be opened, or can't be read for a dump, `Address` where the settings' address, or
@@ -420,33 +470,40 @@ pub fn run<S: AsStr, H: Host, C: Clock, R: Read, W: Write, E: Write>(
     alloc: Global,
     words: &[S],
     host: &mut H,
-    clock: &mut C,
+    clock: C,
     input: &mut Counted<R>,
     output: &mut Counted<W>,
-    errors: &mut Counted<E>,
-) -> Result<(), ProgramFault>
-    ensures read { IsErrOf result (ProgramFault.Connection ServeFault.Read)
+    errors: Counted<E>,
+) -> Ran<C, E>
+    ensures read { IsErrOf result.ending (ProgramFault.Connection ServeFault.Read)
         → input.new.faults ≡ counted input.old.faults }
-    ensures write { IsErrOf result (ProgramFault.Connection ServeFault.Write)
+    ensures write { IsErrOf result.ending (ProgramFault.Connection ServeFault.Write)
         → output.new.faults ≡ counted output.old.faults }
     ensures runs { Runs (findings_in (map S.text words.now))
-        (known_machine H.means H.Archive.state H.Listener.accepted H.Listener.closed
-        H.Listener.Reader.remaining H.Listener.Writer.contents H.Reader.remaining H.Writer.contents)
+        (known_machine H.means H.Archive.state H.Source.effects H.Source.Reader.input
+        H.Source.Writer.output H.Reader.remaining H.Writer.contents)
         C.gave E.contents
-        (scene_of (R.remaining input.old.inner) (W.contents output.old.inner) host.old clock.old
-        errors.old)
-        (scene_of (R.remaining input.new.inner) (W.contents output.new.inner) host.new clock.new
-        errors.new) result }
+        (scene_of (R.remaining input.old.inner) (W.contents output.old.inner) host.old clock errors)
+        (scene_of (R.remaining input.new.inner) (W.contents output.new.inner) host.new result.clock
+        result.errors) result.ending }
 {
     match read_line(alloc, words) {
         Ok(Asked::Work(line)) => do_line(alloc, line, host, clock, input, output, errors),
-        Ok(Asked::Text(text)) => print_text(text.as_bytes(), output),
-        Err(fault) => Err(ProgramFault::Line(fault)),
+        Ok(Asked::Text(text)) => Ran {
+            ending: print_text(text.as_bytes(), output),
+            clock,
+            errors,
+        },
+        Err(fault) => Ran {
+            ending: Err(ProgramFault::Line(fault)),
+            clock,
+            errors,
+        },
     }
 }
 
 /// Writes a line that begins with `uahist: `.
-fn tell<W: Write>(text: &[u8], errors: &mut Counted<W>) -> Result<(), ServeFault>
+pub(crate) fn tell<W: Write>(text: &[u8], errors: &mut Counted<W>) -> Result<(), ServeFault>
     ensures ok { OnOk result
         (Appends (W.contents errors.old.inner) (W.contents errors.new.inner) (told_line text.now)) }
     ensures kept { OnOk result (errors.new.faults ≡ errors.old.faults) }

@@ -246,6 +246,7 @@ fn read_store(alloc: Global, archive: &Table) -> Result<Option<Text>, AllocError
 }
 
 /// Who may use a server, whom it calls, and its nodes.
+#[derive(Drop)]
 struct Listed {
     users: Users,
     peers: Peers,

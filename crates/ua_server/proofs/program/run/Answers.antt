@@ -14,17 +14,17 @@ returns-in-Ok-Work-clause-runs g c =
     subst (Asks (fault_kinds uahist words) (subcommand_of uahist words)) c.in-Ok-Work.field-0-is
     c.in-Ok-Work.ensures.ok in
     let known =
-    known_machine g.H.Host.means g.H.Archive.Archive.state g.H.Listener.Listener.accepted
-    g.H.Listener.Listener.closed g.H.Listener.Reader.Read.remaining
-    g.H.Listener.Writer.Write.contents g.H.Reader.Read.remaining g.H.Writer.Write.contents in
+    known_machine g.H.Host.means g.H.Archive.Archive.state g.H.Source.Source.effects
+    g.H.Source.Reader.NonBlockingRead.input g.H.Source.Writer.NonBlockingWrite.output
+    g.H.Reader.Read.remaining g.H.Writer.Write.contents in
     line-done (findings_in words) known g.C.Clock.gave g.E.Write.contents c.in-Ok-Work.line
     (scene_of (g.R.Read.remaining c.args.input.now.inner)
-    (g.W.Write.contents c.args.output.now.inner) c.args.host.now c.args.clock.now
-    c.args.errors.now)
+    (g.W.Write.contents c.args.output.now.inner) c.args.host.now c.args.clock
+    c.args.errors)
     (scene_of (g.R.Read.remaining c.do_line.new.input.inner)
-    (g.W.Write.contents c.do_line.new.output.inner) c.do_line.new.host c.do_line.new.clock
-    c.do_line.new.errors)
-    c.do_line.result asks.0 asks.1 c.do_line.ensures.does
+    (g.W.Write.contents c.do_line.new.output.inner) c.do_line.new.host c.do_line.result.clock
+    c.do_line.result.errors)
+    c.do_line.result.ending asks.0 asks.1 c.do_line.ensures.does
 
 pub returns-in-Err-clause-runs : goal.returns-in-Err-clause-runs
 returns-in-Err-clause-runs g c =
@@ -37,14 +37,14 @@ returns-in-Ok-Text-clause-runs g c =
     subst (Asks (fault_kinds uahist words) (subcommand_of uahist words)) c.in-Ok-Text.field-0-is
     c.in-Ok-Text.ensures.ok in
     let known =
-    known_machine g.H.Host.means g.H.Archive.Archive.state g.H.Listener.Listener.accepted
-    g.H.Listener.Listener.closed g.H.Listener.Reader.Read.remaining
-    g.H.Listener.Writer.Write.contents g.H.Reader.Read.remaining g.H.Writer.Write.contents in
+    known_machine g.H.Host.means g.H.Archive.Archive.state g.H.Source.Source.effects
+    g.H.Source.Reader.NonBlockingRead.input g.H.Source.Writer.NonBlockingWrite.output
+    g.H.Reader.Read.remaining g.H.Writer.Write.contents in
     text-shown (findings_in words) known g.C.Clock.gave g.E.Write.contents
     (scene_of (g.R.Read.remaining c.args.input.now.inner)
-    (g.W.Write.contents c.args.output.now.inner) c.args.host.now c.args.clock.now
-    c.args.errors.now)
+    (g.W.Write.contents c.args.output.now.inner) c.args.host.now c.args.clock
+    c.args.errors)
     (scene_of (g.R.Read.remaining c.args.input.now.inner)
-    (g.W.Write.contents c.print_text.new.output.inner) c.args.host.now c.args.clock.now
-    c.args.errors.now)
+    (g.W.Write.contents c.print_text.new.output.inner) c.args.host.now c.args.clock
+    c.args.errors)
     c.print_text.result asks (refl, c.print_text.ensures.prints)

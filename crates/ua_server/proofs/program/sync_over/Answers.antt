@@ -17,9 +17,9 @@ returns-in_default-call-clause-calls g c =
 pub returns-clause-calls : goal.returns-clause-calls
 returns-clause-calls g c =
     let known =
-    known_machine g.H.Host.means g.H.Archive.Archive.state g.H.Listener.Listener.accepted
-    g.H.Listener.Listener.closed g.H.Listener.Reader.Read.remaining
-    g.H.Listener.Writer.Write.contents g.H.Reader.Read.remaining g.H.Writer.Write.contents in
+    known_machine g.H.Host.means g.H.Archive.Archive.state g.H.Source.Source.effects
+    g.H.Source.Reader.NonBlockingRead.input g.H.Source.Writer.NonBlockingWrite.output
+    g.H.Reader.Read.remaining g.H.Writer.Write.contents in
     let ends = c.sync-ending.ensures in
     let over =
     was-synced known c.args.server.now.replica.archive c.sync-ending.new.replica.archive
