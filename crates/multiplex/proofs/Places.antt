@@ -1,14 +1,15 @@
 -- What is in a slot, and how many bytes wait in all of them: the contracts of `turns` and
 -- `serving`.
-use Rattle.std.proofs.Common.{◌≡◌, ℕ, zero, suc, ◌+◌, ◌-◌, ◌<◌, ◌≤◌, Bool, true, false, take, List, [], ◌∷◌, length, get_or, refl, sym, ◌∙◌, ap, subst, arith}
-use Rattle.std.specs.Prelude.{Option, None, Some, IfSome, IfNone, slice_get, slice_set, sum_by, nat_lt}
+use Rattle.std.proofs.Common.{◌≡◌, ℕ, zero, suc, ◌+◌, ◌*◌, ◌^◌, ◌<◌, ◌≤◌, Bool, true, take, List, [], ◌∷◌, length, get_or, refl, sym, ◌∙◌, ap, subst, arith, inl, inr}
+use Rattle.std.specs.Prelude.{Option, None, Some, IfSome, IfNone, slice_get, slice_set, sum_by}
 use Rattle.multiplex.specs.declared.handler.SlotEnd.{SlotEnd}
 use Rattle.std.proofs.lemmas.Option.{slice_get-get_or, get_or_from_slice_get, same_Some, none-some}
-use Rattle.std.proofs.lemmas.List.{set-get_or, take_all}
-use Rattle.std.proofs.lemmas.List.Sums.{sum_by-cons, sum_by_more, sum_by_more_le}
-use Rattle.std.proofs.lemmas.Bool.{le-ltb, lt-ltb, ltb-true}
+use Rattle.std.proofs.lemmas.List.{set-get_or}
+use Rattle.std.proofs.lemmas.List.Sums.{sum_by-cons, sum_by_more, get_or-le-sum_by}
+use Rattle.std.proofs.lemmas.Bool.{lt-ltb, ltb-true}
+use Rattle.std.proofs.lemmas.Bool.Decides.{eqb_tells}
 use Rattle.multiplex.specs.Behavior.{Behavior}
-use Rattle.multiplex.specs.Slots.{Slot, IsQuiet, IsQuietAt, IsAtRest, IsAtRestAt, MayClose, waiting_in, all_waiting, has_room}
+use Rattle.multiplex.specs.Slots.{Slot, IsQuiet, IsQuietAt, IsAtRest, IsAtRestAt, MayClose, waiting_in, AreCountable, all_waiting, has_room}
 
 -- what an index found is there
 pub there : {X : Type 0} (xs : List X) (i : ℕ) (x y : X) → i < length xs → get_or xs i x ≡ y
@@ -63,38 +64,84 @@ all-set (y ∷ ys) (suc i) old new got =
     sum_by-cons waiting_in y (slice_set ys i new) in
     omega (arith, rest, before, behind)
 
--- the first slots already have all that there is room for
-pub no_room : {H R W E : Type 0} (slots : List (Option (Slot H R W E))) (most left i w : ℕ)
-    (slot : Option (Slot H R W E))
-    → sum_by waiting_in (take i slots) + left ≡ most → i < length slots → slot ≡ get_or slots i slot
-    → w ≡ waiting_in slot → left ≤ w → false ≡ has_room most slots
-no_room slots most left i w slot so_far within is waits full =
-    let same : waiting_in slot ≡ waiting_in (get_or slots i slot) = ap waiting_in is in
-    let all = sum_by_more_le waiting_in slots i slot within in
-    let above : most ≤ all_waiting slots = omega (arith, so_far, same, all, waits, full) in
-    sym (le-ltb (all_waiting slots) most above)
+-- slots that are the same one by one are the same
+same-slots : {X : Type 0} (xs ys : List X) → length ys ≡ length xs
+    → ((j : ℕ) → slice_get ys j ≡ slice_get xs j) → ys ≡ xs
+same-slots [] [] long each = refl
+same-slots [] (y ∷ ys) long each = absurd (omega (arith, long))
+same-slots (x ∷ xs) [] long each = absurd (omega (arith, long))
+same-slots (x ∷ xs) (y ∷ ys) long each =
+    subst (λ z. z ∷ ys ≡ x ∷ xs) (sym (same_Some y x (each 0)))
+    (ap (λ l. x ∷ l) (same-slots xs ys (omega (arith, long)) (λ j. each (suc j))))
 
-pub room_more : {H R W E : Type 0} (slots : List (Option (Slot H R W E))) (most left i w : ℕ)
-    (slot : Option (Slot H R W E))
-    → sum_by waiting_in (take i slots) + left ≡ most → i < length slots → slot ≡ get_or slots i slot
-    → w ≡ waiting_in slot → w < left → sum_by waiting_in (take (i + 1) slots) + (left - w) ≡ most
-room_more slots most left i w slot so_far within is waits room =
+-- the sum of what waits, once one slot changed
+pub all-changed : {H R W E : Type 0} (old new : List (Option (Slot H R W E))) (k a b : ℕ)
+    → k < length old → length new ≡ length old
+    → ((j : ℕ) → (j ≡ k → ⊥) → slice_get new j ≡ slice_get old j)
+    → ((s : Option (Slot H R W E)) → slice_get old k ≡ Some s → a ≡ waiting_in s)
+    → ((s : Option (Slot H R W E)) → slice_get new k ≡ Some s → b ≡ waiting_in s)
+    → all_waiting new + a ≡ all_waiting old + b
+all-changed [] new k a b within long others before behind = absurd (omega (arith, within))
+all-changed (x ∷ xs) [] k a b within long others before behind = absurd (omega (arith, long))
+all-changed (x ∷ xs) (y ∷ ys) zero a b within long others before behind =
+    let rest : ys ≡ xs = same-slots xs ys (omega (arith, long)) (λ j. others (suc j)
+    (λ e. absurd (omega (arith, e)))) in
+    let same : all_waiting ys ≡ all_waiting xs = ap all_waiting rest in
+    let was = sum_by-cons waiting_in x xs in
+    let is = sum_by-cons waiting_in y ys in
+    let first = before x refl in
+    let last = behind y refl in
+    omega (arith, same, was, is, first, last)
+all-changed (x ∷ xs) (y ∷ ys) (suc k) a b within long others before behind =
+    let rest = all-changed xs ys k a b (omega (arith, within)) (omega (arith, long))
+    (λ j other. others (suc j) (λ e. other (omega (arith, e)))) before behind in
+    let same : waiting_in y ≡ waiting_in x = ap waiting_in (same_Some y x (others 0
+    (λ e. absurd (omega (arith, e))))) in
+    let was = sum_by-cons waiting_in x xs in
+    let is = sum_by-cons waiting_in y ys in
+    omega (arith, same, was, is, rest)
+
+-- what waits in one slot is part of what waits in all
+pub part-of-all : {H R W E : Type 0} (slots : List (Option (Slot H R W E))) (k a : ℕ)
+    → k < length slots
+    → ((s : Option (Slot H R W E)) → slice_get slots k ≡ Some s → a ≡ waiting_in s)
+    → a ≤ all_waiting slots
+part-of-all slots k a within is =
+    let here = is (get_or slots k None) (slice_get-get_or slots k None within) in
+    let part = get_or-le-sum_by waiting_in slots k None within in
+    omega (arith, here, part)
+
+-- what waits in all slots fits 128 bits, where what waits in each fits 64
+pub all-fit : {H R W E : Type 0} (slots : List (Option (Slot H R W E))) → AreCountable slots
+    → all_waiting slots ≤ length slots * 18446744073709551615
+all-fit [] each = omega arith
+all-fit (x ∷ xs) each =
+    let all = sum_by-cons waiting_in x xs in
+    let first = each 0 x refl in
+    let rest = all-fit xs (λ k. each (suc k)) in
+    omega (arith, all, first, rest)
+
+-- each slot is countable still, once one changed
+pub countable-changed : {H R W E : Type 0} (old new : List (Option (Slot H R W E))) (k b : ℕ)
+    → AreCountable old → ((j : ℕ) → (j ≡ k → ⊥) → slice_get new j ≡ slice_get old j)
+    → ((s : Option (Slot H R W E)) → slice_get new k ≡ Some s → b ≡ waiting_in s) → b < 2 ^ 64
+    → AreCountable new
+countable-changed old new k b each others is small j slot got = elim (eqb_tells j k) [
+  | inl same ↦
+      let here = is slot (ap (λ i. slice_get new i) (sym same.1) ∙ got) in
+      omega (arith, here, small)
+  | inr apart ↦ each j slot (sym (others j apart.1) ∙ got)
+]
+
+-- the sum of the first slots, and of one more
+pub sum-more : {H R W E : Type 0} (slots : List (Option (Slot H R W E))) (i w sum : ℕ)
+    (slot : Option (Slot H R W E)) → sum ≡ sum_by waiting_in (take i slots) → i < length slots
+    → slot ≡ get_or slots i slot → w ≡ waiting_in slot
+    → sum + w ≡ sum_by waiting_in (take (i + 1) slots)
+sum-more slots i w sum slot so_far within is waits =
     let same : waiting_in slot ≡ waiting_in (get_or slots i slot) = ap waiting_in is in
     let more = sum_by_more waiting_in slots i slot within in
-    omega (arith, so_far, same, more, waits, room)
-
-pub room_end : {H R W E : Type 0} (slots : List (Option (Slot H R W E))) (most left i : ℕ)
-    → sum_by waiting_in (take i slots) + left ≡ most → length slots ≤ i
-    → nat_lt 0 left ≡ has_room most slots
-room_end slots most zero i so_far end =
-    let all : sum_by waiting_in (take i slots) ≡ all_waiting slots = ap (λ l. sum_by waiting_in l)
-    (take_all i slots end) in
-    sym (le-ltb (all_waiting slots) most (omega (arith, so_far, all)))
-room_end slots most (suc left) i so_far end =
-    let all : sum_by waiting_in (take i slots) ≡ all_waiting slots = ap (λ l. sum_by waiting_in l)
-    (take_all i slots end) in
-    lt-ltb 0 (suc left) (omega arith) ∙ sym (lt-ltb (all_waiting slots) most
-    (omega (arith, so_far, all)))
+    omega (arith, so_far, same, more, waits)
 
 -- what waits where all was written of the connection of a slot
 pub less-empty : {H R W E : Type 0} (slots : List (Option (Slot H R W E))) (most i : ℕ)
@@ -169,3 +216,20 @@ end-none {H} {R} {W} {E} slots k slot None got is = λ s found may.
     is (subst (λ (x : Slot H R W E). MayClose x) (same_Some s slot
     (same_Some (Some s) (Some slot) (sym found ∙ got))) may)
 end-none slots k slot (Some ending) got is = tt
+
+-- what waits in the first slots is countable, and in one more
+pub countable-more : {H R W E : Type 0} (slots : List (Option (Slot H R W E))) (i w : ℕ)
+    (slot : Option (Slot H R W E))
+    → ((k : ℕ) (s : Option (Slot H R W E)) → k < i → slice_get slots k ≡ Some s
+    → waiting_in s < 2 ^ 64)
+    → i < length slots → slot ≡ get_or slots i slot → w ≡ waiting_in slot → w < 2 ^ 64
+    → (k : ℕ) (s : Option (Slot H R W E)) → k < i + 1 → slice_get slots k ≡ Some s
+    → waiting_in s < 2 ^ 64
+countable-more slots i w slot each within is waits small k s below got = elim (eqb_tells k i) [
+  | inl same ↦
+      let here : slot ≡ s = same_Some slot s (sym (there slots i slot slot within (sym is))
+      ∙ (ap (λ j. slice_get slots j) (sym same.1) ∙ got)) in
+      let waits' : waiting_in slot ≡ waiting_in s = ap waiting_in here in
+      omega (arith, waits, waits', small)
+  | inr apart ↦ each k s (omega (arith, below, apart.1)) got
+]

@@ -1,6 +1,6 @@
 -- Connections in their slots: what waits to be written there, when one is at rest, and when it may
 -- be closed.
-use Rattle.std.specs.Prelude.{◌≡◌, ◌≢◌, ◌⊎◌, ℕ, ◌+◌, ◌<◌, ◌≤◌, Bool, true, false, nat_lt, List, [], length, sum_by, slice_get, Option, None, Some}
+use Rattle.std.specs.Prelude.{◌≡◌, ◌≢◌, ◌⊎◌, ℕ, ◌+◌, ◌^◌, ◌<◌, ◌≤◌, Bool, true, false, nat_lt, List, [], length, sum_by, slice_get, Option, None, Some}
 use Rattle.std.specs.Option.{option_map_or}
 use Rattle.multiplex.specs.declared.handler.SlotEnd.{SlotEnd}
 use Rattle.multiplex.specs.declared.handler.SlotEnd.TheVariants.{Finished, EndOfInput}
@@ -100,6 +100,12 @@ waiting_in slot = option_map_or (λ s. length s.waiting) slot 0
 -- how many bytes wait to be written in all slots
 abbrev pub all_waiting : {H R W E : Type 0} → List (Option (Slot H R W E)) → ℕ
 all_waiting slots = sum_by waiting_in slots
+
+-- what waits in each slot is fewer than 2 ^ 64 bytes
+abbrev pub AreCountable : {H R W E : Type 0} → List (Option (Slot H R W E)) → Type 0
+AreCountable {H} {R} {W} {E} slots =
+    (k : ℕ) (slot : Option (Slot H R W E)) → slice_get slots k ≡ Some slot
+    → waiting_in slot < 2 ^ 64
 
 -- there is room for answers: fewer bytes wait than this
 abbrev pub has_room : {H R W E : Type 0} → (most : ℕ) → List (Option (Slot H R W E)) → Bool

@@ -1,7 +1,7 @@
 //! One turn of each connection.
 
-ghost use Rattle.std.specs.Prelude.{◌≡◌, ◌≢◌, ◌<◌, ◌≤◌, ℕ, length, true, false, slice_get, Some, None, IfSome, IfNone};
-ghost use Rattle.multiplex.specs.Slots.{MayClose, has_room, IsQuietAt, IsAtRestAt, waiting_in, all_waiting};
+ghost use Rattle.std.specs.Prelude.{◌≡◌, ◌≢◌, ◌<◌, ◌≤◌, ◌^◌, ℕ, length, true, false, slice_get, Some, None, IfSome, IfNone};
+ghost use Rattle.multiplex.specs.Slots.{MayClose, has_room, IsQuietAt, IsAtRestAt, waiting_in, AreCountable, all_waiting};
 ghost use Rattle.multiplex.specs.Turns.{TakesTurns, state};
 
 use crate::handler::{Handler, SlotEnd};
@@ -19,30 +19,38 @@ fn waiting_in<H, R, W, E>(slot: &Option<Slot<H, R, W, E>>) -> usize
     }
 }
 
-/// Whether fewer bytes than `most` wait to be written at all connections together.
-fn has_room<H, R, W, E>(slots: &[Option<Slot<H, R, W, E>>], most: usize) -> bool
-    ensures { result ≡ has_room most slots.now }
+/// How many bytes wait to be written at the connection of a slot, if one is there.
+fn waiting_at<H, R, W, E>(slots: &[Option<Slot<H, R, W, E>>], place: usize) -> u128
+    requires { place < length slots.now }
+    ensures waits { (slot : _) → slice_get slots.now place ≡ Some slot → result ≡ waiting_in slot }
+    ensures fits { result < 2 ^ 64 }
 {
-    let mut left = most;
+    waiting_in(&slots[place]) as u128
+}
+
+/// How many bytes wait to be written at all connections together: more than a `usize` may hold.
+fn all_waiting<H, R, W, E>(slots: &[Option<Slot<H, R, W, E>>]) -> u128
+    ensures sum { result ≡ all_waiting slots.now }
+    ensures each { AreCountable slots.now }
+{
+    let mut sum = 0;
     for slot in slots {
-        let waiting = waiting_in(slot);
-        if left <= waiting {
-            return false;
-        }
-        left -= waiting;
+        sum += waiting_in(slot) as u128;
     }
-    0 < left
+    sum
 }
 
 /// The turn of the connection in a slot, if one is there. Whether more may be done there at once; else it is at rest.
 fn visit_at<S: Source, H: Handler>(
     ready: bool,
+    room: bool,
     world: &mut H::World,
     slots: &mut [Option<Slot<H, S::Reader, S::Writer, H::End>>],
     place: usize,
     round: Round,
 ) -> bool
-    requires { place < length slots.old }
+    requires within { place < length slots.old }
+    requires judged { room ≡ has_room round.limits.waiting_bytes slots.old }
     ensures turns { (source : S)
         → TakesTurns S.effects S.Reader.input S.Writer.output H.behavior round.limits 0 0
         (state source slots.old world.old round.now) (state source slots.new world.new round.now) }
@@ -52,7 +60,6 @@ fn visit_at<S: Source, H: Handler>(
     ensures rest { result ≡ false
         → IsQuietAt H.behavior (has_room round.limits.waiting_bytes slots.new) slots.new place }
 {
-    let room = has_room(slots, round.limits.waiting_bytes);
     match &mut slots[place] {
         Some(slot) => slot.visit(ready, room, world, round.now),
         None => false,
@@ -108,15 +115,18 @@ fn close_at<S: Source, H: Handler>(
     }
 }
 
-/// The turn of a slot. Whether more may be done at once; else the connection there, if one is, is at rest.
+/// The turn of a slot, where there is `room` for answers or not. Whether more may be done at once; else the connection
+/// there, if one is, is at rest.
 fn turn_at<S: Source, H: Handler>(
     source: &mut S,
     world: &mut H::World,
     slots: &mut [Option<Slot<H, S::Reader, S::Writer, H::End>>],
     place: usize,
+    room: bool,
     round: Round,
 ) -> bool
-    requires { place < length slots.old }
+    requires within { place < length slots.old }
+    requires judged { room ≡ has_room round.limits.waiting_bytes slots.old }
     ensures turns { TakesTurns S.effects S.Reader.input S.Writer.output H.behavior round.limits 0 0
         (state source.old slots.old world.old round.now)
         (state source.new slots.new world.new round.now) }
@@ -127,7 +137,7 @@ fn turn_at<S: Source, H: Handler>(
         → IsAtRestAt H.behavior (has_room round.limits.waiting_bytes slots.new) slots.new place }
 {
     let ready = source.is_ready(place);
-    let busy = visit_at::<S, H>(ready, world, slots, place, round);
+    let busy = visit_at::<S, H>(ready, room, world, slots, place, round);
     let closed = close_at::<S, H>(source, world, slots, place, round);
     either(busy, closed)
 }
@@ -149,9 +159,13 @@ pub(crate) fn serve_round<S: Source, H: Handler>(
         → IsAtRestAt H.behavior (has_room round.limits.waiting_bytes slots.new) slots.new k }
 {
     let mut busy = false;
+    let mut waiting = all_waiting(slots);
     for place in 0..slots.len() {
         let begun = source.clock();
-        let here = turn_at::<S, H>(source, world, slots, place, round);
+        let before = waiting_at(slots, place);
+        let room = waiting < round.limits.waiting_bytes as u128;
+        let here = turn_at::<S, H>(source, world, slots, place, room, round);
+        waiting = waiting - before + waiting_at(slots, place);
         *longest_turn = source.clock().saturating_sub(begun).max(*longest_turn);
         busy = either(busy, here);
     }

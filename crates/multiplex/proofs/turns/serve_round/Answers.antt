@@ -4,7 +4,7 @@ use Rattle.std.proofs.lemmas.Bool.Decides.{eqb_tells}
 use Rattle.std.proofs.lemmas.Option.{slice_get_within}
 use Rattle.multiplex.specs.Slots.{IsAtRestAt, has_room}
 use Rattle.multiplex.specs.Turns.{state}
-use Rattle.multiplex.proofs.Places.{rests-kept}
+use Rattle.multiplex.proofs.Places.{rests-kept, all-changed, part-of-all, all-fit, countable-changed}
 use Rattle.multiplex.proofs.Turning.{none, more}
 use Rattle.multiplex.proofs.turns.serve_round.Goals as goal
 
@@ -14,6 +14,8 @@ loop-place-init g c = record {
       g.S.Writer.NonBlockingWrite.output g.H.Handler.behavior c.args.round.limits
       (state c.args.source.now c.args.slots.now c.args.world.now c.args.round.now);
   places = refl;
+  sum = c.all_waiting-waiting.ensures.sum;
+  each = c.all_waiting-waiting.ensures.each;
   rest = λ quiet k below. absurd (omega (arith, below));
 }
 
@@ -27,6 +29,18 @@ loop-place-preserved g c = record {
       c.args.round.now)
       c.loop-place.invariant.turns c.turn_at-here.ensures.turns;
   places = c.turn_at-here.ensures.length ∙ c.loop-place.invariant.places;
+  sum =
+      let sums = all-changed c.loop-place.slots c.turn_at-here.new.slots c.loop-place.place
+      c.waiting_at-before.result c.waiting_at.result
+      (omega (arith, c.loop-place-test.true, c.loop-place.invariant.places))
+      c.turn_at-here.ensures.length c.turn_at-here.ensures.others c.waiting_at-before.ensures.waits
+      c.waiting_at.ensures.waits in
+      let part = part-of-all c.loop-place.slots c.loop-place.place c.waiting_at-before.result
+      (omega (arith, c.loop-place-test.true, c.loop-place.invariant.places)) c.waiting_at-before.ensures.waits in
+      omega (arith, sums, part, c.loop-place.invariant.sum);
+  each = countable-changed c.loop-place.slots c.turn_at-here.new.slots c.loop-place.place
+      c.waiting_at.result c.loop-place.invariant.each c.turn_at-here.ensures.others
+      c.waiting_at.ensures.waits c.waiting_at.ensures.fits;
   rest = λ quiet k below.
       let both = c.either-busy.ensures quiet in
       let most = c.args.round.limits.waiting_bytes in
@@ -56,3 +70,27 @@ returns-clause-rest g c quiet k slot got =
       c.loop-place.auto.slots,
       c.loop-place-test.false,
     )) slot got
+
+pub turn_at-here-requires-clause-judged : goal.turn_at-here-requires-clause-judged
+turn_at-here-requires-clause-judged g c =
+    ap (λ (n : ℕ). nat_lt n c.args.round.limits.waiting_bytes) c.loop-place.invariant.sum
+
+pub overflow_sub-waiting : goal.overflow_sub-waiting
+overflow_sub-waiting g c =
+    let part = part-of-all c.loop-place.slots c.loop-place.place c.waiting_at-before.result
+    (omega (arith, c.loop-place-test.true, c.loop-place.invariant.places)) c.waiting_at-before.ensures.waits in
+    omega (arith, part, c.loop-place.invariant.sum)
+
+pub overflow_add-waiting : goal.overflow_add-waiting
+overflow_add-waiting g c =
+    let sums = all-changed c.loop-place.slots c.turn_at-here.new.slots c.loop-place.place
+    c.waiting_at-before.result c.waiting_at.result
+    (omega (arith, c.loop-place-test.true, c.loop-place.invariant.places))
+    c.turn_at-here.ensures.length c.turn_at-here.ensures.others c.waiting_at-before.ensures.waits
+    c.waiting_at.ensures.waits in
+    let part = part-of-all c.loop-place.slots c.loop-place.place c.waiting_at-before.result
+    (omega (arith, c.loop-place-test.true, c.loop-place.invariant.places)) c.waiting_at-before.ensures.waits in
+    let fits = all-fit c.turn_at-here.new.slots (countable-changed c.loop-place.slots
+    c.turn_at-here.new.slots c.loop-place.place c.waiting_at.result c.loop-place.invariant.each
+    c.turn_at-here.ensures.others c.waiting_at.ensures.waits c.waiting_at.ensures.fits) in
+    omega (arith, sums, part, fits, c.loop-place.invariant.sum)

@@ -1,5 +1,5 @@
 use Rattle.std.proofs.Common.{◌≡◌, ℕ, ◌<◌, false, length}
-use Rattle.multiplex.specs.Slots.{IsAtRestAt, has_room}
+use Rattle.multiplex.specs.Slots.{AreCountable, IsAtRestAt, all_waiting, has_room}
 use Rattle.multiplex.specs.Turns.{TakesTurns, state}
 use Rattle.multiplex.proofs.turns.serve_round.Given as goal
 
@@ -10,6 +10,8 @@ invariant-loop-place g l = record {
       (state l.initial.source l.initial.slots l.initial.world l.round.now)
       (state l.source l.slots l.world l.round.now);
   places : length l.slots ≡ length l.initial.slots;
+  sum : l.waiting ≡ all_waiting l.slots;
+  each : AreCountable l.slots;
   rest : l.busy ≡ false → (k : ℕ) → k < l.place
       → IsAtRestAt g.H.Handler.behavior (has_room l.round.limits.waiting_bytes l.slots) l.slots k;
 }

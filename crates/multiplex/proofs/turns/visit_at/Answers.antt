@@ -9,12 +9,12 @@ use Rattle.multiplex.proofs.turns.visit_at.Goals as goal
 pub returns-in-Some-clause-turns : goal.returns-in-Some-clause-turns
 returns-in-Some-clause-turns g c source =
     let found = there c.args.slots.now c.args.place c.index-slots-place.result (Some c.in-Some.slot)
-    c.requires c.in-Some.is in
+    c.requires.within c.in-Some.is in
     steps_at g.S.Source.effects g.S.Reader.NonBlockingRead.input g.S.Writer.NonBlockingWrite.output
     g.H.Handler.behavior c.args.round.limits source c.args.slots.now
-    c.args.world.now c.visit.new.world c.args.round.now c.args.place c.has_room-room.result
+    c.args.world.now c.visit.new.world c.args.round.now c.args.place c.args.room
     c.in-Some.slot c.visit.new.self
-    c.visit.ensures.steps.0 found c.has_room-room.ensures c.visit.ensures.steps.1
+    c.visit.ensures.steps.0 found c.requires.judged c.visit.ensures.steps.1
 
 pub returns-in-Some-clause-others : goal.returns-in-Some-clause-others
 returns-in-Some-clause-others g c k other = get-set_other c.args.slots.now c.args.place k
@@ -23,20 +23,20 @@ returns-in-Some-clause-others g c k other = get-set_other c.args.slots.now c.arg
 pub returns-in-Some-clause-same : goal.returns-in-Some-clause-same
 returns-in-Some-clause-same g c none =
     let found = there c.args.slots.now c.args.place c.index-slots-place.result (Some c.in-Some.slot)
-    c.requires c.in-Some.is in
+    c.requires.within c.in-Some.is in
     all-kept c.args.slots.now c.args.place c.in-Some.slot c.visit.new.self found
     (c.visit.ensures.same none)
 
 pub returns-in-Some-clause-rest : goal.returns-in-Some-clause-rest
 returns-in-Some-clause-rest g c none =
     let found = there c.args.slots.now c.args.place c.index-slots-place.result (Some c.in-Some.slot)
-    c.requires c.in-Some.is in
+    c.requires.within c.in-Some.is in
     let same = all-kept c.args.slots.now c.args.place c.in-Some.slot c.visit.new.self found
     (c.visit.ensures.same none) in
-    let judged : c.has_room-room.result ≡ has_room c.args.round.limits.waiting_bytes
+    let judged : c.args.room ≡ has_room c.args.round.limits.waiting_bytes
     (slice_set c.args.slots.now c.args.place (Some c.visit.new.self)) =
-    subst (λ n. c.has_room-room.result ≡ nat_lt n c.args.round.limits.waiting_bytes) (sym same)
-    c.has_room-room.ensures in
+    subst (λ n. c.args.room ≡ nat_lt n c.args.round.limits.waiting_bytes) (sym same)
+    c.requires.judged in
     rests-set g.H.Handler.behavior _ c.args.slots.now c.args.place c.in-Some.slot c.visit.new.self
     found
     (subst (λ (b : Bool). IsQuiet g.H.Handler.behavior b c.visit.new.self) judged
@@ -48,11 +48,11 @@ returns-in-None-clause-turns g c source =
     g.H.Handler.behavior c.args.round.limits source c.args.slots.now
     c.args.world.now c.args.round.now c.args.place (get_or c.args.slots.now c.args.place
     c.index-slots-place.result)
-    (slice_get-get_or c.args.slots.now c.args.place c.index-slots-place.result c.requires)
+    (slice_get-get_or c.args.slots.now c.args.place c.index-slots-place.result c.requires.within)
 
 pub returns-in-None-clause-rest : goal.returns-in-None-clause-rest
 returns-in-None-clause-rest g c none =
     rests-free g.H.Handler.behavior _ c.args.slots.now c.args.place
     (get_or c.args.slots.now c.args.place c.index-slots-place.result) _
-    (slice_get-get_or c.args.slots.now c.args.place c.index-slots-place.result c.requires)
+    (slice_get-get_or c.args.slots.now c.args.place c.index-slots-place.result c.requires.within)
     c.in-None.is
