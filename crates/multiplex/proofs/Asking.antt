@@ -1,6 +1,7 @@
--- Before each long wait it was asked who comes: the contract of `serve`.
+-- Before each long wait it was asked who comes, before each busy one something was done, and behind
+-- each comes a round: the contract of `serve`.
 use Rattle.std.proofs.Common.{◌≡◌, ◌⊎◌, ℕ, ◌+◌, ◌<◌, ◌≤◌, Bool, true, false, List, [], ◌∷◌, ◌++◌, refl, sym, ◌∙◌, subst, ap, arith, inl, inr, cond}
-use Rattle.std.specs.Prelude.{Option, None, Some, IfSome, count_by, not, if◌then◌else◌}
+use Rattle.std.specs.Prelude.{Option, None, Some, IfSome, count_by, length, not, if◌then◌else◌}
 use Rattle.std.proofs.lemmas.Bool.{true≢false}
 use Rattle.std.proofs.lemmas.Option.{none-some, same_Some}
 use Rattle.std.proofs.lemmas.List.Sums.{sum_by-append, sum_by-cons}
@@ -9,8 +10,11 @@ use Rattle.multiplex.specs.Effects.{Effects}
 use Rattle.multiplex.specs.Input.{Input}
 use Rattle.multiplex.specs.Output.{Output}
 use Rattle.multiplex.specs.Behavior.{Behavior}
-use Rattle.multiplex.specs.Turns.{Loop, LoopTurn, Waits, Accepts, AcceptFails, AcceptsNobody, HasNoSlot, Calls, CallFails, CallsNobody, Steps, Closes, is_wait, count_waits, count_accepted, IsWait, AreTurns, TakesTurns}
-use Rattle.multiplex.specs.Serving.{is_long_wait, has_asked, asked_since, AsksWhoComes, HasAsked}
+use Rattle.multiplex.specs.Turns.{Loop, LoopTurn, Waits, Accepts, AcceptFails, AcceptsNobody, HasNoSlot, Calls, CallFails, CallsNobody, Steps, Closes, Rests, is_wait, count_waits, count_accepted, IsWait, AreTurns, TakesTurns}
+use Rattle.multiplex.specs.Rounds.{makes_progress, is_busy_wait, AreInRounds, happened_since, IsBusyBehindProgress, AreTurnsOf, AreComing}
+use Rattle.multiplex.specs.Serving.{is_long_wait, has_asked, AsksWhoComes, HasAsked}
+use Rattle.multiplex.proofs.Rounding.{no_waits, no_accepted, until_first, round_of, rounds_more}
+use Rattle.multiplex.proofs.Turning.{join}
 
 -- what was asked stays asked without a wait
 still_asked : (w a : Bool) → w ≡ false → (if w then false else (if a then true else true)) ≡ true
@@ -24,10 +28,11 @@ no_first true n e = absurd (omega (arith, e))
 no_first false n e = refl
 
 module _ {E : Type 0} where
-  -- whether it was asked since the last wait, once some turns are over
-  abbrev pub asked_after : Bool → List (LoopTurn E) → Bool
-  asked_after asked [] = asked
-  asked_after asked (turn ∷ turns) = asked_after (asked_since asked turn) turns
+  -- whether this happened since the last wait, once some turns are over
+  abbrev pub happened_after : (what : LoopTurn E → Bool) → Bool → List (LoopTurn E) → Bool
+  happened_after what before [] = before
+  happened_after what before (turn ∷ turns) =
+      happened_after what (happened_since what before turn) turns
 
   -- how many were accepted, once some turns are over
   abbrev accepted_after : ℕ → List (LoopTurn E) → ℕ
@@ -44,21 +49,46 @@ module _ {E : Type 0} where
       sum_by-append _ (turn ∷ []) turns in
       omega (arith, rest, all)
 
-  asked-join : (asked : Bool) (turns more : List (LoopTurn E))
-      → asked_after asked (turns ++ more) ≡ asked_after (asked_after asked turns) more
-  asked-join asked [] more = refl
-  asked-join asked (turn ∷ turns) more = asked-join (asked_since asked turn) turns more
+  happened-join : (what : LoopTurn E → Bool) (before : Bool) (turns more : List (LoopTurn E))
+      → happened_after what before (turns ++ more)
+      ≡ happened_after what (happened_after what before turns) more
+  happened-join what before [] more = refl
+  happened-join what before (turn ∷ turns) more =
+      happened-join what (happened_since what before turn) turns more
 
   asks-join : (most : Option ℕ) (accepted : ℕ) (asked : Bool) (turns more : List (LoopTurn E))
       → AsksWhoComes most accepted asked turns
-      → AsksWhoComes most (accepted_after accepted turns) (asked_after asked turns) more
+      → AsksWhoComes most (accepted_after accepted turns)
+      (happened_after has_asked asked turns) more
       → AsksWhoComes most accepted asked (turns ++ more)
   asks-join most accepted asked [] more first later = later
   asks-join most accepted asked (turn ∷ turns) more (first, rest) later = (
     first,
-    asks-join most (accepted + count_accepted (turn ∷ [])) (asked_since asked turn) turns
+    asks-join most (accepted + count_accepted (turn ∷ []))
+        (happened_since has_asked asked turn) turns
         more rest later,
   )
+
+  busy-join : (done : Bool) (turns more : List (LoopTurn E)) → IsBusyBehindProgress done turns
+      → IsBusyBehindProgress (happened_after makes_progress done turns) more
+      → IsBusyBehindProgress done (turns ++ more)
+  busy-join done [] more first later = later
+  busy-join done (turn ∷ turns) more (first, rest) later =
+      (first, busy-join (happened_since makes_progress done turn) turns more rest later)
+
+  -- a busy wait is a wait
+  busy_waits : (turn : LoopTurn E) → is_wait turn ≡ false → is_busy_wait turn ≡ true → ⊥
+  busy_waits (Waits busy now) none is = true≢false none
+  busy_waits (Accepts k listener) none is = true≢false (sym is)
+  busy_waits AcceptFails none is = true≢false (sym is)
+  busy_waits AcceptsNobody none is = true≢false (sym is)
+  busy_waits HasNoSlot none is = true≢false (sym is)
+  busy_waits (Calls k made) none is = true≢false (sym is)
+  busy_waits CallFails none is = true≢false (sym is)
+  busy_waits CallsNobody none is = true≢false (sym is)
+  busy_waits (Steps k step) none is = true≢false (sym is)
+  busy_waits (Closes k ending) none is = true≢false (sym is)
+  busy_waits (Rests k) none is = true≢false (sym is)
 
   -- a long wait is a wait
   long_waits : (turn : LoopTurn E) → is_wait turn ≡ false → is_long_wait turn ≡ true → ⊥
@@ -72,6 +102,7 @@ module _ {E : Type 0} where
   long_waits CallsNobody none long = true≢false (sym long)
   long_waits (Steps k step) none long = true≢false (sym long)
   long_waits (Closes k ending) none long = true≢false (sym long)
+  long_waits (Rests k) none long = true≢false (sym long)
 
   -- no wait is among turns without a wait
   first_none : (turn : LoopTurn E) (turns : List (LoopTurn E)) → count_waits (turn ∷ turns) ≡ 0
@@ -90,34 +121,45 @@ module _ {E : Type 0} where
   asks-none most accepted asked [] none = tt
   asks-none most accepted asked (turn ∷ turns) none = (
     λ long. absurd (long_waits turn (first_none turn turns none) long),
-    asks-none most (accepted + count_accepted (turn ∷ [])) (asked_since asked turn) turns
+    asks-none most (accepted + count_accepted (turn ∷ []))
+        (happened_since has_asked asked turn) turns
         (rest_none turn turns none),
   )
 
-  asked-kept : (turns : List (LoopTurn E)) → count_waits turns ≡ 0 → asked_after true turns ≡ true
-  asked-kept [] none = refl
-  asked-kept (turn ∷ turns) none =
-      subst (λ b. asked_after b turns ≡ true) (sym (still_asked (is_wait turn) (has_asked turn)
+  busy-none : (done : Bool) (turns : List (LoopTurn E)) → count_waits turns ≡ 0
+      → IsBusyBehindProgress done turns
+  busy-none done [] none = tt
+  busy-none done (turn ∷ turns) none = (
+    λ busy. absurd (busy_waits turn (first_none turn turns none) busy),
+    busy-none (happened_since makes_progress done turn) turns (rest_none turn turns none),
+  )
+
+  happened-kept : (what : LoopTurn E → Bool) (turns : List (LoopTurn E)) → count_waits turns ≡ 0
+      → happened_after what true turns ≡ true
+  happened-kept what [] none = refl
+  happened-kept what (turn ∷ turns) none =
+      subst (λ b. happened_after what b turns ≡ true) (sym (still_asked (is_wait turn) (what turn)
       (first_none turn turns none)))
-      (asked-kept turns (rest_none turn turns none))
+      (happened-kept what turns (rest_none turn turns none))
 
-  asked-by : (turns : List (LoopTurn E)) (asked w a : Bool) → count_waits turns ≡ 0 → w ≡ false
-      → (0 < count_by has_asked turns → asked_after asked turns ≡ true)
-      → 0 < cond a 1 0 + count_by has_asked turns
-      → asked_after (if w then false else (if a then true else asked)) turns ≡ true
-  asked-by turns asked true a none e again some = absurd (true≢false e)
-  asked-by turns asked false true none e again some = asked-kept turns none
-  asked-by turns asked false false none e again some = again (omega (arith, some))
+  happened-by : (what : LoopTurn E → Bool) (turns : List (LoopTurn E)) (before w a : Bool)
+      → count_waits turns ≡ 0 → w ≡ false
+      → (0 < count_by what turns → happened_after what before turns ≡ true)
+      → 0 < cond a 1 0 + count_by what turns
+      → happened_after what (if w then false else (if a then true else before)) turns ≡ true
+  happened-by what turns before true a none e again some = absurd (true≢false e)
+  happened-by what turns before false true none e again some = happened-kept what turns none
+  happened-by what turns before false false none e again some = again (omega (arith, some))
 
-  asked-once : (asked : Bool) (turns : List (LoopTurn E)) → count_waits turns ≡ 0
-      → 0 < count_by has_asked turns
-      → asked_after asked turns ≡ true
-  asked-once asked [] none some = absurd (omega (arith, some))
-  asked-once asked (turn ∷ turns) none some =
-      asked-by turns asked (is_wait turn) (has_asked turn) (rest_none turn turns none)
+  -- what happened once in turns without a wait happened since the last one
+  happened-once : (what : LoopTurn E → Bool) (before : Bool) (turns : List (LoopTurn E))
+      → count_waits turns ≡ 0 → 0 < count_by what turns → happened_after what before turns ≡ true
+  happened-once what before [] none some = absurd (omega (arith, some))
+  happened-once what before (turn ∷ turns) none some =
+      happened-by what turns before (is_wait turn) (what turn) (rest_none turn turns none)
       (first_none turn turns none)
-      (asked-once asked turns (rest_none turn turns none))
-      (subst (λ n. 0 < n) (sum_by-cons (λ t. cond (has_asked t) 1 0) turn turns) some)
+      (happened-once what before turns (rest_none turn turns none))
+      (subst (λ n. 0 < n) (sum_by-cons (λ t. cond (what t) 1 0) turn turns) some)
 
 module _ {S H R W V E : Type 0} (source : Effects S R W) (input : Input R) (output : Output W)
     (handler : Behavior H V E) (limits : Limits) where
@@ -127,8 +169,10 @@ module _ {S H R W V E : Type 0} (source : Effects S R W) (input : Input R) (outp
     pub execution : AreTurns source input output handler limits old turns new
     pub waited : count_waits turns ≡ waits
     pub accepts : count_accepted turns ≡ accepted
+    pub rounds : AreInRounds (length old.slots) turns
+    pub done : busy ≡ true → happened_after makes_progress true turns ≡ true
     pub asks : AsksWhoComes limits.connections 0 true turns
-    pub ready : (busy ≡ true) ⊎ ((asked_after true turns ≡ true) ⊎
+    pub ready : (busy ≡ true) ⊎ ((happened_after has_asked true turns ≡ true) ⊎
         (limits.connections ≡ Some accepted))
 
   pub begun : (here : Loop S H R W V E) → SoFar 0 0 true here here
@@ -137,23 +181,11 @@ module _ {S H R W V E : Type 0} (source : Effects S R W) (input : Input R) (outp
     execution = refl;
     waited = refl;
     accepts = refl;
+    rounds = record { begins = refl; rounds = tt; busy = tt };
+    done = λ e. refl;
     asks = tt;
     ready = inl refl;
   }
-
-  joined : (a b c : Loop S H R W V E) (turns more : List (LoopTurn E))
-      → AreTurns source input output handler limits a turns b
-      → AreTurns source input output handler limits b more c → AreTurns source input output handler
-      limits a (turns ++ more) c
-  joined a b c [] more same later =
-      subst (λ (x : Loop S H R W V E). AreTurns source input output handler limits x more c) same
-      later
-  joined a b c (turn ∷ turns) more (x, one, rest) later = (
-    x,
-    one,
-    joined x b c turns more rest
-        later,
-  )
 
   -- where all had come nobody more came
   still_all : (most : Option ℕ) (before more : ℕ) → most ≡ Some before
@@ -172,36 +204,42 @@ module _ {S H R W V E : Type 0} (source : Effects S R W) (input : Input R) (outp
       → SoFar waits before busy start old → IsWait source input output handler limits old busy now
       waited
       → HasAsked source input output handler limits before more waited asked
-      → TakesTurns source input output handler limits 0 0 asked called
-      → TakesTurns source input output handler limits 0 0 called new
+      → TakesTurns source input output handler limits (AreComing 0) asked called
+      → TakesTurns source input output handler limits (AreTurnsOf (length start.slots) busy') called
+      new
       → IfSome limits.connections (λ n. before ≤ n → before + more ≤ n)
       → SoFar (waits + 1) (before + more) busy' start new
   round_more waits before more busy busy' now start old waited asked called new far wait asks calls
       turns step =
+      let slots : ℕ = length start.slots in
       let tail : List (LoopTurn E) = asks.0 ++ (calls.0 ++ turns.0) in
       let count_tail : count_waits tail ≡ 0 =
       let one : count_waits tail ≡ count_waits asks.0 + count_waits (calls.0 ++ turns.0) =
       sum_by-append _ asks.0 (calls.0 ++ turns.0) in
       let two : count_waits (calls.0 ++ turns.0) ≡ count_waits calls.0 + count_waits turns.0 =
       sum_by-append _ calls.0 turns.0 in
-      omega (arith, one, two, asks.2, calls.2, turns.2) in
+      let last = no_waits (λ k. k < slots) turns.0 turns.2.own in
+      omega (arith, one, two, asks.2.waits, calls.2.waits, last) in
       let accepts_tail : count_accepted tail ≡ more =
       let one : count_accepted tail ≡ count_accepted asks.0 + count_accepted (calls.0 ++ turns.0) =
       sum_by-append _ asks.0 (calls.0 ++ turns.0) in
       let two : count_accepted (calls.0 ++ turns.0) ≡ count_accepted calls.0 + count_accepted
       turns.0 = sum_by-append _ calls.0 turns.0 in
-      omega (arith, one, two, asks.3, calls.3, turns.3) in
+      let last = no_accepted (λ k. k < slots) turns.0 turns.2.own in
+      omega (arith, one, two, asks.2.accepts, calls.2.accepts, last) in
       let round : List (LoopTurn E) = Waits busy now ∷ tail in
       let accepted-so_far : accepted_after 0 far.turns ≡ before = omega
       (arith, accepted-count 0 far.turns, far.accepts) in
       record {
         turns = far.turns ++ round;
-        execution = joined start old new far.turns round far.execution (
-          waited,
-          wait,
-          joined waited asked new asks.0 (calls.0 ++ turns.0) asks.1
-              (joined asked called new calls.0 turns.0 calls.1 turns.1),
-        );
+        execution = join source input output handler limits start old new far.turns round
+            far.execution (
+              waited,
+              wait,
+              join source input output handler limits waited asked new asks.0 (calls.0 ++ turns.0)
+                  asks.1 (join source input output handler limits asked called new calls.0 turns.0
+                  calls.1 turns.1),
+            );
         waited =
             let one : count_waits (far.turns ++ round) ≡ count_waits far.turns + count_waits round =
             sum_by-append _ far.turns round in
@@ -214,6 +252,24 @@ module _ {S H R W V E : Type 0} (source : Effects S R W) (input : Input R) (outp
             let two : count_accepted round ≡ 0 + count_accepted tail = sum_by-cons _
             (Waits busy now) tail in
             omega (arith, one, two, accepts_tail, far.accepts);
+        rounds = record {
+          begins = until_first far.turns tail busy now ∙ far.rounds.begins;
+          rounds = rounds_more slots far.turns tail busy now far.rounds.rounds count_tail
+              (round_of slots more busy' asks.0 calls.0 turns.0 asks.2 calls.2 turns.2);
+          busy = busy-join true far.turns round far.rounds.busy
+              (far.done, busy-none false tail count_tail);
+        };
+        done = λ working.
+            let some : 0 < count_by makes_progress tail =
+            let one : count_by makes_progress tail ≡ count_by makes_progress asks.0 + count_by
+            makes_progress
+            (calls.0 ++ turns.0) = sum_by-append _ asks.0 (calls.0 ++ turns.0) in
+            let two : count_by makes_progress (calls.0 ++ turns.0) ≡ count_by makes_progress
+            calls.0 + count_by
+            makes_progress turns.0 = sum_by-append _ calls.0 turns.0 in
+            omega (arith, one, two, turns.2.some working) in
+            happened-join makes_progress true far.turns round
+            ∙ happened-once makes_progress false tail count_tail some;
         asks = asks-join limits.connections 0 true far.turns round far.asks (
           λ long. elim far.ready [
             | inl working ↦ absurd (true≢false (sym long ∙ ap not working))
@@ -225,9 +281,10 @@ module _ {S H R W V E : Type 0} (source : Effects S R W) (input : Input R) (outp
           asks-none limits.connections (accepted_after 0 far.turns + count_accepted {E = E}
               (Waits busy now ∷ [])) false tail count_tail,
         );
-        ready = elim asks.4 [
+        ready = elim asks.3 [
           | inl all ↦ inr (inr (still_all limits.connections before more all step))
-          | inr some ↦ inr (inl (asked-join true far.turns round ∙ asked-once false tail count_tail
+          | inr some ↦ inr (inl (happened-join has_asked true far.turns round
+              ∙ happened-once has_asked false tail count_tail
               (let one : count_by has_asked tail ≡ count_by has_asked asks.0 + count_by has_asked
               (calls.0 ++ turns.0) = sum_by-append _ asks.0 (calls.0 ++ turns.0) in
               omega (arith, one, some))))

@@ -1,5 +1,6 @@
 pub mod Stepping
 pub mod Places
+pub mod Rounding
 pub mod Turning
 pub mod Counts
 pub mod OwnSteps

@@ -12,7 +12,7 @@ use Rattle.multiplex.specs.Output.{Output}
 use Rattle.multiplex.specs.Behavior.{Behavior, MovesAddUp}
 use Rattle.multiplex.specs.Slots.{Slot, first_slot}
 use Rattle.multiplex.specs.Steps.{Step, Receives, Answers, Lacks, Writes, Stops, FindsEmpty, FindsFull, Wakes, IsStep}
-use Rattle.multiplex.specs.Turns.{Loop, LoopTurn, Waits, Accepts, AcceptFails, AcceptsNobody, HasNoSlot, Calls, CallFails, CallsNobody, Steps, Closes, AreTurns}
+use Rattle.multiplex.specs.Turns.{Loop, LoopTurn, Waits, Accepts, AcceptFails, AcceptsNobody, HasNoSlot, Calls, CallFails, CallsNobody, Steps, Closes, Rests, AreTurns}
 use Rattle.multiplex.specs.Alone.{steps_at, StaysOpen, bytes_received, bytes_made, bytes_written, AreOwnSteps, HasOwnBytes}
 use Rattle.multiplex.proofs.Places.{get-set_same, get-set_other}
 
@@ -146,6 +146,11 @@ module _ {S H R W V E : Type 0} (source : Effects S R W) (input : Input R) (outp
       (ap (λ (a : Loop S H R W V E). a.slots) is.others) got in
       passed old middle new k slot (steps_at k turns)
       (laws.closes old.world middle.world is.slot.handler ending is.closes)
+      (own_steps middle new k slot turns rest still stays-open.1)
+  own_steps old new k slot (Rests j ∷ turns) (middle, is, rest) got stays-open =
+      let still = ap (λ (a : Loop S H R W V E). slice_get a.slots k) is.1 ∙ got in
+      let same = ap (λ (a : Loop S H R W V E). a.world) is.1 in
+      passed old middle new k slot (steps_at k turns) (stays old.world middle.world same)
       (own_steps middle new k slot turns rest still stays-open.1)
   own_steps old new k slot (Steps j step ∷ turns) (middle, is, rest) got stays-open =
       elim (eqb_tells j k) [

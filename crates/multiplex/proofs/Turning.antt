@@ -1,9 +1,10 @@
 -- Executions of turns, which the contracts of `turns` and `serving` need.
-use Rattle.std.proofs.Common.{◌≡◌, ℕ, ◌+◌, ◌<◌, ◌≤◌, Bool, false, List, [], ◌∷◌, ◌++◌, refl, sym, ◌∙◌, subst, ap, arith, inl, inr, cond}
-use Rattle.std.specs.Prelude.{Option, None, Some, slice_get, slice_set, count_by}
+use Rattle.std.proofs.Common.{◌≡◌, ◌⊎◌, ℕ, ◌+◌, ◌<◌, ◌≤◌, Bool, true, false, List, [], ◌∷◌, ◌++◌, refl, sym, ◌∙◌, subst, ap, arith, inl, inr, cond}
+use Rattle.std.specs.Prelude.{Option, None, Some, slice_get, slice_set, count_by, map}
+use Rattle.std.proofs.lemmas.Bool.{true≢false}
 use Rattle.std.proofs.KnownBytes.{Keeps-refl}
 use Rattle.std.proofs.lemmas.Option.{same_Some}
-use Rattle.std.proofs.lemmas.List.Sums.{sum_by-append, sum_by-cons}
+use Rattle.std.proofs.lemmas.List.Sums.{sum_by-cons}
 use Rattle.multiplex.specs.declared.handler.SlotEnd.{SlotEnd}
 use Rattle.multiplex.specs.declared.handler.SlotEnd.TheVariants.{Finished, EndOfInput, ReadFailed, WriteFailed, IdleTimeout, Displaced}
 use Rattle.multiplex.specs.declared.source.Arrival.{Arrival}
@@ -14,17 +15,19 @@ use Rattle.multiplex.specs.Input.{Input}
 use Rattle.multiplex.specs.Output.{Output}
 use Rattle.multiplex.specs.Behavior.{Behavior}
 use Rattle.multiplex.specs.Slots.{Slot, first_slot, has_room, IsAtRestAt, IsLongestUnheard, MayClose}
-use Rattle.multiplex.specs.Steps.{Step, Receives, Answers, Lacks, Writes, Stops, FindsEmpty, FindsFull, Wakes, IsAllowed, IsStep, AreSteps}
-use Rattle.multiplex.specs.Turns.{Loop, state, LoopTurn, Waits, Accepts, AcceptFails, AcceptsNobody, HasNoSlot, Calls, CallFails, CallsNobody, Steps, Closes, is_wait, is_accepted, count_waits, count_accepted, IsLoopTurn, AreTurns, TakesTurns}
+use Rattle.multiplex.specs.Steps.{Step, Receives, Answers, Lacks, Writes, Stops, FindsEmpty, FindsFull, Wakes, IsVisit, IsAllowed, IsStep, AreSteps, TakesSteps}
+use Rattle.multiplex.specs.Turns.{Loop, state, LoopTurn, Accepts, AcceptFails, AcceptsNobody, HasNoSlot, Calls, CallFails, CallsNobody, Steps, Closes, Rests, IsLoopTurn, AreTurns, TakesTurns}
+use Rattle.multiplex.specs.Rounds.{AreStepsAt, AreClosing, AreTurnOf, AreComing}
 use Rattle.multiplex.specs.Serving.{has_asked, HasAsked, HasCalled}
 use Rattle.multiplex.proofs.Places.{set_same, get-set_same, set-set, less-empty}
+use Rattle.multiplex.proofs.Rounding.{few_none, busy_turn, idle_turn, coming_none, coming-join, displacing}
 
 module _ {S H R W V E : Type 0} (source : Effects S R W) (input : Input R) (output : Output W)
     (handler : Behavior H V E) (limits : Limits) where
-  abbrev Goes : ℕ → ℕ → Loop S H R W V E → Loop S H R W V E → Type 0
-  Goes waits accepted old new = TakesTurns source input output handler limits waits accepted old new
+  abbrev Goes : (List (LoopTurn E) → Type 0) → Loop S H R W V E → Loop S H R W V E → Type 0
+  Goes so old new = TakesTurns source input output handler limits so old new
 
-  join : (a b c : Loop S H R W V E) (turns more : List (LoopTurn E))
+  pub join : (a b c : Loop S H R W V E) (turns more : List (LoopTurn E))
       → AreTurns source input output handler limits a turns b
       → AreTurns source input output handler limits b more c → AreTurns source input output handler
       limits a (turns ++ more) c
@@ -33,48 +36,27 @@ module _ {S H R W V E : Type 0} (source : Effects S R W) (input : Input R) (outp
       later
   join a b c (turn ∷ turns) more (x, one, rest) later = (x, one, join x b c turns more rest later)
 
-  pub none : (here : Loop S H R W V E) → Goes 0 0 here here
-  none here = ([], refl, refl, refl)
-
-  pub one : (turn : LoopTurn E) (old new : Loop S H R W V E) → IsLoopTurn source input output
-      handler limits old turn new
-      → Goes (count_waits (turn ∷ [])) (count_accepted (turn ∷ [])) old new
-  one turn old new is = (turn ∷ [], (new, is, refl), refl, refl)
+  pub one : (so : List (LoopTurn E) → Type 0) (turn : LoopTurn E) (old new : Loop S H R W V E)
+      → IsLoopTurn source input output handler limits old turn new → so (turn ∷ [])
+      → Goes so old new
+  one so turn old new is told = (turn ∷ [], (new, is, refl), told)
 
   -- some turns, and then some more
-  pub more : (m n p q : ℕ) (a b c : Loop S H R W V E) → Goes m n a b → Goes p q b c
-      → Goes (m + p) (n + q) a c
-  more m n p q a b c (turns, first, waits, accepts) (others, later, waits', accepts') =
-      let all_waits : count_waits (turns ++ others) ≡ count_waits turns + count_waits others =
-      sum_by-append _ turns others in
-      let all_accepts : count_accepted (turns ++ others) ≡ count_accepted turns + count_accepted
-      others =
-      sum_by-append _ turns others in (
-        turns ++ others,
-        join a b c turns others first later,
-        omega (arith, waits, waits', all_waits),
-        omega (arith, accepts, accepts', all_accepts),
-      )
+  pub more : (so also both : List (LoopTurn E) → Type 0) (a b c : Loop S H R W V E)
+      → ((turns others : List (LoopTurn E)) → so turns → also others → both (turns ++ others))
+      → Goes so a b → Goes also b c → Goes both a c
+  more so also both a b c joined (turns, first, told) (others, later, told') =
+      (turns ++ others, join a b c turns others first later, joined turns others told told')
 
   -- nothing happened in a slot
   pub unchanged : (source' : S) (slots : List (Option (Slot H R W E))) (v : V) (now k : ℕ)
       (slot : Option (Slot H R W E))
-      → slice_get slots k ≡ Some slot → Goes 0 0 (state source' slots v now)
+      → slice_get slots k ≡ Some slot → Goes (AreStepsAt k false) (state source' slots v now)
       (state source' (slice_set slots k slot) v now)
   unchanged source' slots v now k slot got =
-      subst (λ l. Goes 0 0 (state source' slots v now) (state source' l v now))
+      subst (λ l. Goes (AreStepsAt k false) (state source' slots v now) (state source' l v now))
       (sym (set_same slots k slot got))
-      (none (state source' slots v now))
-
-  -- a free slot stays free
-  pub free_still : (source' : S) (slots : List (Option (Slot H R W E))) (v : V) (now k : ℕ)
-      (left : Option (Slot H R W E))
-      → slice_get slots k ≡ Some None → left ≡ None → Goes 0 0 (state source' slots v now)
-      (state source' (slice_set slots k left) v now)
-  free_still source' slots v now k left got none' =
-      subst (λ l. Goes 0 0 (state source' slots v now) (state source' (slice_set slots k l) v now))
-      (sym none')
-      (unchanged source' slots v now k None got)
+      ([], refl, ([], refl, record { most = few_none 1; some = λ e. absurd (true≢false (sym e)) }))
 
   -- a step is allowed where it is allowed in the same slots with less to be written
   still_allowed : (slots : List (Option (Slot H R W E))) (k now : ℕ) (v w : V)
@@ -106,51 +88,50 @@ module _ {S H R W V E : Type 0} (source : Effects S R W) (input : Input R) (outp
       (first old new : Slot H R W E)
       (steps : List (Step E)) → slice_get slots k ≡ Some (Some first)
       → AreSteps input output handler (has_room limits.waiting_bytes slots) now v old steps w new
-      → Goes 0 0 (state source' (slice_set slots k (Some old)) v now)
+      → AreTurns source input output handler limits
+      (state source' (slice_set slots k (Some old)) v now) (map (λ (s : Step E). Steps k s) steps)
       (state source' (slice_set slots k (Some new)) w now)
   steps_from source' slots v w now k first old new [] got is =
-      subst (λ u. Goes 0 0 (state source' (slice_set slots k (Some old)) v now)
-      (state source' (slice_set slots k (Some new)) u now)) (sym is.0)
-      (subst (λ (s : Slot H R W E). Goes 0 0 (state source' (slice_set slots k (Some old)) v now)
-      (state source' (slice_set slots k (Some s)) v now)) (sym is.1)
-      (none (state source' (slice_set slots k (Some old)) v now)))
+      subst (λ u. state source' (slice_set slots k (Some new)) u now
+      ≡ state source' (slice_set slots k (Some old)) v now) (sym is.0)
+      (subst (λ (s : Slot H R W E). state source' (slice_set slots k (Some s)) v now
+      ≡ state source' (slice_set slots k (Some old)) v now) (sym is.1) refl)
   steps_from source' slots v w now k first old new (step ∷ steps) got (u, middle, allowed, is, rest)
       =
       let before : List (Option (Slot H R W E)) = slice_set slots k (Some old) in
       let there : slice_get before k ≡ Some (Some old) = get-set_same slots k (Some old)
       (Some first) got in
-      let did : Goes 0 0 (state source' before v now) (state source'
-      (slice_set before k (Some middle)) u now) =
-      one (Steps k step) (state source' before v now) (state source'
-      (slice_set before k (Some middle)) u now) (record {
-        before = old;
-        behind = middle;
-        there = there;
-        allowed = still_allowed slots k now v u first old middle step _ got allowed is;
-        step_is = is;
-        others = refl;
-      }) in
-      let here : Goes 0 0 (state source' before v now) (state source'
-      (slice_set slots k (Some middle)) u now) =
-      subst (λ l. Goes 0 0 (state source' before v now) (state source' l u now))
-      (set-set slots k (Some old) (Some middle)) did in
-      more 0 0 0 0 (state source' before v now) (state source' (slice_set slots k (Some middle)) u
-      now)
-      (state source' (slice_set slots k (Some new)) w now) here
-      (steps_from source' slots u w now k first middle new steps got rest)
+      let written : slice_set before k (Some middle) ≡ slice_set slots k (Some middle) =
+      set-set slots k (Some old) (Some middle) in (
+        state source' (slice_set slots k (Some middle)) u now,
+        record {
+          before = old;
+          behind = middle;
+          there = there;
+          allowed = still_allowed slots k now v u first old middle step _ got allowed is;
+          step_is = is;
+          others = ap (λ l. state source' l u now) (sym written);
+        },
+        steps_from source' slots u w now k first middle new steps got rest,
+      )
 
-  -- some steps at the connection of a slot
-  pub steps_at : (source' : S) (slots : List (Option (Slot H R W E))) (v w : V) (now k : ℕ)
-      (room : Bool) (old new : Slot H R W E)
-      (steps : List (Step E)) → slice_get slots k ≡ Some (Some old)
-      → room ≡ has_room limits.waiting_bytes slots
-      → AreSteps input output handler room now v old steps w new
-      → Goes 0 0 (state source' slots v now) (state source' (slice_set slots k (Some new)) w now)
-  steps_at source' slots v w now k room old new steps got judged is =
-      subst (λ l. Goes 0 0 (state source' l v now) (state source' (slice_set slots k (Some new)) w
-      now)) (set_same slots k (Some old) got)
-      (steps_from source' slots v w now k old old new steps got
-      (subst (λ b. AreSteps input output handler b now v old steps w new) judged is))
+  -- a visit of the connection of a slot
+  pub visited : (source' : S) (slots : List (Option (Slot H R W E))) (v w : V) (now k : ℕ)
+      (room busy : Bool) (old new : Slot H R W E)
+      → slice_get slots k ≡ Some (Some old) → room ≡ has_room limits.waiting_bytes slots
+      → TakesSteps input output handler (IsVisit 1 1 1 busy) room now v old w new
+      → Goes (AreStepsAt k busy) (state source' slots v now)
+      (state source' (slice_set slots k (Some new)) w now)
+  visited source' slots v w now k room busy old new got judged (steps, are, visit) = (
+    map (λ (s : Step E). Steps k s) steps,
+    subst (λ l. AreTurns source input output handler limits (state source' l v now)
+        (map (λ (s : Step E). Steps k s) steps) (state source' (slice_set slots k
+        (Some new)) w now))
+        (set_same slots k (Some old) got)
+        (steps_from source' slots v w now k old old new steps got
+        (subst (λ b. AreSteps input output handler b now v old steps w new) judged are)),
+    (steps, refl, visit),
+  )
 
   -- the connection of a slot was closed
   pub closed : (old new : S) (slots : List (Option (Slot H R W E))) (v w : V) (now k : ℕ)
@@ -161,13 +142,15 @@ module _ {S H R W V E : Type 0} (source : Effects S R W) (input : Input R) (outp
       → handler.closes v slot.handler ending w
       → ends ≡ (slot.reader, slot.writer)
       → source.closed old ends.0 ends.1 new → left ≡ None
-      → Goes 0 0 (state old slots v now) (state new (slice_set slots k left) w now)
+      → Goes (AreClosing k true) (state old slots v now)
+      (state new (slice_set slots k left) w now)
   closed old new slots v w now k slot ending left ends got (s, found, may, ended) tells is gave
       empty =
       let same : s ≡ slot = same_Some s slot (same_Some (Some s) (Some slot) (sym found ∙ got)) in
-      subst (λ l. Goes 0 0 (state old slots v now) (state new (slice_set slots k l) w now))
-      (sym empty)
-      (one (Closes k ending) (state old slots v now) (state new (slice_set slots k None) w now)
+      subst (λ l. Goes (AreClosing k true) (state old slots v now)
+      (state new (slice_set slots k l) w now)) (sym empty)
+      (one (AreClosing k true) (Closes k ending) (state old slots v now) (state new
+      (slice_set slots k None) w now)
       (record {
         slot = slot;
         there = got;
@@ -176,7 +159,24 @@ module _ {S H R W V E : Type 0} (source : Effects S R W) (input : Input R) (outp
         closes = tells;
         closed = subst (λ (p : R × W). source.closed old p.0 p.1 new) is gave;
         others = refl;
-      }))
+      }) (ending, refl))
+
+  -- the turn of a slot: it was visited, and closed where it may be; where nothing was done it rests
+  pub turned : (k : ℕ) (busy closed all : Bool) (a b c : Loop S H R W V E)
+      → (all ≡ true → (busy ≡ true) ⊎ (closed ≡ true))
+      → (all ≡ false → IsAtRestAt handler (has_room limits.waiting_bytes c.slots) c.slots k)
+      → Goes (AreStepsAt k busy) a b → Goes (AreClosing k closed) b c → Goes (AreTurnOf k all) a c
+  turned k busy closed true a b c either rest (turns, first, visit) (others, later, closing) = (
+    turns ++ others,
+    join a b c turns others first later,
+    busy_turn k busy closed true turns others refl either visit closing,
+  )
+  turned k busy closed false a b c either rest (turns, first, visit) (others, later, closing) = (
+    (turns ++ others) ++ (Rests k ∷ []),
+    join a c c (turns ++ others) (Rests k ∷ []) (join a b c turns others first later)
+        (c, (rest refl, refl), refl),
+    idle_turn k busy closed false turns others refl visit closing,
+  )
 
   abbrev Asked : ℕ → ℕ → Loop S H R W V E → Loop S H R W V E → Type 0
   Asked before accepted old new = HasAsked source input output handler limits before accepted old
@@ -213,8 +213,7 @@ module _ {S H R W V E : Type 0} (source : Effects S R W) (input : Input R) (outp
           },
           refl,
         ),
-        refl,
-        refl,
+        record { waits = refl; accepts = refl; none = λ j. few_none 0 },
         inr (omega arith),
       )
 
@@ -234,8 +233,7 @@ module _ {S H R W V E : Type 0} (source : Effects S R W) (input : Input R) (outp
       },
       refl,
     ),
-    refl,
-    refl,
+    record { waits = refl; accepts = refl; none = λ j. few_none 0 },
     inr (omega arith),
   )
 
@@ -254,50 +252,46 @@ module _ {S H R W V E : Type 0} (source : Effects S R W) (input : Input R) (outp
       ),
       refl,
     ),
-    refl,
-    refl,
+    record { waits = refl; accepts = refl; none = λ j. few_none 0 },
     inr (omega arith),
   )
 
   -- all had come
   pub all_came : (before : ℕ) (here : Loop S H R W V E) → limits.connections ≡ Some before
       → Asked before 0 here here
-  all_came before here all = ([], refl, refl, refl, inl all)
+  all_came before here all = ([], refl, coming_none, inl all)
 
   -- no slot is free, and one may have been displaced
   pub no_slot : (before : ℕ) (old new : Loop S H R W V E)
       → ((k : ℕ) → k < limits.accept_slots → slice_get old.slots k ≡ Some None → ⊥)
-      → Goes 0 0 old new → Asked before 0 old new
-  no_slot before old new taken (turns, are, waits, accepts) =
+      → Goes (AreComing 0) old new → Asked before 0 old new
+  no_slot before old new taken (turns, are, coming) =
       let asks : count_by has_asked (HasNoSlot ∷ turns) ≡ 1 + count_by has_asked turns = sum_by-cons
-      (λ t. cond (has_asked t) 1 0) HasNoSlot turns in
-      let all_waits : count_waits (HasNoSlot ∷ turns) ≡ 0 + count_waits turns =
-      sum_by-cons (λ t. cond (is_wait t) 1 0) HasNoSlot turns in
-      let all_accepts : count_accepted (HasNoSlot ∷ turns) ≡ 0 + count_accepted turns =
-      sum_by-cons (λ t. cond (is_accepted t) 1 0) HasNoSlot turns in (
+      (λ t. cond (has_asked t) 1 0) HasNoSlot turns in (
         HasNoSlot ∷ turns,
         (old, (taken, refl), are),
-        omega (arith, waits, all_waits),
-        omega (arith, accepts, all_accepts),
+        coming-join 0 0 (HasNoSlot ∷ []) turns
+            (record { waits = refl; accepts = refl; none = λ j. few_none 0 }) coming,
         inr (omega (arith, asks)),
       )
 
   -- no call was due
   pub none_due : (old new : S) (slots : List (Option (Slot H R W E))) (v : V) (now : ℕ)
       → source.called old None new
-      → Goes 0 0 (state old slots v now) (state new slots v now)
-  none_due old new slots v now called = one CallsNobody (state old slots v now)
+      → Goes (AreComing 0) (state old slots v now) (state new slots v now)
+  none_due old new slots v now called = one (AreComing 0) CallsNobody (state old slots v now)
       (state new slots v now) (called, refl)
+      (record { waits = refl; accepts = refl; none = λ j. few_none 0 })
 
   -- a call was due, and couldn't begin
   pub call_failed : (old between new : S) (slots : List (Option (Slot H R W E))) (v w : V) (now : ℕ)
       (reader : R) (writer : W)
       (made : List ℕ) → source.called old (Some (reader, writer)) between
       → handler.calls v made None w
-      → source.closed between reader writer new → Goes 0 0 (state old slots v now)
+      → source.closed between reader writer new → Goes (AreComing 0) (state old slots v now)
       (state new slots w now)
   call_failed old between new slots v w now reader writer made called calls closes =
-      one CallFails (state old slots v now) (state new slots w now) (record {
+      one (AreComing 0) CallFails (state old slots v now) (state new slots w now) (record {
         reader = reader;
         writer = writer;
         between = between;
@@ -306,20 +300,21 @@ module _ {S H R W V E : Type 0} (source : Effects S R W) (input : Input R) (outp
         calls = calls;
         closed = closes;
         others = refl;
-      })
+      }) (record { waits = refl; accepts = refl; none = λ j. few_none 0 })
 
   -- a call began in a free slot
   pub call_began : (old new : S) (slots : List (Option (Slot H R W E))) (v w : V) (now k : ℕ)
       (begun : Option (Slot H R W E)) (slot : Slot H R W E) → slice_get slots k ≡ Some None
       → limits.accept_slots ≤ k
       → begun ≡ Some slot → HasCalled source input output handler limits now old v begun new w
-      → Goes 0 0 (state old slots v now) (state new (slice_set slots k (Some slot)) w now)
+      → Goes (AreComing 0) (state old slots v now)
+      (state new (slice_set slots k (Some slot)) w now)
   call_began old new slots v w now k begun slot free behind is did =
       let (reader, writer, first, made, called, calls, made_so) =
       subst (λ b. HasCalled source input output handler limits now old v b new w) is did in
-      subst (λ (s : Slot H R W E). Goes 0 0 (state old slots v now)
+      subst (λ (s : Slot H R W E). Goes (AreComing 0) (state old slots v now)
       (state new (slice_set slots k (Some s)) w now)) (sym made_so)
-      (one (Calls k made) (state old slots v now)
+      (one (AreComing 0) (Calls k made) (state old slots v now)
       (state new (slice_set slots k (Some (first_slot first reader writer made now))) w now)
       (record {
         reader = reader;
@@ -330,16 +325,7 @@ module _ {S H R W V E : Type 0} (source : Effects S R W) (input : Input R) (outp
         called = called;
         calls = calls;
         others = refl;
-      }))
-
-  -- it was waited
-  pub waited : (old new : S) (slots : List (Option (Slot H R W E))) (v : V) (busy : Bool)
-      (first now : ℕ)
-      → (busy ≡ false → (k : ℕ) → IsAtRestAt handler (has_room limits.waiting_bytes slots) slots k)
-      → source.waited old busy now new → Goes 1 0 (state old slots v first) (state new slots v now)
-  waited old new slots v busy first now rest waits =
-      one (Waits busy now) (state old slots v first) (state new slots v now)
-      (record { rest = rest; waited = waits; others = refl })
+      }) (record { waits = refl; accepts = refl; none = λ j. few_none 0 }))
 
   -- a connection makes place for the next one
   pub displaced : (source' : S) (slots : List (Option (Slot H R W E))) (v : V) (now k : ℕ)
@@ -347,7 +333,8 @@ module _ {S H R W V E : Type 0} (source : Effects S R W) (input : Input R) (outp
       → slice_get slots k ≡ Some (Some old) → slice_get slots k ≡ Some (Some slot)
       → IsLongestUnheard handler now limits.accept_slots slots k slot
       → new ≡ record old { ending = Some Displaced }
-      → Goes 0 0 (state source' slots v now) (state source' (slice_set slots k (Some new)) v now)
+      → Goes (AreComing 0) (state source' slots v now)
+      (state source' (slice_set slots k (Some new)) v now)
   displaced source' slots v now k old slot new got found longest ended =
       let same : slot ≡ old = same_Some slot old (same_Some (Some slot) (Some old)
       (sym found ∙ got)) in
@@ -355,10 +342,10 @@ module _ {S H R W V E : Type 0} (source : Effects S R W) (input : Input R) (outp
       subst (λ (s : Slot H R W E). IsLongestUnheard handler now limits.accept_slots slots k s) same
       longest in
       let end : Slot H R W E = record old { ending = Some Displaced } in
-      subst (λ (s : Slot H R W E). Goes 0 0 (state source' slots v now)
+      subst (λ (s : Slot H R W E). Goes (AreComing 0) (state source' slots v now)
       (state source' (slice_set slots k (Some s)) v now))
       (sym ended)
-      (one (Steps k (Stops Displaced)) (state source' slots v now)
+      (one (AreComing 0) (Steps k (Stops Displaced)) (state source' slots v now)
       (state source' (slice_set slots k (Some end)) v now)
       (record {
         before = old;
@@ -375,4 +362,4 @@ module _ {S H R W V E : Type 0} (source : Effects S R W) (input : Input R) (outp
           },
         );
         others = refl;
-      }))
+      }) (displacing k))

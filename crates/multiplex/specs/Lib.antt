@@ -6,5 +6,6 @@ pub mod Effects
 pub mod Slots
 pub mod Steps
 pub mod Turns
+pub mod Rounds
 pub mod Serving
 pub mod Alone

@@ -1,12 +1,13 @@
 -- What a server does until it ends.
-use Rattle.std.specs.Prelude.{◌≡◌, ◌⊎◌, ℕ, ◌+◌, ◌≤◌, ◌<◌, Bool, true, false, not, if◌then◌else◌, List, [], ◌∷◌, count_by, All, Option, None, Some, IfSome}
+use Rattle.std.specs.Prelude.{◌≡◌, ◌⊎◌, ℕ, ◌+◌, ◌≤◌, ◌<◌, Bool, true, false, not, List, [], ◌∷◌, length, count_by, All, Option, None, Some, IfSome}
 use Rattle.multiplex.specs.declared.limits.Limits.{Limits}
 use Rattle.multiplex.specs.Effects.{Effects}
 use Rattle.multiplex.specs.Input.{Input}
 use Rattle.multiplex.specs.Output.{Output}
 use Rattle.multiplex.specs.Behavior.{Behavior}
 use Rattle.multiplex.specs.Slots.{Slot, first_slot}
-use Rattle.multiplex.specs.Turns.{Loop, state, LoopTurn, Waits, Accepts, AcceptFails, AcceptsNobody, HasNoSlot, is_wait, count_waits, count_accepted, AreTurns, TakesTurns}
+use Rattle.multiplex.specs.Turns.{Loop, state, LoopTurn, Waits, Accepts, AcceptFails, AcceptsNobody, HasNoSlot, count_waits, count_accepted, AreTurns, TakesTurns}
+use Rattle.multiplex.specs.Rounds.{AreInRounds, happened_since, AreComing}
 
 -- each slot is free
 abbrev pub AreAllFree : {X : Type 0} → List (Option X) → Type 0
@@ -26,36 +27,34 @@ has_asked turn = elim turn [
   | _ ↦ false
 ]
 
--- it was asked since the last wait, once this turn is over
-abbrev pub asked_since : {E : Type 0} → (asked : Bool) → LoopTurn E → Bool
-asked_since asked turn = if is_wait turn then false else (if has_asked turn then true else asked)
-
 -- before each long wait it was asked since the wait before, unless all had come that were to
 abbrev pub AsksWhoComes : {E : Type 0} → (most : Option ℕ) → (accepted : ℕ) → (asked : Bool)
     → List (LoopTurn E) → Type 0
 AsksWhoComes most accepted asked [] = Unit {0}
 AsksWhoComes most accepted asked (turn ∷ turns) =
     (is_long_wait turn ≡ true → (asked ≡ true) ⊎ (most ≡ Some accepted))
-    × AsksWhoComes most (accepted + count_accepted (turn ∷ [])) (asked_since asked turn) turns
+    × AsksWhoComes most (accepted + count_accepted (turn ∷ []))
+    (happened_since has_asked asked turn) turns
 
 module _ {S H R W V E : Type 0} (source : Effects S R W) (input : Input R) (output : Output W)
     (handler : Behavior H V E) (limits : Limits) where
-  -- a server took its turns; where it is done it accepted all that it was to, and each slot is
-  -- free, and else it was waited as often as it was to be
+  -- a server took its turns, in rounds; where it is done it accepted all that it was to, and each
+  -- slot is free, and else it was waited as often as it was to be
   pub record HasServed (old new : Loop S H R W V E) (done : Bool) : Type 0 where
     pub turns : List (LoopTurn E)
     pub execution : AreTurns source input output handler limits old turns new
+    pub rounds : AreInRounds (length old.slots) turns
     pub asks : AsksWhoComes limits.connections 0 true turns
     pub most : IfSome limits.connections (λ most. count_accepted turns ≤ most)
     pub ended : done ≡ true
         → (limits.connections ≡ Some (count_accepted turns)) × AreAllFree new.slots
     pub spent : done ≡ false → count_waits turns ≡ limits.rounds
 
-  -- some turns without a wait, in which it was asked who comes, unless all had come before
+  -- it was asked who comes, unless all had come before
   abbrev pub HasAsked : (before accepted : ℕ) → Loop S H R W V E → Loop S H R W V E → Type 0
   HasAsked before accepted old new =
       (turns : List (LoopTurn E)) × AreTurns source input output handler limits old turns new
-      × (count_waits turns ≡ 0) × (count_accepted turns ≡ accepted)
+      × AreComing accepted turns
       × ((limits.connections ≡ Some before) ⊎ (0 < count_by has_asked turns))
 
   -- a call began, and this is its slot; or none was due, or it couldn't begin
@@ -66,5 +65,5 @@ module _ {S H R W V E : Type 0} (source : Effects S R W) (input : Input R) (outp
       × (slot ≡ first_slot first reader writer made now)
   HasCalled now old v None new w =
       (slots : List (Option (Slot H R W E)))
-      → TakesTurns source input output handler limits 0 0 (state old slots v now)
+      → TakesTurns source input output handler limits (AreComing 0) (state old slots v now)
       (state new slots w now)

@@ -1,5 +1,5 @@
 -- What happens at one connection, step by step.
-use Rattle.std.specs.Prelude.{◌≡◌, ◌⊎◌, ℕ, ◌+◌, ◌≤◌, Bool, true, false, List, [], ◌∷◌, ◌++◌, Option, None, Some}
+use Rattle.std.specs.Prelude.{◌≡◌, ◌⊎◌, ℕ, ◌+◌, ◌≤◌, ◌<◌, Bool, true, false, List, [], ◌∷◌, ◌++◌, length, count_by, Option, None, Some}
 use Rattle.std.specs.Option.{option_map}
 use Rattle.std.specs.Io.KnownBytes.{Appends, Consumes, IsAtEnd, Keeps}
 use Rattle.multiplex.specs.declared.handler.SlotEnd.{SlotEnd}
@@ -24,6 +24,40 @@ pub data Step (E : Type 0) : Type 0 where
   -- nothing more was there to read; nothing more could be written; either may be otherwise now
   FindsEmpty FindsFull Wakes : Step E
 
+-- it was asked for an answer, which it had or lacked
+abbrev pub is_asked : {E : Type 0} → Step E → Bool
+is_asked step = elim step [ Answers made end ↦ true | Lacks ↦ true | _ ↦ false ]
+
+-- bytes came
+abbrev pub is_read : {E : Type 0} → Step E → Bool
+is_read step = elim step [ Receives bytes made end ↦ true | _ ↦ false ]
+
+-- bytes were written
+abbrev pub is_written : {E : Type 0} → Step E → Bool
+is_written step = elim step [ Writes bytes ↦ true | _ ↦ false ]
+
+-- something was done: bytes came, something was answered, or bytes were written
+abbrev pub is_progress : {E : Type 0} → Step E → Bool
+is_progress step = elim step [
+  | Receives bytes made end ↦ true
+  | Answers made end ↦ true
+  | Writes bytes ↦ true
+  | _ ↦ false
+]
+
+-- it was asked for so many answers at most, and read and written so many times at most
+pub record AreAtMost {E : Type 0} (asked read written : ℕ) (steps : List (Step E)) : Type 0 where
+  pub asks : count_by is_asked steps ≤ asked
+  pub reads : count_by is_read steps ≤ read
+  pub writes : count_by is_written steps ≤ written
+
+-- a visit, or a part of one: so often at most it was asked, read and written; where it is busy
+-- something was done
+pub record IsVisit {E : Type 0} (asked read written : ℕ) (busy : Bool)
+    (steps : List (Step E)) : Type 0 where
+  pub most : AreAtMost asked read written steps
+  pub some : busy ≡ true → 0 < count_by is_progress steps
+
 -- so long, in milliseconds, may no byte come or go
 abbrev pub idle_limit : ℕ
 idle_limit = 120000
@@ -37,9 +71,11 @@ IsAllowed room has_to step = elim step [
 ]
 
 module _ {H R W V E : Type 0} (input : Input R) (output : Output W) (handler : Behavior H V E) where
-  -- these bytes came, where nothing waited and nothing whole stood first; what they make waits
+  -- these bytes came, one at least, where nothing waited and nothing whole stood first; what they
+  -- make waits
   pub record IsReceipt (now : ℕ) (old : Slot H R W E) (bytes made : List ℕ) (end : Option E)
       (new : Slot H R W E) : Type 0 where
+    pub some : 0 < length bytes
     pub responsive : IsResponsive old
     pub lacks : handler.needs_more old.handler
     pub consumes : Consumes (input.unread old.reader) (input.unread new.reader) bytes
@@ -70,9 +106,10 @@ module _ {H R W V E : Type 0} (input : Input R) (output : Output W) (handler : B
     pub lacks : handler.needs_more new.handler
     pub others : new ≡ record old { handler = new.handler }
 
-  -- these bytes were written, which waited first
+  -- these bytes were written, one at least, which waited first
   pub record IsWrite (now : ℕ) (old : Slot H R W E) (bytes : List ℕ)
       (new : Slot H R W E) : Type 0 where
+    pub some : 0 < length bytes
     pub first : old.waiting ≡ bytes ++ new.waiting
     pub appends : Appends (output.written old.writer) (output.written new.writer) bytes
     pub others : new ≡ record old { writer = new.writer; waiting = new.waiting; active = now }
@@ -128,6 +165,8 @@ module _ {H R W V E : Type 0} (input : Input R) (output : Output W) (handler : B
       (u : V) × (middle : Slot H R W E) × IsAllowed room ⊥ step × IsStep now v old step u middle
       × AreSteps room now u middle steps w new
 
-  -- some steps, or none
-  abbrev pub TakesSteps : (room : Bool) → ℕ → V → Slot H R W E → V → Slot H R W E → Type 0
-  TakesSteps room now v old w new = (steps : List (Step E)) × AreSteps room now v old steps w new
+  -- some steps, or none, of which this holds
+  abbrev pub TakesSteps : (so : List (Step E) → Type 0) → (room : Bool) → ℕ → V → Slot H R W E → V
+      → Slot H R W E → Type 0
+  TakesSteps so room now v old w new =
+      (steps : List (Step E)) × AreSteps room now v old steps w new × so steps

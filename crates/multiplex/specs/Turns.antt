@@ -39,6 +39,8 @@ pub data LoopTurn (E : Type 0) : Type 0 where
   Steps : (slot : ℕ) → Step E → LoopTurn E
   -- the connection of a slot was closed, which ended so
   Closes : (slot : ℕ) → SlotEnd E → LoopTurn E
+  -- at the connection of a slot, if one is there, nothing could be done
+  Rests : (slot : ℕ) → LoopTurn E
 
 -- it was waited
 abbrev pub is_wait : {E : Type 0} → LoopTurn E → Bool
@@ -157,6 +159,8 @@ module _ {S H R W V E : Type 0} (source : Effects S R W) (input : Input R) (outp
   IsLoopTurn old CallsNobody new = ChangesSource (source.called old.source None) old new
   IsLoopTurn old (Steps k step) new = IsStepAt old k step new
   IsLoopTurn old (Closes k ending) new = IsClose old k ending new
+  IsLoopTurn old (Rests k) new =
+      IsAtRestAt handler (has_room limits.waiting_bytes old.slots) old.slots k × (new ≡ old)
 
   -- an execution: one turn after the other
   abbrev pub AreTurns : Loop S H R W V E → List (LoopTurn E) → Loop S H R W V E → Type 0
@@ -164,8 +168,7 @@ module _ {S H R W V E : Type 0} (source : Effects S R W) (input : Input R) (outp
   AreTurns old (turn ∷ turns) new =
       (middle : Loop S H R W V E) × IsLoopTurn old turn middle × AreTurns middle turns new
 
-  -- some turns, or none, with so many waits, in which so many connections were accepted
-  abbrev pub TakesTurns : (waits accepted : ℕ) → Loop S H R W V E → Loop S H R W V E → Type 0
-  TakesTurns waits accepted old new =
-      (turns : List (LoopTurn E)) × AreTurns old turns new × (count_waits turns ≡ waits)
-      × (count_accepted turns ≡ accepted)
+  -- some turns, or none, of which this holds
+  abbrev pub TakesTurns : (so : List (LoopTurn E) → Type 0) → Loop S H R W V E
+      → Loop S H R W V E → Type 0
+  TakesTurns so old new = (turns : List (LoopTurn E)) × AreTurns old turns new × so turns

@@ -3,6 +3,7 @@
 ghost use Rattle.std.specs.Prelude.{◌≡◌, ◌≢◌, ◌<◌, ◌≤◌, ℕ, length, Some, None, IfSome, IfNone, slice_get};
 ghost use Rattle.multiplex.specs.Slots.{AreTaken, IsUnheard, IsLongestUnheard};
 ghost use Rattle.multiplex.specs.Turns.{TakesTurns, state};
+ghost use Rattle.multiplex.specs.Rounds.{AreComing};
 
 use crate::handler::Handler;
 use crate::limits::Round;
@@ -67,7 +68,8 @@ pub(crate) fn make_place<S: Source, H: Handler>(
 )
     requires { AreTaken round.limits.accept_slots slots.old }
     ensures { (source : S) (world : H.World)
-        → TakesTurns S.effects S.Reader.input S.Writer.output H.behavior round.limits 0 0
+        → TakesTurns S.effects S.Reader.input S.Writer.output H.behavior round.limits
+        (AreComing 0)
         (state source slots.old world round.now) (state source slots.new world round.now) }
 {
     if let Some(place) = longest_unheard::<S, H>(slots, round) {

@@ -2,6 +2,7 @@
 
 ghost use Rattle.std.specs.Prelude.{◌≡◌, ◌≢◌, ◌+◌, ◌<◌, ◌≤◌, ◌↔◌, ℕ, List, length, IsTrue, true, false, Some, None, IfSome, IfNone, slice_get, min};
 ghost use Rattle.multiplex.specs.Turns.{TakesTurns, state};
+ghost use Rattle.multiplex.specs.Rounds.{AreComing};
 ghost use Rattle.multiplex.specs.Serving.{AreAllFree, HasAsked, HasCalled, HasServed};
 
 use crate::displacing::make_place;
@@ -97,8 +98,8 @@ fn accept_next<S: Source, H: Handler>(
     accepted: u64,
     round: Round,
 ) -> u64
-    ensures turns { HasAsked S.effects S.Reader.input S.Writer.output H.behavior round.limits accepted result
-        (state source.old slots.old world.old round.now)
+    ensures turns { HasAsked S.effects S.Reader.input S.Writer.output H.behavior round.limits
+        accepted result (state source.old slots.old world.old round.now)
         (state source.new slots.new world.new round.now) }
     ensures one { result ≤ 1 }
     ensures most { IfSome round.limits.connections
@@ -154,7 +155,8 @@ fn call_next<S: Source, H: Handler>(
     slots: &mut [Option<Slot<H, S::Reader, S::Writer, H::End>>],
     round: Round,
 )
-    ensures { TakesTurns S.effects S.Reader.input S.Writer.output H.behavior round.limits 0 0
+    ensures { TakesTurns S.effects S.Reader.input S.Writer.output H.behavior round.limits
+        (AreComing 0)
         (state source.old slots.old world.old round.now)
         (state source.new slots.new world.new round.now) }
 {

@@ -4,7 +4,7 @@ ghost use Rattle.std.specs.Prelude.{◌≡◌, ◌<◌, ◌⊎◌, ◌↔◌, Bo
 ghost use Rattle.std.specs.Option.{option_map};
 ghost use Rattle.multiplex.specs.declared.handler.SlotEnd.TheVariants.{Finished, Displaced};
 ghost use Rattle.multiplex.specs.Slots.{first_slot, IsResponsive, IsUnheard, IsQuiet, IsWriteAtRest, MayClose};
-ghost use Rattle.multiplex.specs.Steps.{TakesSteps};
+ghost use Rattle.multiplex.specs.Steps.{IsVisit, TakesSteps};
 
 use crate::handler::{Handler, Progress, SlotEnd};
 use crate::transfer::{NonBlockingRead, NonBlockingWrite, ReadAttempt, WriteAttempt};
@@ -154,7 +154,8 @@ fn finished<E>(end: Option<E>) -> Option<SlotEnd<E>>
 
 /// Whether one of both is so.
 pub(crate) fn either(one: bool, other: bool) -> bool
-    ensures { result ≡ false → (one ≡ false) × (other ≡ false) }
+    ensures some { result ≡ true → (one ≡ true) ⊎ (other ≡ true) }
+    ensures none { result ≡ false → (one ≡ false) × (other ≡ false) }
 {
     one || other
 }
@@ -197,7 +198,7 @@ impl<H: Handler, R: NonBlockingRead, W: NonBlockingWrite> Slot<H, R, W, H::End> 
     /// read only where nothing of it waits to be written, and where there is `room` for answers. Whether more may be
     /// done at once; else it is at rest.
     pub(crate) fn visit(&mut self, ready: bool, room: bool, world: &mut H::World, now: u64) -> bool
-        ensures steps { TakesSteps R.input W.output H.behavior room now
+        ensures steps { TakesSteps R.input W.output H.behavior (IsVisit 1 1 1 result) room now
             world.old self.old world.new self.new }
         ensures same { result ≡ false → self.new.waiting ≡ self.old.waiting }
         ensures rest { result ≡ false → IsQuiet H.behavior room self.new }
@@ -212,7 +213,8 @@ impl<H: Handler, R: NonBlockingRead, W: NonBlockingWrite> Slot<H, R, W, H::End> 
     /// Where it may be ready, it is tried again.
     fn wake_if(&mut self, ready: bool)
         ensures steps { (v : H.World) (room : Bool) (now : ℕ)
-            → TakesSteps R.input W.output H.behavior room now v self.old v self.new }
+            → TakesSteps R.input W.output H.behavior (IsVisit 0 0 0 false) room now
+            v self.old v self.new }
         ensures same { self.new.waiting ≡ self.old.waiting }
     {
         if ready {
@@ -224,7 +226,8 @@ impl<H: Handler, R: NonBlockingRead, W: NonBlockingWrite> Slot<H, R, W, H::End> 
     /// Writes some of what waits, if that may be done now. Whether some was written.
     fn write_next(&mut self, now: u64) -> bool
         ensures steps { (v : H.World) (room : Bool)
-            → TakesSteps R.input W.output H.behavior room now v self.old v self.new }
+            → TakesSteps R.input W.output H.behavior (IsVisit 0 0 1 result) room now
+            v self.old v self.new }
         ensures same { result ≡ false → self.new.waiting ≡ self.old.waiting }
         ensures rest { result ≡ false → IsWriteAtRest self.new }
     {
@@ -241,7 +244,8 @@ impl<H: Handler, R: NonBlockingRead, W: NonBlockingWrite> Slot<H, R, W, H::End> 
     fn write_some(&mut self, now: u64) -> bool
         requires { 0 < length self.old.waiting }
         ensures steps { (v : H.World) (room : Bool)
-            → TakesSteps R.input W.output H.behavior room now v self.old v self.new }
+            → TakesSteps R.input W.output H.behavior (IsVisit 0 0 1 result) room now
+            v self.old v self.new }
         ensures same { result ≡ false → self.new.waiting ≡ self.old.waiting }
         ensures rest { result ≡ false → IsWriteAtRest self.new }
     {
@@ -265,7 +269,7 @@ impl<H: Handler, R: NonBlockingRead, W: NonBlockingWrite> Slot<H, R, W, H::End> 
     /// Answers what stands first, if it is whole, or else reads more; neither where an answer waits, or there is no room
     /// for one. Whether something was answered or came.
     fn advance(&mut self, room: bool, world: &mut H::World, now: u64) -> bool
-        ensures steps { TakesSteps R.input W.output H.behavior room now
+        ensures steps { TakesSteps R.input W.output H.behavior (IsVisit 1 1 0 result) room now
             world.old self.old world.new self.new }
         ensures same { result ≡ false → self.new.waiting ≡ self.old.waiting }
         ensures rest { result ≡ false → IsWriteAtRest self.old → IsQuiet H.behavior room self.new }
@@ -284,7 +288,7 @@ impl<H: Handler, R: NonBlockingRead, W: NonBlockingWrite> Slot<H, R, W, H::End> 
     /// Answers what stands first, if it is whole, or else reads more. Whether something was answered or came.
     fn answer_or_read(&mut self, world: &mut H::World, now: u64) -> bool
         requires responsive { IsResponsive self.old }
-        ensures steps { TakesSteps R.input W.output H.behavior true now
+        ensures steps { TakesSteps R.input W.output H.behavior (IsVisit 1 1 0 result) true now
             world.old self.old world.new self.new }
         ensures same { result ≡ false → self.new.waiting ≡ self.old.waiting }
         ensures rest { result ≡ false → IsQuiet H.behavior true self.new }
@@ -299,7 +303,7 @@ impl<H: Handler, R: NonBlockingRead, W: NonBlockingWrite> Slot<H, R, W, H::End> 
     /// Answers what stands first, if it is whole. Whether it was.
     fn answer_first(&mut self, world: &mut H::World, now: u64) -> bool
         requires { IsResponsive self.old }
-        ensures steps { TakesSteps R.input W.output H.behavior true now
+        ensures steps { TakesSteps R.input W.output H.behavior (IsVisit 1 0 0 result) true now
             world.old self.old world.new self.new }
         ensures lacks { result ≡ false
             → IsResponsive self.new × H.behavior.needs_more self.new.handler }
@@ -323,7 +327,8 @@ impl<H: Handler, R: NonBlockingRead, W: NonBlockingWrite> Slot<H, R, W, H::End> 
         requires responsive { IsResponsive self.old }
         requires lacks { H.behavior.needs_more self.old.handler }
         ensures steps { (v : H.World) (room : Bool)
-            → TakesSteps R.input W.output H.behavior room now v self.old v self.new }
+            → TakesSteps R.input W.output H.behavior (IsVisit 0 1 0 result) room now
+            v self.old v self.new }
         ensures same { result ≡ false → self.new.waiting ≡ self.old.waiting }
         ensures rest { result ≡ false → IsQuiet H.behavior true self.new }
     {
@@ -356,7 +361,8 @@ impl<H: Handler, R: NonBlockingRead, W: NonBlockingWrite> Slot<H, R, W, H::End> 
     /// Ends it, where no byte came or went for too long.
     fn stop_if_idle(&mut self, now: u64)
         ensures steps { (v : H.World) (room : Bool)
-            → TakesSteps R.input W.output H.behavior room now v self.old v self.new }
+            → TakesSteps R.input W.output H.behavior (IsVisit 0 0 0 false) room now
+            v self.old v self.new }
         ensures same { self.new.waiting ≡ self.old.waiting }
         ensures rest { (room : Bool)
             → IsQuiet H.behavior room self.old → IsQuiet H.behavior room self.new }

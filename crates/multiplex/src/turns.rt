@@ -3,6 +3,7 @@
 ghost use Rattle.std.specs.Prelude.{◌≡◌, ◌≢◌, ◌<◌, ◌≤◌, ◌^◌, ℕ, length, true, false, slice_get, Some, None, IfSome, IfNone};
 ghost use Rattle.multiplex.specs.Slots.{MayClose, has_room, IsQuietAt, IsAtRestAt, waiting_in, AreCountable, all_waiting};
 ghost use Rattle.multiplex.specs.Turns.{TakesTurns, state};
+ghost use Rattle.multiplex.specs.Rounds.{AreStepsAt, AreClosing, AreTurnOf, AreTurnsOf};
 
 use crate::handler::{Handler, SlotEnd};
 use crate::limits::Round;
@@ -52,7 +53,8 @@ fn visit_at<S: Source, H: Handler>(
     requires within { place < length slots.old }
     requires judged { room ≡ has_room round.limits.waiting_bytes slots.old }
     ensures turns { (source : S)
-        → TakesTurns S.effects S.Reader.input S.Writer.output H.behavior round.limits 0 0
+        → TakesTurns S.effects S.Reader.input S.Writer.output H.behavior round.limits
+        (AreStepsAt place result)
         (state source slots.old world.old round.now) (state source slots.new world.new round.now) }
     ensures length { length slots.new ≡ length slots.old }
     ensures others { (k : ℕ) → k ≢ place → slice_get slots.new k ≡ slice_get slots.old k }
@@ -94,7 +96,8 @@ fn close_at<S: Source, H: Handler>(
     round: Round,
 ) -> bool
     requires { place < length slots.old }
-    ensures turns { TakesTurns S.effects S.Reader.input S.Writer.output H.behavior round.limits 0 0
+    ensures turns { TakesTurns S.effects S.Reader.input S.Writer.output H.behavior round.limits
+        (AreClosing place result)
         (state source.old slots.old world.old round.now)
         (state source.new slots.new world.new round.now) }
     ensures length { length slots.new ≡ length slots.old }
@@ -127,7 +130,8 @@ fn turn_at<S: Source, H: Handler>(
 ) -> bool
     requires within { place < length slots.old }
     requires judged { room ≡ has_room round.limits.waiting_bytes slots.old }
-    ensures turns { TakesTurns S.effects S.Reader.input S.Writer.output H.behavior round.limits 0 0
+    ensures turns { TakesTurns S.effects S.Reader.input S.Writer.output H.behavior round.limits
+        (AreTurnOf place result)
         (state source.old slots.old world.old round.now)
         (state source.new slots.new world.new round.now) }
     ensures length { length slots.new ≡ length slots.old }
@@ -151,7 +155,8 @@ pub(crate) fn serve_round<S: Source, H: Handler>(
     round: Round,
     longest_turn: &mut u64,
 ) -> bool
-    ensures turns { TakesTurns S.effects S.Reader.input S.Writer.output H.behavior round.limits 0 0
+    ensures turns { TakesTurns S.effects S.Reader.input S.Writer.output H.behavior round.limits
+        (AreTurnsOf (length slots.old) result)
         (state source.old slots.old world.old round.now)
         (state source.new slots.new world.new round.now) }
     ensures length { length slots.new ≡ length slots.old }

@@ -1,7 +1,8 @@
-use Rattle.std.proofs.Common.{arith}
+use Rattle.std.proofs.Common.{arith, [], refl}
 use Rattle.multiplex.specs.Turns.{state}
 use Rattle.multiplex.proofs.Counts.{none_more}
-use Rattle.multiplex.proofs.Turning.{no_slot, none}
+use Rattle.multiplex.proofs.Rounding.{coming_none}
+use Rattle.multiplex.proofs.Turning.{no_slot}
 use Rattle.multiplex.proofs.serving.accept_next.Goals as goal
 
 pub returns-then-is_coming-clause-most : goal.returns-then-is_coming-clause-most
@@ -30,5 +31,4 @@ returns-else-is_coming-clause-turns g c =
     no_slot g.S.Source.effects g.S.Reader.NonBlockingRead.input g.S.Writer.NonBlockingWrite.output
     g.H.Handler.behavior c.args.round.limits c.args.accepted here here
     (λ k below free. c.in-None.ensures.none k (omega arith) below free)
-    (none g.S.Source.effects g.S.Reader.NonBlockingRead.input g.S.Writer.NonBlockingWrite.output
-    g.H.Handler.behavior c.args.round.limits here)
+    ([], refl, coming_none)

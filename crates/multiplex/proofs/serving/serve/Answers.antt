@@ -1,6 +1,7 @@
-use Rattle.std.proofs.Common.{refl, sym, ap, ◌∙◌, subst, arith, ◌≤◌}
+use Rattle.std.proofs.Common.{◌≡◌, length, refl, sym, ap, ◌∙◌, subst, arith, ◌≤◌}
 use Rattle.std.specs.Prelude.{Some, IfSome}
 use Rattle.std.proofs.lemmas.Bool.{true≢false}
+use Rattle.multiplex.specs.Rounds.{AreTurnsOf}
 use Rattle.multiplex.specs.Turns.{state}
 use Rattle.multiplex.proofs.Counts.{none_yet, with_more}
 use Rattle.multiplex.proofs.Asking.{begun, round_more}
@@ -26,6 +27,7 @@ returns-then-is_done g c first =
       record {
         turns = far.turns;
         execution = far.execution;
+        rounds = far.rounds;
         asks = far.asks;
         most = subst (λ n. IfSome c.args.limits.connections (λ most. n ≤ most)) (sym far.accepts)
             c.loop.invariant.most;
@@ -51,6 +53,12 @@ loop-preserved g c = record {
   far = λ first.
       let (last, before) = c.loop.invariant.far first in
       let now = c.wait-now.result in
+      let same : length c.call_next.new.slots ≡ length c.args.slots.now = omega (
+        arith,
+        c.call_next.auto.slots,
+        c.accept_next-accepted.auto.slots,
+        c.loop.auto.slots,
+      ) in
       let world = c.loop.world in (
         now,
         round_more g.S.Source.effects g.S.Reader.NonBlockingRead.input
@@ -71,8 +79,12 @@ loop-preserved g c = record {
               others =
                   refl;
             })
-            c.accept_next-accepted.ensures.turns c.call_next.ensures
-            c.serve_round-busy.ensures.turns
+            c.accept_next-accepted.ensures.turns c.call_next.ensures (
+              c.serve_round-busy.ensures.turns.0,
+              c.serve_round-busy.ensures.turns.1,
+              subst (λ n. AreTurnsOf n c.serve_round-busy.result c.serve_round-busy.ensures.turns.0)
+                  same c.serve_round-busy.ensures.turns.2,
+            )
             c.accept_next-accepted.ensures.most,
       );
   rest = λ quiet. c.serve_round-busy.ensures.rest quiet;
@@ -89,6 +101,7 @@ returns g c first =
       record {
         turns = far.turns;
         execution = far.execution;
+        rounds = far.rounds;
         asks = far.asks;
         most = subst (λ n. IfSome c.args.limits.connections (λ most. n ≤ most)) (sym far.accepts)
             c.loop.invariant.most;

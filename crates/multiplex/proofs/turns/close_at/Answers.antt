@@ -1,7 +1,8 @@
 use Rattle.std.specs.Prelude.{None, Some}
 use Rattle.std.proofs.Common.{sym, ◌∙◌}
+use Rattle.std.proofs.lemmas.Option.{none-some, same_Some}
 use Rattle.multiplex.proofs.Places.{there, get-set_other}
-use Rattle.multiplex.proofs.Turning.{closed, free_still}
+use Rattle.multiplex.proofs.Turning.{closed}
 use Rattle.multiplex.proofs.turns.close_at.Goals as goal
 
 pub returns-in-Some-take-clause-turns : goal.returns-in-Some-take-clause-turns
@@ -24,9 +25,7 @@ returns-in-Some-take-clause-others g c k other = get-set_other c.args.slots.now 
 
 pub returns-in_default-clause-turns : goal.returns-in_default-clause-turns
 returns-in_default-clause-turns g c =
-    free_still g.S.Source.effects g.S.Reader.NonBlockingRead.input
-    g.S.Writer.NonBlockingWrite.output g.H.Handler.behavior c.args.round.limits
-    c.args.source.now
-    c.args.slots.now c.args.world.now c.args.round.now c.args.place c.take.new.self
-    (there c.args.slots.now c.args.place c.index-slots-place.result None c.requires
-    (sym c.take.ensures.value ∙ c.in_default.is)) c.take.ensures.after
+    let (slot, got, may, ended) = c.in-Some.ensures.some in
+    absurd (none-some slot (same_Some None (Some slot) (sym (there c.args.slots.now c.args.place
+    c.index-slots-place.result None c.requires (sym c.take.ensures.value ∙ c.in_default.is)) ∙
+    got)))

@@ -3,18 +3,17 @@ use Rattle.std.proofs.Common.{get_or, sym, subst, ◌≡◌, Bool, nat_lt}
 use Rattle.std.proofs.lemmas.Option.{slice_get-get_or}
 use Rattle.multiplex.specs.Slots.{IsQuiet, has_room}
 use Rattle.multiplex.proofs.Places.{there, get-set_other, rests-set, rests-free, all-kept}
-use Rattle.multiplex.proofs.Turning.{unchanged, steps_at}
+use Rattle.multiplex.proofs.Turning.{unchanged, visited}
 use Rattle.multiplex.proofs.turns.visit_at.Goals as goal
 
 pub returns-in-Some-clause-turns : goal.returns-in-Some-clause-turns
 returns-in-Some-clause-turns g c source =
     let found = there c.args.slots.now c.args.place c.index-slots-place.result (Some c.in-Some.slot)
     c.requires.within c.in-Some.is in
-    steps_at g.S.Source.effects g.S.Reader.NonBlockingRead.input g.S.Writer.NonBlockingWrite.output
+    visited g.S.Source.effects g.S.Reader.NonBlockingRead.input g.S.Writer.NonBlockingWrite.output
     g.H.Handler.behavior c.args.round.limits source c.args.slots.now
-    c.args.world.now c.visit.new.world c.args.round.now c.args.place c.args.room
-    c.in-Some.slot c.visit.new.self
-    c.visit.ensures.steps.0 found c.requires.judged c.visit.ensures.steps.1
+    c.args.world.now c.visit.new.world c.args.round.now c.args.place c.args.room c.visit.result
+    c.in-Some.slot c.visit.new.self found c.requires.judged c.visit.ensures.steps
 
 pub returns-in-Some-clause-others : goal.returns-in-Some-clause-others
 returns-in-Some-clause-others g c k other = get-set_other c.args.slots.now c.args.place k

@@ -2,7 +2,7 @@ use Rattle.std.proofs.Common.{refl, take, subst, sym}
 use Rattle.std.proofs.KnownBytes.{Keeps-refl}
 use Rattle.multiplex.specs.Slots.{Slot}
 use Rattle.multiplex.specs.declared.handler.SlotEnd.TheVariants.{EndOfInput, ReadFailed}
-use Rattle.multiplex.proofs.Stepping.{received, found_empty, stopped}
+use Rattle.multiplex.proofs.Stepping.{some_taken, received, found_empty, stopped}
 use Rattle.multiplex.proofs.slot.Slot+H+R+W+H+End.read_more.Goals as goal
 
 pub returns-in-Read-clause-steps : goal.returns-in-Read-clause-steps
@@ -15,14 +15,15 @@ returns-in-Read-clause-steps g c v room =
     c.receive-end.result
     c.finished-self-inside.result c.self.inside.sent c.self.inside.out.items
     c.receive-end.new.out.items
-    c.self.view_is c.requires.responsive c.requires.lacks did.2 taken.2
+    (some_taken c.in-Read.n _ did.0 did.1) c.self.view_is c.requires.responsive c.requires.lacks
+    did.2 taken.2
     c.finished-self-inside.ensures refl
     c.self.invariant taken.1
 
 pub returns-in-EndOfInput-clause-steps : goal.returns-in-EndOfInput-clause-steps
 returns-in-EndOfInput-clause-steps g c v room =
     let did = rw c.in-EndOfInput.is at c.try_read.ensures in
-    stopped g.R.NonBlockingRead.input g.W.NonBlockingWrite.output g.H.Handler.behavior room
+    stopped g.R.NonBlockingRead.input g.W.NonBlockingWrite.output g.H.Handler.behavior 0 1 0 room
     c.args.now v _ _
     c.try_read.new.self c.self.inside.writer EndOfInput c.self.view_is did.0 (Keeps-refl _) tt (
       did.1,
@@ -33,14 +34,15 @@ returns-in-EndOfInput-clause-steps g c v room =
 pub returns-in-WouldBlock-clause-steps : goal.returns-in-WouldBlock-clause-steps
 returns-in-WouldBlock-clause-steps g c v room =
     let did = rw c.in-WouldBlock.is at c.try_read.ensures in
-    found_empty g.R.NonBlockingRead.input g.W.NonBlockingWrite.output g.H.Handler.behavior room
+    found_empty g.R.NonBlockingRead.input g.W.NonBlockingWrite.output g.H.Handler.behavior 0 1 0
+    room
     c.args.now v _ _
     c.try_read.new.self c.self.view_is did.0 did.1
 
 pub returns-in-Failed-clause-steps : goal.returns-in-Failed-clause-steps
 returns-in-Failed-clause-steps g c v room =
     let did = rw c.in-Failed.is at c.try_read.ensures in
-    stopped g.R.NonBlockingRead.input g.W.NonBlockingWrite.output g.H.Handler.behavior room
+    stopped g.R.NonBlockingRead.input g.W.NonBlockingWrite.output g.H.Handler.behavior 0 1 0 room
     c.args.now v _ _
     c.try_read.new.self c.self.inside.writer ReadFailed c.self.view_is did.0 (Keeps-refl _)
     tt did.1

@@ -13,6 +13,6 @@ returns-then-saturating_sub-ge-IDLE_LIMIT-clause-steps g c v room =
       c.if-saturating_sub-ge-IDLE_LIMIT.true,
       c.saturating_sub.ensures,
     ) in
-    stopped g.R.NonBlockingRead.input g.W.NonBlockingWrite.output g.H.Handler.behavior room
+    stopped g.R.NonBlockingRead.input g.W.NonBlockingWrite.output g.H.Handler.behavior 0 0 0 room
     c.args.now v _ _
     i.reader i.writer IdleTimeout c.self.view_is (Keeps-refl _) (Keeps-refl _) tt long

@@ -1,3 +1,4 @@
+use Rattle.std.proofs.Common.{false, inl, inr}
 use Rattle.multiplex.proofs.Stepping.{more}
 use Rattle.multiplex.proofs.slot.Slot+H+R+W+H+End.visit.Goals as goal
 
@@ -7,18 +8,21 @@ returns-clause-steps g c =
     let w = c.advance-advanced.new.world in
     let room = c.args.room in
     let now = c.args.now in
-    more g.R.NonBlockingRead.input g.W.NonBlockingWrite.output g.H.Handler.behavior room now v v w _
-    _ _
+    let wrote = c.write_next-wrote.result in
+    let advanced = c.advance-advanced.result in
+    let all = c.either.result in
+    more g.R.NonBlockingRead.input g.W.NonBlockingWrite.output g.H.Handler.behavior 0 0 0 1 1 1
+    false all all room now v v w _ _ _ (λ done. inr done)
     (c.wake_if.ensures.steps v room now)
-    (more g.R.NonBlockingRead.input g.W.NonBlockingWrite.output g.H.Handler.behavior room now v v w
-    _ _ _
+    (more g.R.NonBlockingRead.input g.W.NonBlockingWrite.output g.H.Handler.behavior 0 0 1 1 1 0
+    wrote advanced all room now v v w _ _ _ c.either.ensures.some
     (c.write_next-wrote.ensures.steps v room)
-    (more g.R.NonBlockingRead.input g.W.NonBlockingWrite.output g.H.Handler.behavior room now v w w
-    _ _ _
+    (more g.R.NonBlockingRead.input g.W.NonBlockingWrite.output g.H.Handler.behavior 1 1 0 0 0 0
+    advanced false advanced room now v w w _ _ _ (λ done. inl done)
     c.advance-advanced.ensures.steps (c.stop_if_idle.ensures.steps w room)))
 
 pub returns-clause-rest : goal.returns-clause-rest
 returns-clause-rest g c none =
-    let both = c.either.ensures none in
+    let both = c.either.ensures.none none in
     c.stop_if_idle.ensures.rest c.args.room
     (c.advance-advanced.ensures.rest both.1 (c.write_next-wrote.ensures.rest both.0))
