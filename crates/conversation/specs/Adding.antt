@@ -1,5 +1,5 @@
 -- Lemmas: what answers do are moves of the world, and moves add up.
-use Rattle.std.proofs.Common.{◌≡◌, ◌∙◌, ℕ, ℤ, List, Option, None, Some, refl, sym, subst}
+use Rattle.std.proofs.Common.{◌≡◌, ◌∙◌, ℕ, ℤ, List, [], Option, None, Some, Result, Ok, Err, slice_get, inl, inr, refl, sym, subst}
 use Rattle.archive.specs.Store.{Store}
 use Rattle.multiplex.specs.Behavior.{MovesAddUp}
 use Rattle.multiplex.specs.declared.handler.SlotEnd.{SlotEnd}
@@ -7,12 +7,18 @@ use Rattle.counted_io.specs.declared.fault.ServeFault.{ServeFault}
 use Rattle.conversation.specs.declared.world.World.{World}
 use Rattle.conversation.specs.declared.other_end.OtherEnd.{OtherEnd}
 use Rattle.conversation.specs.declared.other_end.OtherEnd.TheVariants.{Unknown, Client, Peer, Over}
-use Rattle.conversation.specs.OtherEnds.{ConversationEnding}
+use Rattle.exchange.specs.declared.fault.ExchangeFault.{ExchangeFault}
+use Rattle.ua_peers.specs.declared.calling.SyncFault.{SyncFault}
+use Rattle.ua_peers.specs.declared.calling.SyncFault.TheVariants.{Exchange}
+use Rattle.ua_peers.specs.Calling.{calling}
+use Rattle.ua_settings.specs.declared.peers.PeerCall.{PeerCall}
+use Rattle.conversation.specs.OtherEnds.{ConversationEnding, peer_at}
 use Rattle.conversation.specs.Answering.{AnswersFirst}
-use Rattle.conversation.specs.Closing.{LogCalls, ChangesLog, TellsEnd, fault_told}
-use Rattle.conversation.specs.Moves.{Moves}
+use Rattle.conversation.specs.Closing.{LogCalls, ChangesLog, TellsCall, TellsEnd, connection_fault, call_outcome}
+use Rattle.conversation.specs.Starting.{Asks, StartsCall}
+use Rattle.conversation.specs.Moves.{OnlyGrows, Moves}
 use Rattle.conversation.specs.Conversing.{behavior_over}
-use Rattle.conversation.specs.Growing.{transitions_grow, talks_grow, grows_none, grows_more}
+use Rattle.conversation.specs.Growing.{transitions_grow, talks_grow, greets_grow, grows_none, grows_more}
 
 module _ {A C L : Type 0} (state : A → Store) where
   -- none
@@ -44,10 +50,48 @@ module _ {A C L : Type 0} (state : A → Store) where
       subst (λ (u : World A C L). Moves state v u) (sym e)
       (refl, grows_none (state v.server.replica.archive))
 
+  -- how a call ended
+  call_moves : (calls : LogCalls L) (callee : ℕ) (v w : World A C L)
+      (outcome : Result (Unit {0}) SyncFault) → TellsCall calls v callee outcome w
+      → Moves state v w
+  call_moves calls callee v w outcome told = by (slice_get v.server.settings.peers callee) told
+    where
+      by : (peer : Option PeerCall) → (elim peer [
+        | None ↦ w ≡ v
+        | Some peer ↦
+            ChangesLog (λ old new. calls.told_call old callee peer.address outcome new) v w
+      ]) → Moves state v w
+      by None e = same_moves v w e
+      by (Some peer) changed = log_moves v w changed.0
+
+  -- a call begins
+  ask_grows : (a b : Store) (made : List ℕ) (result : Result (Unit {0}) ExchangeFault)
+      → Asks a b made result → OnlyGrows a b
+  ask_grows a b made result (inl greets) = greets_grow a b [] made result greets
+  ask_grows a b made result (inr (frame, greets, none, starved)) =
+      greets_grow a b [] frame (Ok tt) greets
+
+  start_moves : (calls : LogCalls L) (callee : ℕ) (v w : World A C L) (made : List ℕ)
+      (other : Option OtherEnd) → StartsCall state calls callee v made other w → Moves state v w
+  start_moves calls callee v w made other s =
+      more_moves v s.between w (s.settings, ask_grows _ _ made s.result s.asks)
+      (by s.result s.begins)
+    where
+      by : (result : Result (Unit {0}) ExchangeFault) → (elim result [
+        | Ok done ↦ (other ≡ Some (Peer (peer_at calling []))) × (w ≡ s.between)
+        | Err fault ↦
+            (other ≡ None) × TellsCall calls s.between callee (Err (Exchange fault)) w
+      ]) → Moves state s.between w
+      by (Ok done) so = same_moves s.between w so.1
+      by (Err fault) so = call_moves calls callee s.between w (Err (Exchange fault)) so.1
+
   -- how a connection ended
-  end_moves : (calls : LogCalls L) (v w : World A C L) (other : OtherEnd)
-      (ending : SlotEnd ConversationEnding) → TellsEnd calls v other ending w → Moves state v w
-  end_moves calls v w other ending told = by (fault_told ending) told
+  end_moves : (calls : LogCalls L) (callee : Option ℕ) (v w : World A C L) (other : OtherEnd)
+      (ending : SlotEnd ConversationEnding) → TellsEnd calls callee v other ending w
+      → Moves state v w
+  end_moves calls (Some callee) v w other ending told =
+      call_moves calls callee v w (call_outcome ending) told
+  end_moves calls None v w other ending told = by (connection_fault ending) told
     where
       by : (fault : Option ServeFault) → (elim fault [
         | None ↦ w ≡ v
@@ -63,7 +107,7 @@ module _ {A C L : Type 0} (state : A → Store) where
     none = none_moves;
     more = more_moves;
     answers = answer_moves gave;
-    closes = λ v w other ending told. end_moves calls v w other ending told;
+    closes = λ callee v w other ending told. end_moves calls callee v w other ending told;
     fails_accept = λ v w now told. log_moves v w told.0;
-    calls = λ v w made other called. same_moves v w called.2;
+    calls = λ callee v w made other called. start_moves calls callee v w made other called;
   }

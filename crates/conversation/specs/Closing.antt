@@ -1,43 +1,78 @@
 -- What is told of connections: how each ended, and that one failed before it could be used.
-use Rattle.std.specs.Prelude.{◌≡◌, ℕ, Option, None, Some, Ok, Err}
+use Rattle.std.specs.Prelude.{◌≡◌, ℕ, List, Option, None, Some, Result, Ok, Err, slice_get}
 use Rattle.multiplex.specs.declared.handler.SlotEnd.{SlotEnd}
 use Rattle.multiplex.specs.declared.handler.SlotEnd.TheVariants.{Finished, EndOfInput, ReadFailed, WriteFailed, IdleTimeout, Displaced}
+use Rattle.exchange.specs.declared.fault.ExchangeFault.TheVariants.{Frame}
 use Rattle.counted_io.specs.declared.fault.ServeFault.{ServeFault}
 use Rattle.counted_io.specs.declared.fault.ServeFault.TheVariants.{Read, Write}
+use Rattle.ua_peers.specs.declared.peers.PeerEnded.{PeerEnded}
+use Rattle.ua_peers.specs.declared.peers.PeerEnded.TheVariants as parted
+use Rattle.ua_peers.specs.declared.calling.SyncFault.{SyncFault}
+use Rattle.ua_peers.specs.declared.calling.SyncFault.TheVariants.{Connection, Exchange, Peer}
+use Rattle.conversation.specs.declared.ended.Ended.{Ended}
+use Rattle.conversation.specs.declared.ended.Ended.TheVariants as ended
 use Rattle.conversation.specs.declared.other_end.OtherEnd.{OtherEnd}
 use Rattle.conversation.specs.declared.world.World.{World}
 use Rattle.conversation.specs.OtherEnds.{ConversationEnding}
 
--- what the calls of a log do: it was told that a connection ended by this fault; and that one
--- failed at this time before it could be used
+-- what the calls of a log do: it was told that a connection ended by this fault; that one failed at
+-- this time before it could be used; and how a call of a peer ended, of this number and address
 pub record LogCalls (L : Type 0) : Type 1 where
   pub told : L → ServeFault → L → Type 0
   pub told_failed : L → (now : ℕ) → L → Type 0
+  pub told_call : L → (callee : ℕ) → (address : List ℕ) → Result (Unit {0}) SyncFault → L → Type 0
 
--- the record of these two
+-- the record of these three
 abbrev pub log_calls : {L : Type 0} → (L → ServeFault → L → Type 0) → (L → ℕ → L → Type 0)
-    → LogCalls L
-log_calls told failed = record { told = told; told_failed = failed }
+    → (L → ℕ → List ℕ → Result (Unit {0}) SyncFault → L → Type 0) → LogCalls L
+log_calls told failed call = record { told = told; told_failed = failed; told_call = call }
 
--- the fault that is told of a connection's end: of one that was silent for too long, or made place
--- for another, that its read failed; of a peer's dialog nothing, since the peer was told
-abbrev pub fault_told : SlotEnd ConversationEnding → Option ServeFault
-fault_told (Finished (Ok ended)) = None
-fault_told (Finished (Err fault)) = Some fault
-fault_told EndOfInput = None
-fault_told ReadFailed = Some Read
-fault_told WriteFailed = Some Write
-fault_told IdleTimeout = Some Read
-fault_told Displaced = Some Read
+-- the fault by which a connection ended, if it did; one that was silent for too long, or made place
+-- for another, ended as by a read that failed
+abbrev pub connection_fault : SlotEnd ConversationEnding → Option ServeFault
+connection_fault (Finished (Ok ended)) = None
+connection_fault (Finished (Err fault)) = Some fault
+connection_fault EndOfInput = None
+connection_fault ReadFailed = Some Read
+connection_fault WriteFailed = Some Write
+connection_fault IdleTimeout = Some Read
+connection_fault Displaced = Some Read
+
+-- what the end of a dialog is to the one that called
+abbrev pub parted_outcome : PeerEnded → Result (Unit {0}) SyncFault
+parted_outcome parted.EndOfInput = Err (Exchange Frame)
+parted_outcome parted.Done = Ok tt
+parted_outcome (parted.Refused number) = Err (Peer number)
+parted_outcome (parted.Failed fault) = Err (Exchange fault)
+
+-- what a connection's end is to the one that called; an input that is over before is a frame that
+-- can't be read
+abbrev pub call_outcome : SlotEnd ConversationEnding → Result (Unit {0}) SyncFault
+call_outcome (Finished (Ok (ended.Peer end))) = parted_outcome end
+call_outcome (Finished (Ok (ended.Client end))) = Err (Exchange Frame)
+call_outcome (Finished (Err fault)) = Err (Connection fault)
+call_outcome EndOfInput = Err (Exchange Frame)
+call_outcome WriteFailed = Err (Connection Write)
+call_outcome other = Err (Connection Read)
 
 -- the log alone changed, and so
 abbrev pub ChangesLog : {A C L : Type 0} → (L → L → Type 0) → World A C L → World A C L → Type 0
 ChangesLog so v w = (w ≡ record v { log = w.log }) × so v.log w.log
 
--- it was told how a connection ended, if it ended by a fault
-abbrev pub TellsEnd : {A C L : Type 0} → LogCalls L → World A C L → OtherEnd
+-- it was told how a call of the peer of this number in the settings ended, if there is one
+abbrev pub TellsCall : {A C L : Type 0} → LogCalls L → World A C L → (callee : ℕ)
+    → Result (Unit {0}) SyncFault → World A C L → Type 0
+TellsCall calls v callee outcome w = elim (slice_get v.server.settings.peers callee) [
+  | None ↦ w ≡ v
+  | Some peer ↦ ChangesLog (λ old new. calls.told_call old callee peer.address outcome new) v w
+]
+
+-- it was told how a connection that was accepted ended, if it ended by a fault: of a peer's dialog
+-- nothing, since the peer was told; of a call it was told how that ended
+abbrev pub TellsEnd : {A C L : Type 0} → LogCalls L → (callee : Option ℕ) → World A C L → OtherEnd
     → SlotEnd ConversationEnding → World A C L → Type 0
-TellsEnd calls v other ending w = elim (fault_told ending) [
+TellsEnd calls (Some callee) v other ending w = TellsCall calls v callee (call_outcome ending) w
+TellsEnd calls None v other ending w = elim (connection_fault ending) [
   | None ↦ w ≡ v
   | Some fault ↦ ChangesLog (λ old new. calls.told old fault new) v w
 ]

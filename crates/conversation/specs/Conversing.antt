@@ -9,14 +9,15 @@ use Rattle.conversation.specs.OtherEnds.{ConversationEnding, is_established}
 use Rattle.conversation.specs.Receiving.{TakesBytes}
 use Rattle.conversation.specs.Answering.{IsIncomplete, AnswersFirst}
 use Rattle.conversation.specs.Closing.{LogCalls, TellsEnd, TellsFailed}
+use Rattle.conversation.specs.Starting.{StartsCall}
 use Rattle.conversation.specs.Moves.{Moves}
 
--- a connection begins with nobody known at its other end, at any listener; none is called yet
+-- a connection begins with nobody known at its other end, at any listener, or is a call of a peer
 abbrev pub behavior_over : {A C L : Type 0} → (A → Store) → (C → List ℤ → C → Type 0)
     → LogCalls L → Behavior OtherEnd (World A C L) ConversationEnding
 behavior_over state gave log = record {
   begins = λ listener other. other ≡ Unknown [];
-  calls = λ v made other w. (made ≡ []) × (other ≡ None) × (w ≡ v);
+  calls = StartsCall state log;
   receives = TakesBytes;
   answers = AnswersFirst state gave;
   closes = TellsEnd log;

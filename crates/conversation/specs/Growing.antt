@@ -8,9 +8,11 @@ use Rattle.records.specs.declared.record.Record.{Record}
 use Rattle.archive.specs.Growth.{GrowsBy}
 use Rattle.archive.specs.Store.{Store, StepResult, IsLeft}
 use Rattle.archive.specs.Steps.{Transitions}
+use Rattle.archive.proofs.Acting.{left-stays}
 use Rattle.archive.proofs.Calls.{passes-none, passes-then}
 use Rattle.exchange.specs.declared.message.Party.{Party}
-use Rattle.exchange.specs.Dialogs.{DialogState, received, records_read, learned_at, party_of}
+use Rattle.exchange.specs.declared.fault.ExchangeFault.{ExchangeFault}
+use Rattle.exchange.specs.Dialogs.{DialogState, Greets, received, records_read, learned_at, party_of}
 use Rattle.exchange.proofs.HandleLemmas.{unbroken_before}
 use Rattle.exchange.proofs.LeftLemmas.{answered_left}
 use Rattle.counted_io.specs.declared.fault.ServeFault.{ServeFault}
@@ -68,6 +70,16 @@ grows_more a b c first later = record {
       let (S, between, more) = later.grows honest T left in
       let (R, before, less) = first.grows (later.passes.honest honest) S between in
       (R, before, λ r h. more r (less r h));
+}
+
+-- the frame that asks
+pub greets_grow : (a b : Store) (out written : List ℕ) (result : Result (Unit {0}) ExchangeFault)
+    → Greets a b out written result → OnlyGrows a b
+greets_grow a b out written result greets = record {
+  faults = _;
+  passes = greets.passes;
+  grows = λ honest S left.
+      (S, left-stays a b _ S greets.stays greets.passes honest left, λ r h. h);
 }
 
 -- a client's step

@@ -2,6 +2,7 @@ pub mod OtherEnds
 pub mod Receiving
 pub mod Answering
 pub mod Closing
+pub mod Starting
 pub mod Moves
 pub mod Conversing
 pub mod Growing

@@ -113,7 +113,7 @@ fn take_frame<A: Archive>(
 }
 
 /// Appends bytes. Whether memory for them was there; else all stays.
-fn append(bytes: Vec<u8>, out: &mut Vec<u8>) -> bool
+pub(crate) fn append(bytes: Vec<u8>, out: &mut Vec<u8>) -> bool
     ensures appended { result ≡ true → out.new.items ≡ out.old.items ++ bytes.items }
     ensures starved { result ≡ false → out.new.items ≡ out.old.items }
 {

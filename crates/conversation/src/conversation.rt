@@ -1,20 +1,21 @@
 //! One end of one connection.
 
-ghost use Rattle.std.specs.Prelude.{◌≡◌};
-ghost use Rattle.conversation.specs.Closing.{fault_told};
-
 use crate::answering::{answer_first, is_established};
+use crate::calling::start_call;
+use crate::closing::{call_outcome, tell_call, tell_end};
 use crate::ended::Ended;
 use crate::log::Log;
-use crate::other_end::{Letters, OtherEnd};
+use crate::other_end::{Letters, OtherEnd, PeerDialog};
 use crate::receiving::{take_bytes, tell_starved};
 use crate::world::World;
 use archive::Archive;
 use counted_io::ServeFault;
+use exchange::Frames;
 use multiplex::{Handler, Progress, SlotEnd};
 use std::alloc::Global;
 use std::marker::{Model, PhantomData};
 use ua_connection::Clock;
+use ua_peers::SyncFault;
 
 /// What is said on one connection, a client's or a peer's, over a server that others share.
 ///
@@ -47,9 +48,9 @@ impl<A: Archive, C: Clock, L: Log> Handler for Conversation<A, C, L> {
 
     type End = Result<Ended, ServeFault>;
 
-    ghost behavior = { behavior_over A.state C.gave (log_calls L.told L.told_failed) };
+    ghost behavior = { behavior_over A.state C.gave (log_calls L.told L.told_failed L.told_call) };
 
-    ghost moves_add_up = { moves_over A.state C.gave (log_calls L.told L.told_failed) };
+    ghost moves_add_up = { moves_over A.state C.gave (log_calls L.told L.told_failed L.told_call) };
 
     /// Nothing came yet, and nobody is known. It takes no memory.
     fn begin(alloc: Global, _listener: usize) -> Self {
@@ -60,9 +61,29 @@ impl<A: Archive, C: Clock, L: Log> Handler for Conversation<A, C, L> {
         }
     }
 
-    /// No call is made.
-    fn call(_alloc: Global, _world: &mut World<A, C, L>, _out: &mut Vec<u8>) -> Option<Self> {
-        None
+    /// A call of the peer of this number in the settings, as the initiator of a dialog. Where its first frame can't be made, it is
+    /// told, as the end of the call.
+    fn call(
+        alloc: Global,
+        callee: usize,
+        world: &mut World<A, C, L>,
+        out: &mut Vec<u8>,
+    ) -> Option<Self> {
+        match start_call(alloc, world, out) {
+            Ok(dialog) => Some(Conversation {
+                other: OtherEnd::Peer(PeerDialog {
+                    dialog,
+                    frames: Frames::new(alloc),
+                    is_heard: false,
+                }),
+                alloc,
+                world: PhantomData,
+            }),
+            Err(fault) => {
+                tell_call(world, callee, Err(SyncFault::Exchange(fault)));
+                None
+            }
+        }
     }
 
     /// Takes bytes that came. Where memory for them is wanting the connection ends, and its other end is told: a peer by an
@@ -90,27 +111,21 @@ impl<A: Archive, C: Clock, L: Log> Handler for Conversation<A, C, L> {
         is_established(&self.other)
     }
 
-    /// Tells how the connection ended, where that is a fault.
-    fn close(self, world: &mut World<A, C, L>, ending: SlotEnd<Result<Ended, ServeFault>>) {
-        if let Some(fault) = fault_told(ending) {
-            world.log.tell(fault);
+    /// Tells how a call ended, and of a connection that was accepted the fault by which it did, if it is one.
+    fn close(
+        self,
+        callee: Option<usize>,
+        world: &mut World<A, C, L>,
+        ending: SlotEnd<Result<Ended, ServeFault>>,
+    ) {
+        match callee {
+            Some(callee) => tell_call(world, callee, call_outcome(ending)),
+            None => tell_end(world, ending),
         }
     }
 
     /// Tells that a connection failed before it could be used.
     fn fail_accept(world: &mut World<A, C, L>, now: u64) {
         world.log.tell_failed(now);
-    }
-}
-
-/// The fault that is told of a connection's end, if one is.
-fn fault_told(ending: SlotEnd<Result<Ended, ServeFault>>) -> Option<ServeFault>
-    ensures { result ≡ fault_told ending }
-{
-    match ending {
-        SlotEnd::Finished(Ok(_)) | SlotEnd::EndOfInput => None,
-        SlotEnd::Finished(Err(fault)) => Some(fault),
-        SlotEnd::WriteFailed => Some(ServeFault::Write),
-        SlotEnd::ReadFailed | SlotEnd::IdleTimeout | SlotEnd::Displaced => Some(ServeFault::Read),
     }
 }

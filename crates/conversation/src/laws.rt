@@ -19,5 +19,5 @@ pub fn a_client_alone_is_answered<
     L: Log,
 >()
     ensures { ClientAloneIsAnswered R.input W.output A.state C.gave
-        (log_calls L.told L.told_failed) }
+        (log_calls L.told L.told_failed L.told_call) }
 {}

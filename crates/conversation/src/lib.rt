@@ -2,6 +2,8 @@
 #![tactic(auto)]
 
 mod answering;
+mod calling;
+mod closing;
 mod conversation;
 mod ended;
 mod laws;

@@ -1,6 +1,7 @@
 //! What is told of connections.
 
 use counted_io::ServeFault;
+use ua_peers::SyncFault;
 
 /// What tells how connections ended, and how calls did.
 pub trait Log {
@@ -10,6 +11,10 @@ pub trait Log {
     /// Between these two states it was told that a connection failed before it could be used, at this time.
     ghost told_failed: { Self → (now : ℕ) → Self → Type 0 };
 
+    /// Between these two states it was told how a call of the peer of this number and address ended.
+    ghost told_call: { Self → (callee : ℕ) → (address : List ℕ) → Result (Unit {0}) SyncFault
+        → Self → Type 0 };
+
     /// Tells that a connection ended by a fault.
     fn tell(&mut self, fault: ServeFault)
         ensures { told self.old fault self.new };
@@ -17,4 +22,8 @@ pub trait Log {
     /// Tells that a connection failed before it could be used, at this time in milliseconds.
     fn tell_failed(&mut self, now: u64)
         ensures { told_failed self.old now self.new };
+
+    /// Tells how a call of a peer ended.
+    fn tell_call(&mut self, callee: usize, address: &str, outcome: Result<(), SyncFault>)
+        ensures { told_call self.old callee address.now outcome self.new };
 }

@@ -5,9 +5,10 @@ use conversation::{Conversation, Ended, World};
 use counted_io::ServeFault;
 use historian::Server;
 use multiplex::{
-    Arrival, Limits, NonBlockingRead, NonBlockingWrite, ReadAttempt, Slot, Source, WriteAttempt,
+    Arrival, Call, Limits, NonBlockingRead, NonBlockingWrite, ReadAttempt, Slot, Source, WriteAttempt,
     serve,
 };
+use server_rows::network::Faults;
 use server_rows::plant::{archive_of, clock, plant};
 use std::alloc::Global;
 use std::test::Fail;
@@ -139,7 +140,7 @@ impl<'a> Source for Script<'a> {
         }
     }
 
-    fn call(&mut self, _slot: usize, _now: u64) -> Option<(Mouth<'a>, Ear)> {
+    fn call(&mut self, _slot: usize, _now: u64) -> Option<Call<Mouth<'a>, Ear>> {
         None
     }
 
@@ -157,7 +158,7 @@ impl<'a> Source for Script<'a> {
 }
 
 /// One connection of the plant.
-type Talk = Conversation<ListArchive, ConstantClock>;
+type Talk = Conversation<ListArchive, ConstantClock, Faults>;
 
 /// What each of these callers reads of a plant that holds nothing, with its number, in the order of their ends. Ten of them
 /// are served at a time.
@@ -167,6 +168,9 @@ pub fn heard_by(alloc: Global, callers: &[Caller<'_>]) -> Result<Vec<(usize, Vec
     let mut world = World {
         server: Server::new(alloc, settings, archive),
         clock: clock(),
+        log: Faults {
+            told: Vec::new(alloc),
+        },
     };
     let mut source = Script {
         alloc,

@@ -10,7 +10,7 @@ use Rattle.multiplex.specs.Effects.{Effects}
 use Rattle.multiplex.specs.Input.{Input}
 use Rattle.multiplex.specs.Output.{Output}
 use Rattle.multiplex.specs.Behavior.{Behavior, MovesAddUp}
-use Rattle.multiplex.specs.Slots.{Slot, first_slot}
+use Rattle.multiplex.specs.Slots.{Slot, first_slot, calling_slot}
 use Rattle.multiplex.specs.Steps.{Step, Receives, Answers, Lacks, Writes, Stops, FindsEmpty, FindsFull, Wakes, IsStep}
 use Rattle.multiplex.specs.Turns.{Loop, LoopTurn, Waits, Accepts, AcceptFails, AcceptsNobody, HasNoSlot, Calls, CallFails, CallsNobody, Steps, Closes, Rests, AreTurns}
 use Rattle.multiplex.specs.Alone.{steps_at, StaysOpen, bytes_received, bytes_made, bytes_written, AreOwnSteps, HasOwnBytes}
@@ -123,17 +123,17 @@ module _ {S H R W V E : Type 0} (source : Effects S R W) (input : Input R) (outp
       passed old middle new k slot (steps_at k turns) (stays old.world middle.world same)
       (own_steps middle new k slot turns rest still stays-open.1)
   own_steps old new k slot (Calls j made ∷ turns) (middle, is, rest) got stays-open =
-      let still = elsewhere old middle new j k slot (Some (first_slot is.first is.reader is.writer
+      let still = elsewhere old middle new j k slot (Some (calling_slot is.first is.call
       made old.now)) (steps_at k turns)
       (not_free old.slots j k slot is.free got) (ap (λ (a : Loop S H R W V E). a.slots) is.others)
       got in
-      passed old middle new k slot (steps_at k turns) (laws.calls old.world middle.world made
-      (Some is.first) is.calls)
+      passed old middle new k slot (steps_at k turns) (laws.calls is.call.callee
+      old.world middle.world made (Some is.first) is.calls)
       (own_steps middle new k slot turns rest still stays-open.1)
   own_steps old new k slot (CallFails ∷ turns) (middle, is, rest) got stays-open =
       let still = ap (λ (a : Loop S H R W V E). slice_get a.slots k) is.others ∙ got in
-      passed old middle new k slot (steps_at k turns) (laws.calls old.world middle.world is.made
-      None is.calls)
+      passed old middle new k slot (steps_at k turns) (laws.calls is.call.callee
+      old.world middle.world is.made None is.calls)
       (own_steps middle new k slot turns rest still stays-open.1)
   own_steps old new k slot (CallsNobody ∷ turns) (middle, is, rest) got stays-open =
       let still = ap (λ (a : Loop S H R W V E). slice_get a.slots k) is.1 ∙ got in
@@ -145,7 +145,7 @@ module _ {S H R W V E : Type 0} (source : Effects S R W) (input : Input R) (outp
       (λ e. stays-open.0 (sym e))
       (ap (λ (a : Loop S H R W V E). a.slots) is.others) got in
       passed old middle new k slot (steps_at k turns)
-      (laws.closes old.world middle.world is.slot.handler ending is.closes)
+      (laws.closes is.slot.callee old.world middle.world is.slot.handler ending is.closes)
       (own_steps middle new k slot turns rest still stays-open.1)
   own_steps old new k slot (Rests j ∷ turns) (middle, is, rest) got stays-open =
       let still = ap (λ (a : Loop S H R W V E). slice_get a.slots k) is.1 ∙ got in

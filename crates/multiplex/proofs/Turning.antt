@@ -9,12 +9,13 @@ use Rattle.multiplex.specs.declared.handler.SlotEnd.{SlotEnd}
 use Rattle.multiplex.specs.declared.handler.SlotEnd.TheVariants.{Finished, EndOfInput, ReadFailed, WriteFailed, IdleTimeout, Displaced}
 use Rattle.multiplex.specs.declared.source.Arrival.{Arrival}
 use Rattle.multiplex.specs.declared.source.Arrival.TheVariants.{Nobody, Failed, Connection}
+use Rattle.multiplex.specs.declared.source.Call.{Call}
 use Rattle.multiplex.specs.declared.limits.Limits.{Limits}
 use Rattle.multiplex.specs.Effects.{Effects}
 use Rattle.multiplex.specs.Input.{Input}
 use Rattle.multiplex.specs.Output.{Output}
 use Rattle.multiplex.specs.Behavior.{Behavior}
-use Rattle.multiplex.specs.Slots.{Slot, first_slot, has_room, IsAtRestAt, IsLongestUnheard, MayClose}
+use Rattle.multiplex.specs.Slots.{Slot, first_slot, calling_slot, has_room, IsAtRestAt, IsLongestUnheard, MayClose}
 use Rattle.multiplex.specs.Steps.{Step, Receives, Answers, Lacks, Writes, Stops, FindsEmpty, FindsFull, Wakes, IsVisit, IsAllowed, IsStep, AreSteps, TakesSteps}
 use Rattle.multiplex.specs.Turns.{Loop, state, LoopTurn, Accepts, AcceptFails, AcceptsNobody, HasNoSlot, Calls, CallFails, CallsNobody, Steps, Closes, Rests, IsLoopTurn, AreTurns, TakesTurns}
 use Rattle.multiplex.specs.Rounds.{AreStepsAt, AreClosing, AreTurnOf, AreComing}
@@ -139,7 +140,7 @@ module _ {S H R W V E : Type 0} (source : Effects S R W) (input : Input R) (outp
       (left : Option (Slot H R W E)) (ends : R × W) → slice_get slots k ≡ Some (Some slot)
       → ((s : Slot H R W E) × (slice_get slots k ≡ Some (Some s)) × MayClose s
       × (s.ending ≡ Some ending))
-      → handler.closes v slot.handler ending w
+      → handler.closes slot.callee v slot.handler ending w
       → ends ≡ (slot.reader, slot.writer)
       → source.closed old ends.0 ends.1 new → left ≡ None
       → Goes (AreClosing k true) (state old slots v now)
@@ -285,15 +286,13 @@ module _ {S H R W V E : Type 0} (source : Effects S R W) (input : Input R) (outp
 
   -- a call was due, and couldn't begin
   pub call_failed : (old between new : S) (slots : List (Option (Slot H R W E))) (v w : V) (now : ℕ)
-      (reader : R) (writer : W)
-      (made : List ℕ) → source.called old (Some (reader, writer)) between
-      → handler.calls v made None w
-      → source.closed between reader writer new → Goes (AreComing 0) (state old slots v now)
+      (call : Call R W) (made : List ℕ) → source.called old (Some call) between
+      → handler.calls call.callee v made None w
+      → source.closed between call.reader call.writer new → Goes (AreComing 0) (state old slots v now)
       (state new slots w now)
-  call_failed old between new slots v w now reader writer made called calls closes =
+  call_failed old between new slots v w now call made called calls closes =
       one (AreComing 0) CallFails (state old slots v now) (state new slots w now) (record {
-        reader = reader;
-        writer = writer;
+        call = call;
         between = between;
         made = made;
         called = called;
@@ -310,15 +309,15 @@ module _ {S H R W V E : Type 0} (source : Effects S R W) (input : Input R) (outp
       → Goes (AreComing 0) (state old slots v now)
       (state new (slice_set slots k (Some slot)) w now)
   call_began old new slots v w now k begun slot free behind is did =
-      let (reader, writer, first, made, called, calls, made_so) =
+      let (call, first, made, called, calls, made_so) =
       subst (λ b. HasCalled source input output handler limits now old v b new w) is did in
       subst (λ (s : Slot H R W E). Goes (AreComing 0) (state old slots v now)
       (state new (slice_set slots k (Some s)) w now)) (sym made_so)
       (one (AreComing 0) (Calls k made) (state old slots v now)
-      (state new (slice_set slots k (Some (first_slot first reader writer made now))) w now)
+      (state new
+      (slice_set slots k (Some (calling_slot first call made now))) w now)
       (record {
-        reader = reader;
-        writer = writer;
+        call = call;
         first = first;
         behind = behind;
         free = free;

@@ -1,11 +1,12 @@
 -- What a server does until it ends.
 use Rattle.std.specs.Prelude.{◌≡◌, ◌⊎◌, ℕ, ◌+◌, ◌≤◌, ◌<◌, Bool, true, false, not, List, [], ◌∷◌, length, count_by, All, Option, None, Some, IfSome}
+use Rattle.multiplex.specs.declared.source.Call.{Call}
 use Rattle.multiplex.specs.declared.limits.Limits.{Limits}
 use Rattle.multiplex.specs.Effects.{Effects}
 use Rattle.multiplex.specs.Input.{Input}
 use Rattle.multiplex.specs.Output.{Output}
 use Rattle.multiplex.specs.Behavior.{Behavior}
-use Rattle.multiplex.specs.Slots.{Slot, first_slot}
+use Rattle.multiplex.specs.Slots.{Slot, calling_slot}
 use Rattle.multiplex.specs.Turns.{Loop, state, LoopTurn, Waits, Accepts, AcceptFails, AcceptsNobody, HasNoSlot, count_waits, count_accepted, AreTurns, TakesTurns}
 use Rattle.multiplex.specs.Rounds.{AreInRounds, happened_since, AreComing}
 
@@ -60,9 +61,9 @@ module _ {S H R W V E : Type 0} (source : Effects S R W) (input : Input R) (outp
   -- a call began, and this is its slot; or none was due, or it couldn't begin
   abbrev pub HasCalled : ℕ → S → V → Option (Slot H R W E) → S → V → Type 0
   HasCalled now old v (Some slot) new w =
-      (reader : R) × (writer : W) × (first : H) × (made : List ℕ)
-      × source.called old (Some (reader, writer)) new × handler.calls v made (Some first) w
-      × (slot ≡ first_slot first reader writer made now)
+      (call : Call R W) × (first : H) × (made : List ℕ) × source.called old (Some call) new
+      × handler.calls call.callee v made (Some first) w
+      × (slot ≡ calling_slot first call made now)
   HasCalled now old v None new w =
       (slots : List (Option (Slot H R W E)))
       → TakesTurns source input output handler limits (AreComing 0) (state old slots v now)

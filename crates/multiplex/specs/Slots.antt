@@ -4,6 +4,7 @@ use Rattle.std.specs.Prelude.{◌≡◌, ◌≢◌, ◌⊎◌, ℕ, ◌+◌, ◌
 use Rattle.std.specs.Option.{option_map_or}
 use Rattle.multiplex.specs.declared.handler.SlotEnd.{SlotEnd}
 use Rattle.multiplex.specs.declared.handler.SlotEnd.TheVariants.{Finished, EndOfInput}
+use Rattle.multiplex.specs.declared.source.Call.{Call}
 use Rattle.multiplex.specs.Behavior.{Behavior}
 
 -- a connection, the bytes that wait to be written, its end, once it has one, and whether something
@@ -20,6 +21,8 @@ pub record Slot (H R W E : Type 0) : Type 0 where
   pub heard : ℕ
   pub readable : Bool
   pub writable : Bool
+  -- of a call, whose it is
+  pub callee : Option ℕ
 
 -- a connection that begins, with what is to be written first
 abbrev pub first_slot : {H R W E : Type 0} → H → R → W → List ℕ → (now : ℕ) → Slot H R W E
@@ -33,7 +36,13 @@ first_slot handler reader writer made now = record {
   heard = now;
   readable = true;
   writable = true;
+  callee = None;
 }
+
+-- a call that begins, with what is to be written first
+abbrev pub calling_slot : {H R W E : Type 0} → H → Call R W → List ℕ → (now : ℕ) → Slot H R W E
+calling_slot handler call made now =
+    record (first_slot handler call.reader call.writer made now) { callee = Some call.callee }
 
 -- so long, in milliseconds, a connection that isn't established keeps its slot without bringing a
 -- whole message

@@ -2,12 +2,13 @@
 use Rattle.std.specs.Prelude.{◌≡◌, ℕ, ◌≤◌, ◌<◌, Bool, true, false, List, [], ◌∷◌, count_by, slice_get, slice_set, Option, None, Some}
 use Rattle.multiplex.specs.declared.handler.SlotEnd.{SlotEnd}
 use Rattle.multiplex.specs.declared.source.Arrival.TheVariants.{Nobody, Failed, Connection}
+use Rattle.multiplex.specs.declared.source.Call.{Call}
 use Rattle.multiplex.specs.declared.limits.Limits.{Limits}
 use Rattle.multiplex.specs.Effects.{Effects}
 use Rattle.multiplex.specs.Input.{Input}
 use Rattle.multiplex.specs.Output.{Output}
 use Rattle.multiplex.specs.Behavior.{Behavior}
-use Rattle.multiplex.specs.Slots.{Slot, first_slot, has_room, AreTaken, IsAtRestAt, IsLongestUnheard, MayClose}
+use Rattle.multiplex.specs.Slots.{Slot, first_slot, calling_slot, has_room, AreTaken, IsAtRestAt, IsLongestUnheard, MayClose}
 use Rattle.multiplex.specs.Steps.{Step, IsAllowed, IsStep}
 
 -- what connections come from, their slots, of which some are free, the world, and the time
@@ -92,28 +93,27 @@ module _ {S H R W V E : Type 0} (source : Effects S R W) (input : Input R) (outp
   -- a call began, and got a free slot behind those for accepted ones
   pub record IsCall (old : Loop S H R W V E) (k : ℕ) (made : List ℕ)
       (new : Loop S H R W V E) : Type 0 where
-    pub reader : R
-    pub writer : W
+    pub call : Call R W
     pub first : H
     pub behind : limits.accept_slots ≤ k
     pub free : slice_get old.slots k ≡ Some None
-    pub called : source.called old.source (Some (reader, writer)) new.source
-    pub calls : handler.calls old.world made (Some first) new.world
+    pub called : source.called old.source (Some call) new.source
+    pub calls : handler.calls call.callee old.world made (Some first) new.world
     pub others : new ≡ record old {
       source = new.source;
       world = new.world;
-      slots = slice_set old.slots k (Some (first_slot first reader writer made old.now));
+      slots = slice_set old.slots k
+          (Some (calling_slot first call made old.now));
     }
 
   -- a call was due, and couldn't begin: its connection was given back
   pub record IsFailedCall (old new : Loop S H R W V E) : Type 0 where
-    pub reader : R
-    pub writer : W
+    pub call : Call R W
     pub between : S
     pub made : List ℕ
-    pub called : source.called old.source (Some (reader, writer)) between
-    pub calls : handler.calls old.world made None new.world
-    pub closed : source.closed between reader writer new.source
+    pub called : source.called old.source (Some call) between
+    pub calls : handler.calls call.callee old.world made None new.world
+    pub closed : source.closed between call.reader call.writer new.source
     pub others : new ≡ record old { source = new.source; world = new.world }
 
   -- this happened at the connection of a slot; it is answered only where there is room, and makes
@@ -135,7 +135,7 @@ module _ {S H R W V E : Type 0} (source : Effects S R W) (input : Input R) (outp
     pub there : slice_get old.slots k ≡ Some (Some slot)
     pub may : MayClose slot
     pub ended : slot.ending ≡ Some ending
-    pub closes : handler.closes old.world slot.handler ending new.world
+    pub closes : handler.closes slot.callee old.world slot.handler ending new.world
     pub closed : source.closed old.source slot.reader slot.writer new.source
     pub others : new ≡ record old {
       source = new.source;

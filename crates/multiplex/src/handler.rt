@@ -51,11 +51,16 @@ pub trait Handler: Drop {
     fn begin(alloc: Global, listener: usize) -> Self
         ensures { behavior.begins listener result };
 
-    /// The handler of a connection that is called, before its first byte. What is to be written first is appended to
-    /// `out`. None where no call can be made now; what was appended is dropped then.
-    fn call(alloc: Global, world: &mut Self::World, out: &mut Vec<u8>) -> Option<Self>
+    /// The handler of a connection that is called, before its first byte, whose callee has this number. What is to be
+    /// written first is appended to `out`. None where no call can be made now; what was appended is dropped then.
+    fn call(
+        alloc: Global,
+        callee: usize,
+        world: &mut Self::World,
+        out: &mut Vec<u8>,
+    ) -> Option<Self>
         ensures { (made : List ℕ) × (out.new.items ≡ out.old.items ++ made)
-            × behavior.calls world.old made result world.new };
+            × behavior.calls callee world.old made result world.new };
 
     /// Takes bytes that came. What is to be written at once is appended to `out`. The end, if they bring it.
     fn receive(&mut self, bytes: &[u8], out: &mut Vec<u8>) -> Option<Self::End>
@@ -75,8 +80,8 @@ pub trait Handler: Drop {
         ensures { result ≡ behavior.is_established self.now };
 
     /// Its connection ended so, and is given back: the last call.
-    fn close(self, world: &mut Self::World, ending: SlotEnd<Self::End>)
-        ensures { behavior.closes world.old self ending world.new };
+    fn close(self, callee: Option<usize>, world: &mut Self::World, ending: SlotEnd<Self::End>)
+        ensures { behavior.closes callee world.old self ending world.new };
 
     /// A connection came at a listener, and failed before it could be used.
     fn fail_accept(world: &mut Self::World, now: u64)

@@ -17,5 +17,5 @@ pub use laws::each_connection_is_alone;
 pub use limits::{Limits, ServeReport};
 pub use serving::serve;
 pub use slot::Slot;
-pub use source::{Arrival, Source};
+pub use source::{Arrival, Call, Source};
 pub use transfer::{NonBlockingRead, NonBlockingWrite, ReadAttempt, WriteAttempt};

@@ -130,12 +130,15 @@ fn begin_call<S: Source, H: Handler>(
     ensures { HasCalled S.effects S.Reader.input S.Writer.output H.behavior round.limits round.now
         source.old world.old result source.new world.new }
 {
-    let (reader, writer) = source.call(place, round.now)?;
+    let call = source.call(place, round.now)?;
     let mut out = Vec::new(alloc);
-    match H::call(alloc, world, &mut out) {
-        Some(first) => Some(Slot::new(first, reader, writer, out, round.now)),
+    match H::call(alloc, call.callee, world, &mut out) {
+        Some(first) => {
+            let slot = Slot::new(first, call.reader, call.writer, out, round.now);
+            Some(slot.calling(call.callee))
+        }
         None => {
-            source.close(place, reader, writer);
+            source.close(place, call.reader, call.writer);
             None
         }
     }

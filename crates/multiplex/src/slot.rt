@@ -36,6 +36,8 @@ pub struct Slot<H, R, W, E> {
     // whether something may be there to read, or may be written
     readable: bool,
     writable: bool,
+    // of a call, whose it is
+    callee: Option<usize>,
 }
 
 impl<H, R, W, E> Model for Slot<H, R, W, E> {
@@ -54,6 +56,7 @@ impl<H, R, W, E> Model for Slot<H, R, W, E> {
       heard = s.heard;
       readable = s.readable;
       writable = s.writable;
+      callee = s.callee;
     } };
 
     ghost invariant = { λ s. s.sent ≤ length s.out.items };
@@ -75,7 +78,16 @@ impl<H, R, W, E> Slot<H, R, W, E> {
             heard: now,
             readable: true,
             writable: true,
+            callee: None,
         }
+    }
+
+    /// The same as a call of this callee.
+    pub(crate) fn calling(mut self, callee: usize) -> Self
+        ensures { result ≡ record self { callee = Some callee } }
+    {
+        self.callee = Some(callee);
+        self
     }
 
     /// How many bytes wait to be written.
@@ -181,9 +193,9 @@ impl<H: Handler, R: NonBlockingRead, W: NonBlockingWrite> Slot<H, R, W, H::End> 
     /// Tells its handler that it ended so. Its reader and its writer.
     pub(crate) fn close(self, world: &mut H::World, ending: SlotEnd<H::End>) -> (R, W)
         ensures ends { result ≡ (self.reader, self.writer) }
-        ensures tells { H.behavior.closes world.old self.handler ending world.new }
+        ensures tells { H.behavior.closes self.callee world.old self.handler ending world.new }
     {
-        self.handler.close(world, ending);
+        self.handler.close(self.callee, world, ending);
         (self.reader, self.writer)
     }
 

@@ -21,6 +21,17 @@ pub enum Arrival<R, W> {
     },
 }
 
+/// A call that was begun.
+#[derive(Drop)]
+pub struct Call<R, W> {
+    /// Whose it is, by a number that the source gives it.
+    pub callee: usize,
+    /// What the other end writes.
+    pub reader: R,
+    /// What the other end reads.
+    pub writer: W,
+}
+
 /// What gives connections as they come to its listeners, begins calls of its own, and takes each back when it is over.
 /// `wait` alone waits; its other calls, and the reads and writes of its connections, don't.
 pub trait Source {
@@ -47,7 +58,7 @@ pub trait Source {
 
     /// The connection of a call that is due at this time, if one is; it gets this slot. It needn't stand yet: till then
     /// its reads and writes would block.
-    fn call(&mut self, slot: usize, now: u64) -> Option<(Self::Reader, Self::Writer)>
+    fn call(&mut self, slot: usize, now: u64) -> Option<Call<Self::Reader, Self::Writer>>
         ensures { effects.called self.old result self.new };
 
     /// Whether the connection of this slot may be ready to be read or written, as the last wait found. It is a hint: no

@@ -4,7 +4,7 @@
 ghost use Rattle.std.specs.Prelude.{◌<◌, ◌≤◌, None};
 
 use multiplex::{
-    Arrival, Handler, Limits, NonBlockingRead, NonBlockingWrite, Progress, ReadAttempt,
+    Arrival, Call, Handler, Limits, NonBlockingRead, NonBlockingWrite, Progress, ReadAttempt,
     ServeReport, Slot, SlotEnd, Source, WriteAttempt, serve,
 };
 use std::alloc::{AllocError, Global};
@@ -187,12 +187,17 @@ impl<'a> Source for Script<'a> {
         }
     }
 
-    fn call(&mut self, _slot: usize, _now: u64) -> Option<(Mouth, Ear)> {
+    fn call(&mut self, _slot: usize, _now: u64) -> Option<Call<Mouth, Ear>> {
         if self.calls == 0 {
             return None;
         }
         self.calls -= 1;
-        Some(self.ends_of(PLAIN, 100))
+        let (reader, writer) = self.ends_of(PLAIN, 100);
+        Some(Call {
+            callee: self.calls,
+            reader,
+            writer,
+        })
     }
 
     fn is_ready(&self, _slot: usize) -> bool {
@@ -234,12 +239,12 @@ impl Handler for Echo {
 
     ghost behavior = { record {
       begins = λ listener h. Unit {0};
-      calls = λ v made h w. Unit {0};
+      calls = λ callee v made h w. Unit {0};
       receives = λ old bytes made end new. Unit {0};
       answers = λ v old made end w new. Unit {0};
       needs_more = λ h. Unit {0};
       is_established = λ h. h.established;
-      closes = λ v h ending w. Unit {0};
+      closes = λ callee v h ending w. Unit {0};
       fails_accept = λ v now w. Unit {0};
       moves = λ v w. Unit {0};
     } };
@@ -248,8 +253,8 @@ impl Handler for Echo {
       none = λ v. tt;
       more = λ u v w first later. tt;
       answers = λ v w old new made end is. tt;
-      calls = λ v w made h is. tt;
-      closes = λ v w h ending is. tt;
+      calls = λ callee v w made h is. tt;
+      closes = λ callee v w h ending is. tt;
       fails_accept = λ v w now is. tt;
     } };
 
@@ -261,7 +266,12 @@ impl Handler for Echo {
         }
     }
 
-    fn call(alloc: Global, _world: &mut Vec<u8>, out: &mut Vec<u8>) -> Option<Echo> {
+    fn call(
+        alloc: Global,
+        _callee: usize,
+        _world: &mut Vec<u8>,
+        out: &mut Vec<u8>,
+    ) -> Option<Echo> {
         match out.extend_from_slice(b"call") {
             Ok(()) => Some(Echo::begin(alloc, 1)),
             Err(_) => None,
@@ -296,7 +306,7 @@ impl Handler for Echo {
         self.established
     }
 
-    fn close(self, _world: &mut Vec<u8>, _ending: SlotEnd<u8>) {}
+    fn close(self, _callee: Option<usize>, _world: &mut Vec<u8>, _ending: SlotEnd<u8>) {}
 
     fn fail_accept(_world: &mut Vec<u8>, _now: u64) {}
 }

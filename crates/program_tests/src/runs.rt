@@ -12,6 +12,7 @@ use ua_server::{
     Asked, ConstantClock, Counted, Host, Line, LineFault, ProgramFault, ServeFault, read_line,
     report, run,
 };
+use ua_settings::Peers;
 use uuid::Uuid;
 
 /// Command lines, and what they are.
@@ -610,7 +611,7 @@ impl Host for Machine {
         drop(archive);
     }
 
-    fn listen(&mut self, address: SocketAddr) -> Option<Clients<'static>> {
+    fn listen(&mut self, address: SocketAddr, _peers: &Peers) -> Option<Clients<'static>> {
         if address.port() == 4840 {
             Some(Clients::new(self.0, &CALLERS))
         } else {

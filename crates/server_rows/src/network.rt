@@ -5,7 +5,7 @@ use counted_io::ServeFault;
 use multiplex::{Arrival, NonBlockingRead, NonBlockingWrite, ReadAttempt, Source, WriteAttempt};
 use std::alloc::Global;
 use std::io::{Read, Write};
-use ua_server::Log;
+use ua_server::{Log, SyncFault};
 
 /// A client: what it writes, whether its connection breaks behind that, and how many bytes it takes.
 #[derive(Clone, Copy)]
@@ -133,7 +133,7 @@ impl<'a> Source for Clients<'a> {
         }
     }
 
-    fn call(&mut self, _slot: usize, _now: u64) -> Option<(Mouth<'a>, Ear)> {
+    fn call(&mut self, _slot: usize, _now: u64) -> Option<Call<Mouth<'a>, Ear>> {
         None
     }
 
@@ -164,6 +164,8 @@ impl Log for Faults {
 
     ghost told_failed = { λ old now new. Unit {0} };
 
+    ghost told_call = { λ old callee address outcome new. Unit {0} };
+
     fn tell(&mut self, fault: ServeFault) {
         let _ = self.told.push(fault);
     }
@@ -171,4 +173,6 @@ impl Log for Faults {
     fn tell_failed(&mut self, _now: u64) {
         let _ = self.told.push(ServeFault::Read);
     }
+
+    fn tell_call(&mut self, _callee: usize, _address: &str, _outcome: Result<(), SyncFault>) {}
 }

@@ -46,7 +46,6 @@ pub fn plant_of(alloc: Global, number: u8) -> Option<Settings> {
         space: Space::build(alloc, &plan).ok()?,
         connections: 64,
         waiting: 256,
-        broken: None,
         peers: Peers::new(alloc),
     }))
 }

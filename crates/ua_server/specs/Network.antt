@@ -18,7 +18,7 @@ use Rattle.ua_server.specs.declared.log.ErrorLog.{ErrorLog}
 use Rattle.ua_server.specs.declared.program.ProgramFault.{ProgramFault}
 use Rattle.ua_server.specs.declared.program.ProgramFault.TheVariants.{Address, Connection}
 use Rattle.ua_server.specs.Host.{KnownMachine}
-use Rattle.ua_server.specs.Telling.{Known, LogsFault, LogsFailed}
+use Rattle.ua_server.specs.Telling.{Known, LogsFault, LogsFailed, LogsCall}
 
 -- how a clock goes from one state to another and gives readings
 abbrev pub Readings : Type 0 → Type 1
@@ -58,7 +58,8 @@ limits_of settings count = record {
 -- what is said on connections over an archive, and told of them on standard error
 abbrev pub conversations : {A C E : Type 0} → (A → Store) → Readings C → Known E
     → Behavior OtherEnd (World A C (ErrorLog E)) ConversationEnding
-conversations held gave told = behavior_over held gave (log_calls (LogsFault told) (LogsFailed told))
+conversations held gave told =
+    behavior_over held gave (log_calls (LogsFault told) (LogsFailed told) (LogsCall told))
 
 -- the loop that serves connections over an archive of a machine
 abbrev pub ServingLoop : KnownMachine → (C E : Type 0) → Type 0

@@ -115,7 +115,8 @@ abbrev pub ListensAt : {C E : Type 0} → (known : KnownMachine) → Readings C 
     → SettingsValues → ℕ → (old new : Serving known.Host known.Archive C E) → Type 0
 ListensAt known gave told settings count old new =
     (address : SocketAddr) × IsSocketText settings.listen address
-    × ((source : known.Source) × known.machine.listens old.host address (Some source) new.host
+    × ((source : known.Source)
+    × known.machine.listens old.host address settings.peers (Some source) new.host
     × ServesMany known gave told settings count source old new)
 
 -- connections were served that came to the address of the settings; or nothing is had there, and the
@@ -126,7 +127,8 @@ abbrev pub Listens : {C E : Type 0} → (known : KnownMachine) → Readings C �
 Listens known gave told settings count old new (Ok done) =
     ListensAt known gave told settings count old new
 Listens known gave told settings count old new (Err Address) =
-    IsUnheard (known.machine.listens old.host) settings.listen old.host new.host
+    IsUnheard (λ address. known.machine.listens old.host address settings.peers) settings.listen
+    old.host new.host
     × (new ≡ record old { host = new.host })
 Listens known gave told settings count old new (Err (Connection OutOfMemory)) = new ≡ old
 Listens known gave told settings count old new (Err fault) = ⊥

@@ -1,8 +1,9 @@
 -- What a run of the program tells on standard error, its exit status, and the line of a call of a
 -- peer.
-use Rattle.std.specs.Prelude.{◌≡◌, ℕ, ◌-◌, ◌==◌, nat_lt, Bool, false, List, [], ◌∷◌, ◌++◌, Option, None, Some, Result, Ok, Err, ◌⊎◌, codes, if◌then◌else◌}
+use Rattle.std.specs.Prelude.{◌≡◌, ◌≢◌, slice_get, slice_set, ℕ, ◌-◌, ◌==◌, nat_lt, Bool, false, List, [], ◌∷◌, ◌++◌, Option, None, Some, Result, Ok, Err, ◌⊎◌, codes, if◌then◌else◌}
 use Rattle.std.specs.Fmt.{decimal}
 use Rattle.std.specs.Option.{option_map_or}
+use Rattle.std.specs.Result.{result_err}
 use Rattle.std.specs.Io.KnownBytes.{Appends}
 use Rattle.counted_io.specs.Fault.{serve_fault_number as connection_number}
 use Rattle.ua_server.specs.declared.program.ProgramFault.{ProgramFault}
@@ -119,8 +120,46 @@ failed_lines missed =
 abbrev pub LogsFailed : {E : Type 0} → Known E → ErrorLog E → (now : ℕ) → ErrorLog E → Type 0
 LogsFailed contents old now new =
     if is_quiet old now then new ≡ record old { missed = counted old.missed }
-    else (new ≡ record { errors = new.errors; told_at = Some now; missed = 0 })
+    else (new ≡ record old { errors = new.errors; told_at = Some now; missed = 0 })
     × LogsLine contents old.errors new.errors (failed_lines old.missed)
+
+-- what that of a dialog with a peer that was called is called
+abbrev pub sync_fault : SyncFault → ProgramFault
+sync_fault v =
+    elim v [
+      | sync.Connection fault ↦ program.Call fault
+      | sync.Exchange fault ↦ program.Exchange fault
+      | sync.Peer number ↦ program.Peer number
+    ]
+
+-- what tells how a call of a peer ended: its fault, or that it came to its end, where the last one
+-- hadn't
+abbrev pub outcome_text : Option SyncFault → List ℕ
+outcome_text fault =
+    elim fault [ None ↦ codes "works again" | Some fault ↦ fault_text (sync_fault fault) ]
+
+-- the rest of a line behind a peer's address
+abbrev pub behind_peer : List ℕ → List ℕ
+behind_peer text = codes ": " ++ (text ++ 10 ∷ [])
+
+-- a peer's address, and the rest of the line
+abbrev pub behind_name : List ℕ → List ℕ → List ℕ
+behind_name address text = address ++ behind_peer text
+
+-- the line that tells a text of the peer at an address
+abbrev pub call_lines : List ℕ → List ℕ → List ℕ
+call_lines address text = codes "uahist: peer " ++ behind_name address text
+
+-- how a call of a peer ended: as the last one, and nothing is told; or otherwise, which is told and
+-- kept; of the peers behind the 64th it is told each time
+abbrev pub LogsCall : {E : Type 0} → Known E → ErrorLog E → (callee : ℕ) → (address : List ℕ)
+    → Result (Unit {0}) SyncFault → ErrorLog E → Type 0
+LogsCall contents old callee address outcome new =
+    let fault = result_err outcome in
+    ((slice_get old.calls callee ≡ Some fault) × (new ≡ old))
+    ⊎ ((slice_get old.calls callee ≢ Some fault)
+    × (new ≡ record old { errors = new.errors; calls = slice_set old.calls callee fault })
+    × LogsLine contents old.errors new.errors (call_lines address (outcome_text fault)))
 
 -- the second line of a fault, if it has one
 abbrev pub place_line : Option (List ℕ) → List ℕ
@@ -137,13 +176,4 @@ dump_fault fault =
       | dump.Store fault ↦ program.Store fault
       | dump.Write ↦ Connection Write
       | dump.OutOfMemory ↦ Connection OutOfMemory
-    ]
-
--- what that of a dialog with a peer that was called is called
-abbrev pub sync_fault : SyncFault → ProgramFault
-sync_fault v =
-    elim v [
-      | sync.Connection fault ↦ program.Call fault
-      | sync.Exchange fault ↦ program.Exchange fault
-      | sync.Peer number ↦ program.Peer number
     ]

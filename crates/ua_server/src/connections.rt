@@ -46,25 +46,27 @@ fn free_slots<X: Drop>(alloc: Global, count: usize) -> Result<Vec<Option<X>>, Al
     Ok(slots)
 }
 
-/// A listener at the address that the text gives.
-fn listen_at<H: Host>(text: &str, host: &mut H) -> Result<H::Source, ProgramFault>
+/// What gives the connections to the address of these settings, and calls their peers.
+fn listen_at<H: Host>(settings: &Settings, host: &mut H) -> Result<H::Source, ProgramFault>
     ensures ok { IfOk result
-        (λ source. (address : SocketAddr) × IsSocketText text.now address
-        × H.means.listens host.old address (Some source) host.new) }
+        (λ source. (address : SocketAddr) × IsSocketText settings.now.listen address
+        × H.means.listens host.old address settings.now.peers (Some source) host.new) }
     ensures refused { IfErr result
         (λ fault. (fault ≡ ProgramFault.Address)
-        × IsUnheard (H.means.listens host.old) text.now host.old host.new) }
+        × IsUnheard (λ address. H.means.listens host.old address settings.now.peers)
+        settings.now.listen host.old host.new) }
 {
-    let Ok(address) = text.parse::<SocketAddr>() else {
+    let Ok(address) = settings.listen().parse::<SocketAddr>() else {
         return Err(ProgramFault::Address);
     };
-    match host.listen(address) {
+    match host.listen(address, settings.peers()) {
         Some(source) => Ok(source),
         None => Err(ProgramFault::Address),
     }
 }
 
-/// Serves so many connections at the address of a server's settings, many at once.
+/// Serves so many connections at the address of a server's settings, many at once, and calls the peers of these settings when
+/// they are due, till all connections have ended.
 pub(crate) fn serve_at<H: Host, C: Clock, E: Write>(
     world: &mut World<H::Archive, C, ErrorLog<E>>,
     connections: u32,
@@ -79,10 +81,11 @@ pub(crate) fn serve_at<H: Host, C: Clock, E: Write>(
 {
     let alloc = world.server.alloc;
     let limits = limits_of(&world.server.settings, connections);
-    let mut slots = free_slots(alloc, limits.accept_slots).map_err(|_| ProgramFault::Connection(
-        ServeFault::OutOfMemory,
-    ))?;
-    let mut source = listen_at(world.server.settings.listen(), host)?;
+    let callees = world.server.settings.peers().as_slice().len();
+    let Ok(mut slots) = free_slots(alloc, limits.accept_slots.saturating_add(callees)) else {
+        return Err(ProgramFault::Connection(ServeFault::OutOfMemory));
+    };
+    let mut source = listen_at(&world.server.settings, host)?;
     serve::<H::Source, Conversation<H::Archive, C, ErrorLog<E>>>(
         alloc,
         &mut source,

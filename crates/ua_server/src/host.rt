@@ -10,6 +10,7 @@ use multiplex::Source;
 use stamp::ReplicaNo;
 use std::io::{Read, Write};
 use std::net::SocketAddr;
+use ua_settings::Peers;
 use uuid::Uuid;
 
 /// What a run asks of the machine that it runs on.
@@ -50,9 +51,10 @@ pub trait Host {
     fn close(&mut self, archive: Self::Archive)
         ensures { means.closes self.old archive self.new };
 
-    /// What gives the connections to an address; none where it can't be listened at.
-    fn listen(&mut self, address: SocketAddr) -> Option<Self::Source>
-        ensures { means.listens self.old address result self.new };
+    /// What gives the connections to an address, and begins the calls of these peers when they are due; none where it can't be
+    /// listened at, or the address of one of the peers is none.
+    fn listen(&mut self, address: SocketAddr, peers: &Peers) -> Option<Self::Source>
+        ensures { means.listens self.old address peers.now result self.new };
 
     /// A connection with the peer at the address; none where it can't be had.
     fn call(&mut self, address: SocketAddr) -> Option<(Self::Reader, Self::Writer)>

@@ -4,19 +4,23 @@ ghost use Rattle.std.specs.Prelude.{◌≡◌, OnOk, OnErr};
 ghost use Rattle.std.specs.Fmt.InlineText.{inline_text};
 ghost use Rattle.std.specs.Io.KnownBytes.{Appends};
 ghost use Rattle.counted_io.specs.Bytes.{counted, AppendsPart};
-ghost use Rattle.ua_server.specs.Telling.{failed_lines, failed_text};
+ghost use Rattle.ua_server.specs.Telling.{failed_lines, failed_text, fault_text, sync_fault, outcome_text, behind_peer, behind_name, call_lines};
 
-use crate::program::{ProgramFault, report, tell};
+use crate::program::{ProgramFault, numbered, report, tell};
 use conversation::Log;
 use counted_io::{Counted, ServeFault};
 use itoa::Buffer;
 use std::fmt::InlineText;
 use std::io::Write;
+use ua_peers::SyncFault;
 
 /// So long, in milliseconds, connections that failed before they could be used are counted, and not told one by one.
 const QUIET: u64 = 1_000;
 
-/// Standard error, and how many connections failed since that was told last.
+/// Of how many peers the end of the last call is kept: as many as one replica can have.
+pub(crate) const MOST_CALLED: usize = 64;
+
+/// Standard error, how many connections failed since that was told last, and how calls ended last.
 #[derive(Drop)]
 pub(crate) struct ErrorLog<E> {
     pub errors: Counted<E>,
@@ -24,20 +28,24 @@ pub(crate) struct ErrorLog<E> {
     pub told_at: Option<u64>,
     /// How many failed since then.
     pub missed: u64,
+    /// The fault by which the last call of each of the first peers ended; none: it came to its end, or there was none.
+    pub calls: [Option<SyncFault>; MOST_CALLED],
 }
 
 impl<E> ErrorLog<E> {
-    ghost use Rattle.std.specs.Prelude.{◌≡◌, None};
+    ghost use Rattle.std.specs.Prelude.{◌≡◌, ◌↔◌, None, Some, IsTrue, replicate, slice_get};
     ghost use Rattle.ua_server.specs.Telling.{is_quiet};
 
     /// Nothing was told yet.
     pub fn new(errors: Counted<E>) -> ErrorLog<E>
-        ensures { result ≡ record { errors = errors; told_at = None; missed = 0 } }
+        ensures { result
+            ≡ record { errors = errors; told_at = None; missed = 0; calls = replicate 64 None } }
     {
         ErrorLog {
             errors,
             told_at: None,
             missed: 0,
+            calls: [None; MOST_CALLED],
         }
     }
 
@@ -50,14 +58,26 @@ impl<E> ErrorLog<E> {
             None => false,
         }
     }
+
+    /// Whether the last call of a peer ended by this fault too, or came to its end too.
+    fn is_told(&self, callee: usize, fault: Option<SyncFault>) -> bool
+        ensures { IsTrue result ↔ (slice_get self.now.calls callee ≡ Some fault) }
+    {
+        match self.calls.get(callee) {
+            Some(last) => *last == fault,
+            None => false,
+        }
+    }
 }
 
 impl<E: Write> Log for ErrorLog<E> {
-    ghost use Rattle.ua_server.specs.Telling.{LogsFault, LogsFailed};
+    ghost use Rattle.ua_server.specs.Telling.{LogsFault, LogsFailed, LogsCall};
 
     ghost told = { LogsFault E.contents };
 
     ghost told_failed = { LogsFailed E.contents };
+
+    ghost told_call = { LogsCall E.contents };
 
     /// Tells by a line that a connection ended by a fault.
     fn tell(&mut self, fault: ServeFault) {
@@ -72,6 +92,18 @@ impl<E: Write> Log for ErrorLog<E> {
             let _ = tell_failed(self.missed, &mut self.errors);
             self.told_at = Some(now);
             self.missed = 0;
+        }
+    }
+
+    /// Tells by a line how a call of a peer ended, where the last one ended otherwise.
+    fn tell_call(&mut self, callee: usize, address: &str, outcome: Result<(), SyncFault>) {
+        let fault = outcome.err();
+        if self.is_told(callee, fault) {
+            return;
+        }
+        let _ = tell_outcome(address, fault, &mut self.errors);
+        if callee < MOST_CALLED {
+            self.calls[callee] = fault;
         }
     }
 }
@@ -103,4 +135,95 @@ fn failed_text(missed: u64) -> InlineText<100>
         .and_str("connection ended (1), and ", 40)
         .and_str(digits.format(missed), 40)
         .and_str(" before it", 10)
+}
+
+/// What tells the fault by which a call ended.
+fn fault_text(fault: SyncFault) -> InlineText<100>
+    ensures { inline_text result ≡ fault_text (sync_fault fault) }
+{
+    match fault {
+        SyncFault::Connection(fault) => numbered("connection ended", u32::from(fault.number())),
+        SyncFault::Exchange(fault) => numbered("exchange ended", u32::from(fault.number())),
+        SyncFault::Peer(number) => numbered("exchange ended", number),
+    }
+}
+
+/// Writes what tells how a call of a peer ended.
+fn tell_outcome<W: Write>(
+    address: &str,
+    fault: Option<SyncFault>,
+    errors: &mut Counted<W>,
+) -> Result<(), ServeFault>
+    ensures ok { OnOk result
+        (Appends (W.contents errors.old.inner) (W.contents errors.new.inner)
+        (call_lines address.now (outcome_text fault))) }
+    ensures kept { OnOk result (errors.new.faults ≡ errors.old.faults) }
+    ensures part { OnErr result
+        (AppendsPart (W.contents errors.old.inner) (W.contents errors.new.inner)
+        (call_lines address.now (outcome_text fault))) }
+    ensures write { OnErr result (errors.new.faults ≡ counted errors.old.faults) }
+{
+    match fault {
+        None => tell_call(address, b"works again", errors),
+        Some(fault) => tell_call(address, fault_text(fault).as_str().as_bytes(), errors),
+    }
+}
+
+/// Writes a line that begins with `uahist: peer ` and an address.
+fn tell_call<W: Write>(
+    address: &str,
+    text: &[u8],
+    errors: &mut Counted<W>,
+) -> Result<(), ServeFault>
+    ensures ok { OnOk result
+        (Appends (W.contents errors.old.inner) (W.contents errors.new.inner)
+        (call_lines address.now text.now)) }
+    ensures kept { OnOk result (errors.new.faults ≡ errors.old.faults) }
+    ensures part { OnErr result
+        (AppendsPart (W.contents errors.old.inner) (W.contents errors.new.inner)
+        (call_lines address.now text.now)) }
+    ensures write { OnErr result (errors.new.faults ≡ counted errors.old.faults) }
+{
+    match errors.send(b"uahist: peer ") {
+        Ok(()) => tell_peer(address, text, errors),
+        Err(fault) => Err(fault),
+    }
+}
+
+/// Writes an address, and then a text behind it, and ends the line.
+fn tell_peer<W: Write>(
+    address: &str,
+    text: &[u8],
+    errors: &mut Counted<W>,
+) -> Result<(), ServeFault>
+    ensures ok { OnOk result
+        (Appends (W.contents errors.old.inner) (W.contents errors.new.inner)
+        (behind_name address.now text.now)) }
+    ensures kept { OnOk result (errors.new.faults ≡ errors.old.faults) }
+    ensures part { OnErr result
+        (AppendsPart (W.contents errors.old.inner) (W.contents errors.new.inner)
+        (behind_name address.now text.now)) }
+    ensures write { OnErr result (errors.new.faults ≡ counted errors.old.faults) }
+{
+    match errors.send(address.as_bytes()) {
+        Ok(()) => tell_text(text, errors),
+        Err(fault) => Err(fault),
+    }
+}
+
+/// Writes a text behind an address, and ends the line.
+fn tell_text<W: Write>(text: &[u8], errors: &mut Counted<W>) -> Result<(), ServeFault>
+    ensures ok { OnOk result
+        (Appends (W.contents errors.old.inner) (W.contents errors.new.inner)
+        (behind_peer text.now)) }
+    ensures kept { OnOk result (errors.new.faults ≡ errors.old.faults) }
+    ensures part { OnErr result
+        (AppendsPart (W.contents errors.old.inner) (W.contents errors.new.inner)
+        (behind_peer text.now)) }
+    ensures write { OnErr result (errors.new.faults ≡ counted errors.old.faults) }
+{
+    match errors.send(b": ") {
+        Ok(()) => errors.send_line(text),
+        Err(fault) => Err(fault),
+    }
 }

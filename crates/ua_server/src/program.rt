@@ -584,7 +584,7 @@ fn tell_text<W: Write>(fault: &ProgramFault, errors: &mut Counted<W>) -> Result<
 const MOST_WORDS: usize = 40;
 
 /// Words, and a number in brackets behind them.
-fn numbered(words: &str, number: u32) -> InlineText<100>
+pub(crate) fn numbered(words: &str, number: u32) -> InlineText<100>
     requires { length words.now ≤ 40 }
     ensures { inline_text result ≡ numbered words.now number }
 {

@@ -1,6 +1,6 @@
 -- What a settings file says (TOML 1.1): its tables, their keys, what each key must hold, and how a
 -- file is wrong.
-use Rattle.std.specs.Prelude.{◌==◌, ◌&&◌, ◌||◌, ℕ, pos, negsuc, Bool, true, false, not, List, [], ◌∷◌, length, map, find, codes, nat_eq, nat_le, Option, None, Some, is_some, is_none, option_and_then, unwrap_or, ℤ}
+use Rattle.std.specs.Prelude.{◌==◌, ◌&&◌, ℕ, pos, negsuc, Bool, true, false, not, List, [], ◌∷◌, length, map, find, codes, nat_eq, nat_le, Option, None, Some, is_some, is_none, option_and_then, unwrap_or, ℤ}
 use Rattle.std.specs.Option.{option_map_or, option_to_list}
 use Rattle.std.specs.List.{list_all, list_any, count_by, filter_map}
 use Rattle.std.specs.Cmp.Lexicographic.{pointwise}
@@ -9,7 +9,7 @@ use Rattle.uuid.specs.Text.{parsed}
 use Rattle.ua_settings.specs.declared.keys.Section.{Section}
 use Rattle.ua_settings.specs.declared.keys.Section.TheVariants.{Document, Archive, Server, User, Folder, Variable, Peer}
 use Rattle.ua_settings.specs.declared.keys.Holds.{Holds}
-use Rattle.ua_settings.specs.declared.keys.Holds.TheVariants.{Text, Id, Replica, UpTo, Truth, Remedy, NodeName, UserName, FolderId, OneTable, Tables}
+use Rattle.ua_settings.specs.declared.keys.Holds.TheVariants.{Text, Id, Replica, UpTo, Truth, NodeName, UserName, FolderId, OneTable, Tables}
 use Rattle.ua_settings.specs.declared.keys.Wrong.{Wrong}
 use Rattle.ua_settings.specs.declared.keys.Wrong.TheVariants.{Unknown, Missing, Bad}
 
@@ -38,7 +38,7 @@ document_keys =
 abbrev pub archive_keys : List Rule
 archive_keys =
     required (codes "id") Id ∷ required (codes "replica") Replica ∷ optional (codes "store") Text
-    ∷ optional (codes "broken") Remedy ∷ []
+    ∷ []
 
 -- those of the table `server`
 abbrev pub server_keys : List Rule
@@ -124,11 +124,6 @@ is_replica number = elim number [ pos n ↦ nat_le 1 n && nat_le n 64 | negsuc n
 abbrev pub is_up_to : ℕ → ℤ → Bool
 is_up_to most number = elim number [ pos n ↦ nat_le 1 n && nat_le n most | negsuc n ↦ false ]
 
--- what is to be done once the store is broken
-abbrev pub is_remedy : List ℕ → Bool
-is_remedy word =
-    pointwise nat_eq word (codes "stop") || pointwise nat_eq word (codes "reopen")
-
 -- the name of a user: one that no other user has, and not that of a user without one
 abbrev pub is_user_name : Names → List ℕ → Bool
 is_user_name names name =
@@ -150,7 +145,6 @@ fits names Text value = option_map_or (λ text. nat_le (length text) 65536) (as_
 fits names Id value = option_map_or (λ text. is_some (parsed text)) (as_str value) false
 fits names Replica value = option_map_or is_replica (as_integer value) false
 fits names (UpTo most) value = option_map_or (is_up_to most) (as_integer value) false
-fits names Remedy value = option_map_or is_remedy (as_str value) false
 fits names Truth value = is_some (as_bool value)
 fits names NodeName value = option_map_or is_name (as_str value) false
 fits names UserName value = option_map_or (is_user_name names) (as_str value) false

@@ -1,7 +1,6 @@
 -- What settings a file gives.
-use Rattle.std.specs.Prelude.{◌≡◌, ◌⊎◌, ℕ, pos, negsuc, Bool, false, List, [], map, codes, Option, None, Some, option_and_then, unwrap_or, nat_eq, if◌then◌else◌, Result, Err}
+use Rattle.std.specs.Prelude.{◌≡◌, ◌⊎◌, ℕ, pos, negsuc, Bool, false, List, [], map, codes, Option, None, Some, option_and_then, unwrap_or, Result, Err}
 use Rattle.std.specs.Result.{result_map_both}
-use Rattle.std.specs.Cmp.Lexicographic.{pointwise}
 use Rattle.toml.specs.Data.{Members, no_members, get_member, as_str, as_integer, as_bool, as_table}
 use Rattle.uuid.specs.Text.{parsed}
 use Rattle.ua_space.specs.declared.fault.BuildFault.{BuildFault}
@@ -17,8 +16,6 @@ use Rattle.ua_settings.specs.File.{tables, text_at, first_refusal}
 use Rattle.ua_settings.specs.Settings.{SettingsValues}
 use Rattle.ua_session.specs.Users.{Allowed}
 use Rattle.ua_settings.specs.declared.peers.PeerCall.{PeerCall}
-use Rattle.ua_settings.specs.declared.peers.Remedy.{Remedy}
-use Rattle.ua_settings.specs.declared.peers.Remedy.TheVariants.{Stop, Reopen}
 use Rattle.ua_session.specs.declared.identity.User.{User as NamedUser}
 
 -- ---- what stands in a document in which nothing is wrong
@@ -40,12 +37,6 @@ number_or otherwise key members =
 -- the number at a key, 0 where there is none
 abbrev pub number_at : List ℕ → Members → ℕ
 number_at key members = number_or 0 key members
-
--- what is to be done once the store is broken
-abbrev pub remedy_named : List ℕ → Option Remedy
-remedy_named word =
-    if pointwise nat_eq word (codes "stop") then Some Stop
-    else if pointwise nat_eq word (codes "reopen") then Some Reopen else None
 
 -- the folder that a table gives
 abbrev pub folder_in : Members → SpaceFolder
@@ -92,8 +83,6 @@ values_of_tables archive server users peers space = record {
   space = space;
   connections = number_or 64 (codes "connections") server;
   waiting = number_or 256 (codes "waiting") server;
-  broken = option_and_then remedy_named
-      (option_and_then as_str (get_member (codes "broken") archive));
   peers = map peer_in peers;
 }
 

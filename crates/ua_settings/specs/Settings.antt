@@ -4,9 +4,8 @@ use Rattle.ua_settings.specs.declared.settings.Parts.{Parts}
 
 -- the archive's id, the number of this replica of it, and the file of its store, none for memory;
 -- where the server listens, the URL of its endpoint, the URI of the application; who may use it;
--- its nodes; how many connections it serves at a time, and how many MiB may wait to be written;
--- what
--- it does once its store is broken; and the peers that it calls
+-- its nodes; how many connections it serves at a time, and how many MiB may wait to be written; and
+-- the peers that it calls
 abbrev pub SettingsValues : Type 0
 SettingsValues = Parts
 
@@ -24,7 +23,6 @@ bare = record {
   space = record { namespace = codes "urn:uahist:archive"; folders = []; variables = [] };
   connections = 64;
   waiting = 256;
-  broken = None;
   peers = [];
 }
 

@@ -8,7 +8,7 @@ ghost use Rattle.std.specs.BTreeMap.{keys};
 ghost use Rattle.std.specs.List.{list_all, count_by};
 ghost use Rattle.toml.specs.Data.{as_table, string};
 ghost use Rattle.toml.specs.View.{view, table_view};
-ghost use Rattle.ua_settings.specs.File.{is_name, is_up_to, is_remedy, fits, keys_in, rules, names_in, text_at};
+ghost use Rattle.ua_settings.specs.File.{is_name, is_up_to, fits, keys_in, rules, names_in, text_at};
 ghost use Rattle.ua_settings.specs.Judging.{is_user_name, is_id, is_replica, is_key, is_missing, is_bad, wrong_key, wrong_from, wrong_at, first_wrong};
 ghost use Rattle.ua_settings.specs.Keys.{rule_of, known_of, spot_of, refusal_of};
 
@@ -101,7 +101,6 @@ fn fits_text(known: &Known<'_>, holds: Holds, text: &str) -> bool
         Holds::NodeName => is_name(text),
         Holds::UserName => is_user_name(known, text),
         Holds::FolderId => is_among(text, known.folders.as_slice()),
-        Holds::Remedy => is_remedy(text),
         Holds::Replica | Holds::UpTo(_) | Holds::Truth | Holds::OneTable | Holds::Tables => false,
     }
 }
@@ -130,13 +129,6 @@ fn is_up_to(most: u32, number: i64) -> bool
     }
 }
 
-/// Whether a text says what is to be done once the store is broken.
-fn is_remedy(text: &str) -> bool
-    ensures { result ≡ is_remedy text.now }
-{
-    text == "stop" || text == "reopen"
-}
-
 /// Whether a value is what a key must hold.
 #[tactic(auto, using(crate::proofs::Tables::tables_in_array))]
 fn fits(known: &Known<'_>, holds: Holds, value: &Value) -> bool
@@ -157,15 +149,11 @@ fn fits(known: &Known<'_>, holds: Holds, value: &Value) -> bool
             Some(values) => are_tables(values.as_slice()),
             None => false,
         },
-        Holds::Text
-        | Holds::Id
-        | Holds::Remedy
-        | Holds::NodeName
-        | Holds::UserName
-        | Holds::FolderId => match value.as_str() {
-            Some(text) => fits_text(known, holds, text),
-            None => false,
-        },
+        Holds::Text | Holds::Id | Holds::NodeName | Holds::UserName | Holds::FolderId =>
+            match value.as_str() {
+                Some(text) => fits_text(known, holds, text),
+                None => false,
+            },
     }
 }
 

@@ -33,8 +33,6 @@ pub(crate) enum Holds {
     UpTo(u32),
     /// `true` or `false`.
     Truth,
-    /// What is to be done once the store is broken: `stop` or `reopen`.
-    Remedy,
     /// A text of 1 to 256 bytes.
     NodeName,
     /// A text of 1 to 256 bytes that no other user has for a name, and not `anonymous`.
@@ -120,11 +118,10 @@ static DOCUMENT: [Key; 6] = [
     key!("peer", Tables, optional),
 ];
 
-static ARCHIVE: [Key; 4] = [
+static ARCHIVE: [Key; 3] = [
     key!("id", Id),
     key!("replica", Replica),
     key!("store", Text, optional),
-    key!("broken", Remedy, optional),
 ];
 
 static SERVER: [Key; 7] = [

@@ -12,6 +12,6 @@ mod settings;
 
 pub use fault::SettingsFault;
 pub use keys::Section;
-pub use peers::{PeerCall, Peers, Remedy};
+pub use peers::{PeerCall, Peers};
 pub use place::Place;
 pub use settings::{Parts, Settings};

@@ -1,4 +1,4 @@
-//! The peers that a server calls by itself, and what it does once its store is broken.
+//! The peers that a server calls by itself.
 
 ghost use Rattle.std.specs.Prelude.{◌≡◌, ◌++◌, [], ◌∷◌, OnOk, IfErr};
 
@@ -6,15 +6,6 @@ use crate::fault::SettingsFault;
 use std::alloc::Global;
 use std::marker::Model;
 use ua_binary::Text;
-
-/// What a server does once its store is broken, where its settings say so.
-#[derive(Clone, Copy, Debug, PartialEq, Eq)]
-pub enum Remedy {
-    /// It ends.
-    Stop,
-    /// It opens the store anew, once.
-    Reopen,
-}
 
 /// A peer that a server calls by itself.
 #[derive(Debug, Drop)]

@@ -9,13 +9,13 @@ ghost use Rattle.ua_space.specs.declared.plan.Plan.{Plan};
 ghost use Rattle.ua_space.specs.Lent.{entry_of, folder_of};
 ghost use Rattle.ua_settings.specs.File.{tables, text_at};
 ghost use Rattle.ua_settings.specs.Judging.{is_id, is_replica, test};
-ghost use Rattle.ua_settings.specs.Reading.{folder_in, variable_in, number_at, table_at, peer_in, remedy_named, values_of_tables, IsAcceptedOrStarved, IsSpaceOrStarved, space_fault};
+ghost use Rattle.ua_settings.specs.Reading.{folder_in, variable_in, number_at, table_at, peer_in, values_of_tables, IsAcceptedOrStarved, IsSpaceOrStarved, space_fault};
 ghost use Rattle.ua_settings.specs.Sound.{IsSound, IsSoundArchive, IsSoundUser, IsSoundServer, IsSoundPeer};
 
 use crate::fault::SettingsFault;
 use crate::keys::Section;
 use crate::looking::{find_text, number, number_or, replica, table_at, tables_of, text, truth};
-use crate::peers::{Peers, Remedy};
+use crate::peers::Peers;
 use crate::settings::{CONNECTIONS, Parts, Settings, WAITING};
 use stamp::ReplicaNo;
 use std::alloc::{AllocError, Global};
@@ -94,31 +94,6 @@ fn read_peers(alloc: Global, tables: &[&Table]) -> Result<Peers, SettingsFault>
         }
     }
     Ok(peers)
-}
-
-/// The remedy of this name.
-fn remedy_named(word: &str) -> Option<Remedy>
-    ensures { result ≡ remedy_named word.now }
-{
-    if word == "stop" {
-        Some(Remedy::Stop)
-    } else if word == "reopen" {
-        Some(Remedy::Reopen)
-    } else {
-        None
-    }
-}
-
-/// What is done once the store is broken.
-fn read_remedy(archive: &Table) -> Option<Remedy>
-    ensures { result
-        ≡ option_and_then remedy_named
-        (option_and_then as_str (get_member (codes "broken") (table_view archive.now))) }
-{
-    match find_text(archive, "broken") {
-        None => None,
-        Some(word) => remedy_named(word),
-    }
 }
 
 /// The folders of these tables.
@@ -280,7 +255,6 @@ fn settings_of(
         space: listed.space,
         connections: number_or(server, "connections", 1_000, CONNECTIONS),
         waiting: number_or(server, "waiting", 65_536, WAITING),
-        broken: read_remedy(archive),
         peers: listed.peers,
     }))
 }

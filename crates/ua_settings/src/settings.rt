@@ -10,7 +10,7 @@ ghost use Rattle.ua_settings.specs.Settings.{bare, IsSettingsText};
 
 use crate::fault::SettingsFault;
 use crate::judging::judge;
-use crate::peers::{Peers, Remedy};
+use crate::peers::Peers;
 use crate::reading::read_document;
 use stamp::ReplicaNo;
 use std::alloc::Global;
@@ -50,8 +50,6 @@ pub struct Parts {
     pub connections: u32,
     /// How many MiB may wait to be written, at all connections together, 1 to 65,536.
     pub waiting: u32,
-    /// What is done once the store is broken; none: it answers that it is.
-    pub broken: Option<Remedy>,
     /// The peers that are called.
     pub peers: Peers,
 }
@@ -69,7 +67,6 @@ pub struct Settings {
     space: Space,
     connections: u32,
     waiting: u32,
-    broken: Option<Remedy>,
     peers: Peers,
 }
 
@@ -90,7 +87,6 @@ impl Model for Settings {
           space = s.space;
           connections = s.connections;
           waiting = s.waiting;
-          broken = s.broken;
           peers = s.peers;
         } };
 
@@ -131,7 +127,6 @@ impl Settings {
             space,
             connections: CONNECTIONS,
             waiting: WAITING,
-            broken: None,
             peers: Peers::new(alloc),
         })
     }
@@ -167,7 +162,6 @@ impl Settings {
             space: parts.space,
             connections: parts.connections,
             waiting: parts.waiting,
-            broken: parts.broken,
             peers: parts.peers,
         }
     }
@@ -245,13 +239,6 @@ impl Settings {
         ensures { result ≡ self.now.waiting }
     {
         self.waiting
-    }
-
-    /// What is done once the store is broken; none: it answers that it is.
-    pub fn broken(&self) -> Option<Remedy>
-        ensures { result ≡ self.now.broken }
-    {
-        self.broken
     }
 
     /// The peers that are called.

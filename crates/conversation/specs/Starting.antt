@@ -1,0 +1,37 @@
+-- How a call of a peer begins.
+use Rattle.std.specs.Prelude.{◌≡◌, ◌⊎◌, ℕ, List, [], Option, None, Some, Result, Ok, Err}
+use Rattle.archive.specs.Store.{Store}
+use Rattle.exchange.specs.declared.fault.ExchangeFault.{ExchangeFault}
+use Rattle.exchange.specs.declared.fault.ExchangeFault.TheVariants.{OutOfMemory}
+use Rattle.exchange.specs.Dialogs.{Greets}
+use Rattle.ua_peers.specs.declared.calling.SyncFault.TheVariants.{Exchange}
+use Rattle.ua_peers.specs.Calling.{calling}
+use Rattle.conversation.specs.declared.other_end.OtherEnd.{OtherEnd}
+use Rattle.conversation.specs.declared.other_end.OtherEnd.TheVariants.{Peer}
+use Rattle.conversation.specs.declared.world.World.{World}
+use Rattle.conversation.specs.OtherEnds.{peer_at}
+use Rattle.conversation.specs.Closing.{LogCalls, TellsCall}
+
+-- the frame that asks was made, and is to be written; or a fault came, or memory to keep the frame
+-- was wanting, and nothing is
+abbrev pub Asks : (old new : Store) → (made : List ℕ) → Result (Unit {0}) ExchangeFault → Type 0
+Asks old new made result =
+    Greets old new [] made result
+    ⊎ ((frame : List ℕ) × Greets old new [] frame (Ok tt) × (made ≡ [])
+    × (result ≡ Err OutOfMemory))
+
+-- a peer is called, as the initiator of a dialog, over an archive; where that can't be, it is told,
+-- as the end of the call; what the server is set to stays, and the time isn't asked for
+pub record StartsCall {A C L : Type 0} (state : A → Store) (calls : LogCalls L) (callee : ℕ)
+    (v : World A C L) (made : List ℕ) (other : Option OtherEnd) (w : World A C L) : Type 0 where
+  pub between : World A C L
+  pub result : Result (Unit {0}) ExchangeFault
+  pub settings : between.server.settings ≡ v.server.settings
+  pub clock : between.clock ≡ v.clock
+  pub log : between.log ≡ v.log
+  pub asks : Asks (state v.server.replica.archive) (state between.server.replica.archive) made
+      result
+  pub begins : elim result [
+    | Ok done ↦ (other ≡ Some (Peer (peer_at calling []))) × (w ≡ between)
+    | Err fault ↦ (other ≡ None) × TellsCall calls between callee (Err (Exchange fault)) w
+  ]

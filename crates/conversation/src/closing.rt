@@ -1,0 +1,80 @@
+//! What is told of a connection that ended.
+
+ghost use Rattle.std.specs.Prelude.{◌≡◌};
+ghost use Rattle.conversation.specs.declared.other_end.OtherEnd.{OtherEnd};
+ghost use Rattle.conversation.specs.Closing.{log_calls, connection_fault, call_outcome, parted_outcome, TellsCall, TellsEnd};
+
+use crate::ended::Ended;
+use crate::log::Log;
+use crate::world::World;
+use counted_io::ServeFault;
+use exchange::ExchangeFault;
+use multiplex::SlotEnd;
+use ua_peers::{PeerEnded, SyncFault};
+
+/// The fault by which a connection ended, if it did.
+fn connection_fault(ending: SlotEnd<Result<Ended, ServeFault>>) -> Option<ServeFault>
+    ensures { result ≡ connection_fault ending }
+{
+    match ending {
+        SlotEnd::Finished(Ok(_)) | SlotEnd::EndOfInput => None,
+        SlotEnd::Finished(Err(fault)) => Some(fault),
+        SlotEnd::WriteFailed => Some(ServeFault::Write),
+        SlotEnd::ReadFailed | SlotEnd::IdleTimeout | SlotEnd::Displaced => Some(ServeFault::Read),
+    }
+}
+
+/// What the end of a dialog is to the one that called.
+fn parted_outcome(parted: PeerEnded) -> Result<(), SyncFault>
+    ensures { result ≡ parted_outcome parted }
+{
+    match parted {
+        PeerEnded::EndOfInput => Err(SyncFault::Exchange(ExchangeFault::Frame)),
+        PeerEnded::Done => Ok(()),
+        PeerEnded::Refused(number) => Err(SyncFault::Peer(number)),
+        PeerEnded::Failed(fault) => Err(SyncFault::Exchange(fault)),
+    }
+}
+
+/// What a connection's end is to the one that called.
+pub(crate) fn call_outcome(ending: SlotEnd<Result<Ended, ServeFault>>) -> Result<(), SyncFault>
+    ensures { result ≡ call_outcome ending }
+{
+    match ending {
+        SlotEnd::Finished(Ok(Ended::Peer(parted))) => parted_outcome(parted),
+        SlotEnd::Finished(Ok(Ended::Client(_))) | SlotEnd::EndOfInput => {
+            Err(SyncFault::Exchange(ExchangeFault::Frame))
+        }
+        SlotEnd::Finished(Err(fault)) => Err(SyncFault::Connection(fault)),
+        SlotEnd::WriteFailed => Err(SyncFault::Connection(ServeFault::Write)),
+        SlotEnd::ReadFailed | SlotEnd::IdleTimeout | SlotEnd::Displaced => {
+            Err(SyncFault::Connection(ServeFault::Read))
+        }
+    }
+}
+
+/// Tells how a call of the peer of this number in the settings ended, if there is one.
+pub(crate) fn tell_call<A, C, L: Log>(
+    world: &mut World<A, C, L>,
+    callee: usize,
+    outcome: Result<(), SyncFault>,
+)
+    ensures { TellsCall (log_calls L.told L.told_failed L.told_call) world.old callee outcome world.new }
+{
+    if let Some(peer) = world.server.settings.peers().as_slice().get(callee) {
+        world.log.tell_call(callee, peer.address.as_str(), outcome);
+    }
+}
+
+/// Tells by which fault a connection that was accepted ended, if it did.
+pub(crate) fn tell_end<A, C, L: Log>(
+    world: &mut World<A, C, L>,
+    ending: SlotEnd<Result<Ended, ServeFault>>,
+)
+    ensures { (other : OtherEnd)
+        → TellsEnd (log_calls L.told L.told_failed L.told_call) None world.old other ending world.new }
+{
+    if let Some(fault) = connection_fault(ending) {
+        world.log.tell(fault);
+    }
+}
