@@ -8,7 +8,8 @@ after which a client that says nothing is given up.
 """
 import os, socket, struct, subprocess, sys, tempfile, time
 import usage
-from opcua import Client, int32, node, value_at
+from network_line import Line, status
+from opcua import int32, node, value_at
 
 usage.shown(__doc__, 1)
 here = os.path.dirname(os.path.abspath(__file__))
@@ -31,53 +32,6 @@ def serve(port, connections):
     open(settings, "w").write(text)
     command = [program, "serve", "--settings", settings, "--connections", str(connections)]
     return subprocess.Popen(command, stdin=subprocess.DEVNULL, stdout=subprocess.PIPE, stderr=subprocess.PIPE, text=True)
-
-
-class Line:
-    """One client's connection."""
-
-    def __init__(self, port):
-        until = time.monotonic() + 10
-        while True:
-            try:
-                self.socket = socket.create_connection(("127.0.0.1", port))
-                break
-            except ConnectionRefusedError:
-                assert time.monotonic() < until, "nobody listens"
-                time.sleep(0.02)
-        self.client = Client()
-
-    def take(self, count):
-        taken = b""
-        while len(taken) < count:
-            more = self.socket.recv(count - len(taken))
-            assert more, "the connection is over"
-            taken += more
-        return taken
-
-    def ask(self, sent):
-        """The chunk that answers."""
-        self.socket.sendall(sent)
-        head = self.take(8)
-        return head + self.take(struct.unpack_from("<I", head, 4)[0] - 8)
-
-    def begin(self):
-        """Greets, opens the channel, and activates a session of ann's."""
-        assert self.ask(self.client.hello())[:4] == b"ACKF"
-        assert self.ask(self.client.open())[:4] == b"OPNF"
-        for sent in [self.client.create_session(), self.client.activate("ann", b"pw")]:
-            assert status(self.ask(sent)) == 0
-        return self
-
-    def reset(self):
-        """Ends the connection by a reset."""
-        self.socket.setsockopt(socket.SOL_SOCKET, socket.SO_LINGER, struct.pack("ii", 1, 0))
-        self.socket.close()
-
-
-def status(answer):
-    """The status of a response whose type id has four bytes."""
-    return struct.unpack_from("<I", answer, 40)[0]
 
 
 def ends(server, told, code=0):
@@ -157,13 +111,13 @@ def taken_address(port):
 
 
 def silent(port):
-    """A client that says nothing keeps the next one waiting for two minutes."""
+    """A client that says nothing keeps nobody waiting, and is given up behind two minutes."""
     server = serve(port, 2)
     first, begin = Line(port), time.monotonic()
     second = Line(port).begin()
-    assert 115 < time.monotonic() - begin < 125
-    first.socket.close()
+    assert time.monotonic() - begin < 1
     second.socket.close()
+    assert first.socket.recv(1) == b"" and 115 < time.monotonic() - begin < 125
     ends(server, ENDED % 1)
 
 
