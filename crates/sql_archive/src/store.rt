@@ -14,7 +14,7 @@ use crate::starting::{as_told, make};
 use archive::{Archive, Direction, LearnFault, LogPlace, StoreFault};
 use records::{Entry, Held, Moment, Record};
 use sql_opening::{Latest, latest_after, open_all, read_again};
-use sql_reading::{log_in, outside_in, range_in, records_at, records_since};
+use sql_reading::{Between, NodeReading, log_in, outside_in, range_in, records_at, records_since};
 use sqlite::{Alter, Connection, MemStore};
 use stamp::{ReplicaNo, Vector};
 use std::alloc::Global;
@@ -143,16 +143,19 @@ impl<S: Alter> Archive for SqlArchive<S> {
         if self.broken {
             return Err(self.refuse());
         }
-        let answer = range_in(
+        let reading = NodeReading {
             alloc,
-            &mut self.conn,
             node,
-            from,
-            to,
             direction,
+            within,
+        };
+        let between = Between { from, to };
+        let answer = range_in(
+            &mut self.conn,
+            &reading,
+            between,
             limit,
             &self.latest.numbers,
-            within,
         );
         tell(&mut self.faults, &mut self.broken, answer)
     }
@@ -171,17 +174,14 @@ impl<S: Alter> Archive for SqlArchive<S> {
         if self.broken {
             return Err(self.refuse());
         }
-        let answer = log_in(
+        let reading = NodeReading {
             alloc,
-            &mut self.conn,
             node,
-            from,
-            to,
-            &after,
             direction,
-            limit,
             within,
-        );
+        };
+        let between = Between { from, to };
+        let answer = log_in(&mut self.conn, &reading, between, &after, limit);
         tell(&mut self.faults, &mut self.broken, answer)
     }
 
@@ -196,15 +196,13 @@ impl<S: Alter> Archive for SqlArchive<S> {
         if self.broken {
             return Err(self.refuse());
         }
-        let answer = outside_in(
+        let reading = NodeReading {
             alloc,
-            &mut self.conn,
             node,
-            time,
             direction,
-            &self.latest.numbers,
             within,
-        );
+        };
+        let answer = outside_in(&mut self.conn, &reading, time, &self.latest.numbers);
         tell(&mut self.faults, &mut self.broken, answer)
     }
 

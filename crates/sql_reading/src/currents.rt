@@ -18,12 +18,13 @@ ghost use Rattle.sql_tables.specs.Words.{IsPage};
 ghost use Rattle.sql_reading.specs.Walking.{IsStartPlace, stretch, values_at, moment_of};
 ghost use Rattle.sql_tables.specs.Connections.{WhereClean, Sees, tables_of, content_of};
 
+use crate::asked::{Span, SpelledReading};
 use archive::{Direction, StoreFault};
 use records::{Held, Moment, RecordFault};
 use sql_tables::{RowTime, bytes_at, int_at, place_of, select, short_at};
 use sqlite::{Alter, Connection, Row, params};
 use std::alloc::Global;
-use ua_binary::{Cursor, NodeId};
+use ua_binary::Cursor;
 use ua_variant::{DataValue, read_data_value};
 
 /// Current values of a node beyond a near place and up to a far one: so many of them, or all where the
@@ -155,43 +156,42 @@ pub(crate) fn count_of(wanted: usize) -> i64
 }
 
 /// So many beyond a place, up to a far moment.
-fn stretch_of(near: RowTime, far: Moment, limit: usize) -> Stretch
-    ensures near { (result.near.ticks ≡ near.ticks) × (result.near.pico ≡ near.pico) }
-    ensures far { (result.far.ticks ≡ ticks_of far) × (result.far.pico ≡ pos (pico_of far)) }
+fn stretch_of(span: Span, limit: usize) -> Stretch
+    ensures near { (result.near.ticks ≡ span.start.ticks) × (result.near.pico ≡ span.start.pico) }
+    ensures far { (result.far.ticks ≡ ticks_of span.far)
+        × (result.far.pico ≡ pos (pico_of span.far)) }
     ensures count { (as_count (value.Int result.count) ≡ None)
         ⊎ (as_count (value.Int result.count) ≡ Some limit) }
 {
     Stretch {
-        near,
-        far: place_of(far),
+        near: span.start,
+        far: place_of(span.far),
         count: count_of(limit),
     }
 }
 
 /// The first `limit` of a node's live values beyond a place, up to a far time: one query.
 pub(crate) fn current_values<S: Alter>(
-    alloc: Global,
     conn: &mut Connection<S>,
-    node: &NodeId,
-    bytes: &[u8],
-    start: RowTime,
-    far: Moment,
-    direction: Direction,
+    reading: &SpelledReading<'_>,
+    span: Span,
     limit: usize,
 ) -> Result<Vec<Held>, StoreFault>
     requires idles { WhereClean S.Store conn.old Idles }
     requires filled { WhereClean S.Store conn.old (Sees IsFilled) }
     requires kept { WhereClean S.Store conn.old (Sees AreKept) }
-    requires spelled { bytes.now ≡ node_id.canon node.now }
-    requires lawful { IsNodeId node.now }
-    requires place { IsStartPlace direction start.pico }
+    requires spelled { reading.now.bytes.now ≡ node_id.canon reading.now.node.now }
+    requires lawful { IsNodeId reading.now.node.now }
+    requires place { IsStartPlace reading.now.direction span.start.pico }
     ensures { LeavesUnchanged (state S.Store conn.old) (state S.Store conn.new) result
-        (λ v. v.items ≡ take limit (flat_map (values_at (content_of S.Store conn.old) node.now)
-        (stretch direction (moment_of start) far (times (content_of S.Store conn.old) node.now)))) }
+        (λ v. v.items ≡ take limit
+        (flat_map (values_at (content_of S.Store conn.old) reading.now.node.now)
+        (stretch reading.now.direction (moment_of span.start) span.far
+        (times (content_of S.Store conn.old) reading.now.node.now)))) }
 {
-    let along = stretch_of(start, far, limit);
-    let rows = currents_next(conn, bytes, &along, direction)?;
-    let mut found = helds_in(alloc, &rows)?;
+    let along = stretch_of(span, limit);
+    let rows = currents_next(conn, reading.bytes, &along, reading.direction)?;
+    let mut found = helds_in(reading.alloc, &rows)?;
     found.truncate(limit);
     Ok(found)
 }

@@ -13,6 +13,7 @@ ghost use Rattle.sql_tables.specs.State.{Idles, LeavesUnchanged};
 ghost use Rattle.sql_reading.specs.Walking.{IsStartPlace, IsNextTime, first_time, is_used_up, AreTaken, IsTaken, moment_of, HoldsNext, HoldsFirst};
 ghost use Rattle.sql_tables.specs.Connections.{WhereClean, Sees, content_of};
 
+use crate::asked::SpelledReading;
 use crate::reads::story_at;
 use archive::{Direction, StoreFault};
 use records::{Moment, Record};
@@ -20,7 +21,6 @@ use sql_tables::{Next, RowTime, decode_all, rows_next};
 use sqlite::{Alter, Connection};
 use std::alloc::Global;
 use std::collections::VecDeque;
-use ua_binary::NodeId;
 
 /// The next records of a node, by time and stamp in a direction.
 #[derive(Debug, Drop)]
@@ -83,27 +83,25 @@ fn rows_beyond(place: &RowTime, count: u16) -> Next
 
 /// The next records beyond a place: so many of them, or all that there are.
 fn read_ahead<S: Alter>(
-    alloc: Global,
     conn: &mut Connection<S>,
-    node: &NodeId,
-    bytes: &[u8],
+    reading: &SpelledReading<'_>,
     place: &RowTime,
-    direction: Direction,
     count: u16,
 ) -> Result<Ahead, StoreFault>
     requires idles { WhereClean S.Store conn.old Idles }
     requires filled { WhereClean S.Store conn.old (Sees IsFilled) }
-    requires spelled { bytes.now ≡ node_id.canon node.now }
-    requires lawful { IsNodeId node.now }
-    requires place { IsStartPlace direction place.now.pico }
+    requires spelled { reading.now.bytes.now ≡ node_id.canon reading.now.node.now }
+    requires lawful { IsNodeId reading.now.node.now }
+    requires place { IsStartPlace reading.now.direction place.now.pico }
     requires some { 0 < count }
     ensures { LeavesUnchanged (state S.Store conn.old) (state S.Store conn.new) result
-        (λ a. HoldsNext (content_of S.Store conn.old) node.now direction (moment_of place.now) a
+        (λ a. HoldsNext (content_of S.Store conn.old) reading.now.node.now reading.now.direction
+        (moment_of place.now) a
         × (is_used_up a.records.items a.ends ≡ false)) }
 {
     let next = rows_beyond(place, count);
-    let rows = rows_next(conn, bytes, &next, direction)?;
-    let records = decode_all(alloc, &rows)?;
+    let rows = rows_next(conn, reading.bytes, &next, reading.direction)?;
+    let records = decode_all(reading.alloc, &rows)?;
     let ends = records.len() < usize::from(count);
     Ok(Ahead {
         records: VecDeque::from(records),
@@ -113,29 +111,27 @@ fn read_ahead<S: Alter>(
 
 /// Reads on where nothing is held.
 fn fill<S: Alter>(
-    alloc: Global,
     conn: &mut Connection<S>,
     ahead: &mut Ahead,
-    node: &NodeId,
-    bytes: &[u8],
+    reading: &SpelledReading<'_>,
     place: &RowTime,
-    direction: Direction,
     count: u16,
 ) -> Result<(), StoreFault>
     requires idles { WhereClean S.Store conn.old Idles }
     requires filled { WhereClean S.Store conn.old (Sees IsFilled) }
-    requires spelled { bytes.now ≡ node_id.canon node.now }
-    requires lawful { IsNodeId node.now }
-    requires place { IsStartPlace direction place.now.pico }
+    requires spelled { reading.now.bytes.now ≡ node_id.canon reading.now.node.now }
+    requires lawful { IsNodeId reading.now.node.now }
+    requires place { IsStartPlace reading.now.direction place.now.pico }
     requires some { 0 < count }
     requires ahead { HasCleanDisk (state S.Store conn.old) → HoldsNext
-        (content_of S.Store conn.old) node.now direction (moment_of place.now) ahead.old }
+        (content_of S.Store conn.old) reading.now.node.now reading.now.direction
+        (moment_of place.now) ahead.old }
     ensures { LeavesUnchanged (state S.Store conn.old) (state S.Store conn.new) result
-        (λ _. HoldsNext (content_of S.Store conn.old) node.now direction (moment_of place.now)
-        ahead.new × (is_used_up ahead.new.records.items ahead.new.ends ≡ false)) }
+        (λ _. HoldsNext (content_of S.Store conn.old) reading.now.node.now reading.now.direction
+        (moment_of place.now) ahead.new × (is_used_up ahead.new.records.items ahead.new.ends ≡ false)) }
 {
     if is_used_up(ahead) {
-        *ahead = read_ahead(alloc, conn, node, bytes, place, direction, count)?;
+        *ahead = read_ahead(conn, reading, place, count)?;
         return Ok(());
     }
     Ok(())
@@ -143,30 +139,28 @@ fn fill<S: Alter>(
 
 /// The first time of a node that is strictly beyond a place. Its records are then the first that are held.
 pub(crate) fn next_time<S: Alter>(
-    alloc: Global,
     conn: &mut Connection<S>,
     ahead: &mut Ahead,
-    node: &NodeId,
-    bytes: &[u8],
+    reading: &SpelledReading<'_>,
     place: &RowTime,
-    direction: Direction,
     count: u16,
 ) -> Result<Option<Moment>, StoreFault>
     requires idles { WhereClean S.Store conn.old Idles }
     requires filled { WhereClean S.Store conn.old (Sees IsFilled) }
-    requires spelled { bytes.now ≡ node_id.canon node.now }
-    requires lawful { IsNodeId node.now }
-    requires place { IsStartPlace direction place.now.pico }
+    requires spelled { reading.now.bytes.now ≡ node_id.canon reading.now.node.now }
+    requires lawful { IsNodeId reading.now.node.now }
+    requires place { IsStartPlace reading.now.direction place.now.pico }
     requires some { 0 < count }
     requires ahead { HasCleanDisk (state S.Store conn.old) → HoldsNext
-        (content_of S.Store conn.old) node.now direction (moment_of place.now) ahead.old }
+        (content_of S.Store conn.old) reading.now.node.now reading.now.direction
+        (moment_of place.now) ahead.old }
     ensures { LeavesUnchanged (state S.Store conn.old) (state S.Store conn.new) result
-        (λ t. IsNextTime direction (moment_of place.now)
-        (times (content_of S.Store conn.old) node.now) t
-        × IfSome t
-        (λ time. HoldsFirst (content_of S.Store conn.old) node.now direction time ahead.new)) }
+        (λ t. IsNextTime reading.now.direction (moment_of place.now)
+        (times (content_of S.Store conn.old) reading.now.node.now) t
+        × IfSome t (λ time. HoldsFirst (content_of S.Store conn.old) reading.now.node.now
+        reading.now.direction time ahead.new)) }
 {
-    fill(alloc, conn, ahead, node, bytes, place, direction, count)?;
+    fill(conn, ahead, reading, place, count)?;
     Ok(first_time(&ahead.records))
 }
 
@@ -215,28 +209,27 @@ fn turn(records: &mut Vec<Record>, direction: Direction)
 /// Takes off the records of the first time. Where all that is held is of that time, others of it may stand
 /// behind them, and they are read anew.
 pub(crate) fn take_story<S: Alter>(
-    alloc: Global,
     conn: &mut Connection<S>,
     ahead: &mut Ahead,
-    node: &NodeId,
-    bytes: &[u8],
+    reading: &SpelledReading<'_>,
     time: Moment,
-    direction: Direction,
 ) -> Result<Vec<Record>, StoreFault>
     requires idles { WhereClean S.Store conn.old Idles }
     requires filled { WhereClean S.Store conn.old (Sees IsFilled) }
-    requires spelled { bytes.now ≡ node_id.canon node.now }
-    requires lawful { IsNodeId node.now }
+    requires spelled { reading.now.bytes.now ≡ node_id.canon reading.now.node.now }
+    requires lawful { IsNodeId reading.now.node.now }
     requires first { HasCleanDisk (state S.Store conn.old)
-        → HoldsFirst (content_of S.Store conn.old) node.now direction time ahead.old }
+        → HoldsFirst (content_of S.Store conn.old) reading.now.node.now reading.now.direction time
+        ahead.old }
     ensures { LeavesUnchanged (state S.Store conn.old) (state S.Store conn.new) result
-        (λ v. (v.items ≡ versions (content_of S.Store conn.old) node.now time)
-        × HoldsNext (content_of S.Store conn.old) node.now direction time ahead.new) }
+        (λ v. (v.items ≡ versions (content_of S.Store conn.old) reading.now.node.now time)
+        × HoldsNext (content_of S.Store conn.old) reading.now.node.now reading.now.direction time
+        ahead.new) }
 {
-    let mut taken = take_time(alloc, &mut ahead.records, time)?;
+    let mut taken = take_time(reading.alloc, &mut ahead.records, time)?;
     if is_used_up(ahead) {
-        return story_at(alloc, conn, node, bytes, time);
+        return story_at(reading.alloc, conn, reading.node, reading.bytes, time);
     }
-    turn(&mut taken, direction);
+    turn(&mut taken, reading.direction);
     Ok(taken)
 }

@@ -13,6 +13,7 @@ ghost use Rattle.ua_binary.specs.Binary.{node_id, IsNodeId};
 ghost use Rattle.sql_tables.specs.Connections.{WhereClean, Sees, content_of};
 ghost use Rattle.sql_reading.specs.Connections.{AreLastNumbers, content_within};
 
+use crate::asked::{Between, NodeReading, Span, SpelledReading};
 use crate::currents::current_values;
 use crate::reads::spelled_node;
 use crate::walking::{entries, values};
@@ -21,61 +22,53 @@ use records::{Entry, Held, Moment};
 use sql_tables::{RowTime, place_of};
 use sqlite::{Alter, Connection};
 use stamp::Vector;
-use std::alloc::Global;
-use ua_binary::NodeId;
-
-/// Where a reading starts, and the time at which it ends.
-#[derive(Clone, Copy, Debug)]
-struct Span {
-    start: RowTime,
-    far: Moment,
-}
 
 /// The span from one time to another in a direction, both included.
-fn span_of(from: Moment, to: Moment, direction: Direction) -> Span
+fn span_of(between: Between, direction: Direction) -> Span
     ensures place { IsStartPlace direction result.start.pico }
-    ensures span { IsSpan direction from to (moment_of result.start) result.far }
+    ensures span { IsSpan direction between.from between.to (moment_of result.start) result.far }
 {
     match direction {
         Direction::Forward => {
-            let place = place_of(from);
+            let place = place_of(between.from);
             Span {
                 start: RowTime {
                     ticks: place.ticks,
                     pico: place.pico - 1,
                 },
-                far: to,
+                far: between.to,
             }
         }
         Direction::Backward => {
-            let place = place_of(to);
+            let place = place_of(between.to);
             Span {
                 start: RowTime {
                     ticks: place.ticks,
                     pico: place.pico + 1,
                 },
-                far: from,
+                far: between.from,
             }
         }
     }
 }
 
 /// The ends of a log that goes on behind a place: no modification behind it has an earlier time.
-fn ends_behind(
-    from: Moment,
-    to: Moment,
-    after: &Option<LogPlace>,
-    direction: Direction,
-) -> (Moment, Moment)
-    ensures { ShowSame direction after.now from to result.0 result.1 }
+fn ends_behind(between: Between, after: &Option<LogPlace>, direction: Direction) -> Between
+    ensures { ShowSame direction after.now between.from between.to result.from result.to }
 {
     let Some(place) = *after else {
-        return (from, to);
+        return between;
     };
     match direction {
-        Direction::Forward if from < place.time => (place.time, to),
-        Direction::Backward if place.time < to => (from, place.time),
-        _ => (from, to),
+        Direction::Forward if between.from < place.time => Between {
+            from: place.time,
+            to: between.to,
+        },
+        Direction::Backward if place.time < between.to => Between {
+            from: between.from,
+            to: place.time,
+        },
+        _ => between,
     }
 }
 
@@ -104,49 +97,40 @@ fn first_of(mut found: Vec<Held>) -> Option<Held>
 /// the current values where it covers all that there is, whose last numbers are `latest`, and else by the
 /// records of each time.
 fn live_values<S: Alter>(
-    alloc: Global,
     conn: &mut Connection<S>,
-    node: &NodeId,
-    bytes: &[u8],
-    start: RowTime,
-    far: Moment,
-    direction: Direction,
+    reading: &SpelledReading<'_>,
+    span: Span,
     limit: usize,
     latest: &Vector,
-    within: &Vector,
 ) -> Result<Vec<Held>, StoreFault>
     requires idles { WhereClean S.Store conn.old Idles }
     requires filled { WhereClean S.Store conn.old (Sees IsFilled) }
     requires kept { WhereClean S.Store conn.old (Sees AreKept) }
     requires latest { HasCleanDisk (state S.Store conn.old)
         → AreLastNumbers latest.now (content_of S.Store conn.old) }
-    requires spelled { bytes.now ≡ node_id.canon node.now }
-    requires lawful { IsNodeId node.now }
-    requires place { IsStartPlace direction start.pico }
+    requires spelled { reading.now.bytes.now ≡ node_id.canon reading.now.node.now }
+    requires lawful { IsNodeId reading.now.node.now }
+    requires place { IsStartPlace reading.now.direction span.start.pico }
     ensures { LeavesUnchanged (state S.Store conn.old) (state S.Store conn.new) result
         (λ v. v.items ≡ take limit
-        (flat_map (values_at (content_within S.Store conn.old within.now) node.now)
-        (stretch direction (moment_of start) far (times (content_of S.Store conn.old) node.now)))) }
+        (flat_map
+        (values_at (content_within S.Store conn.old reading.now.within.now) reading.now.node.now)
+        (stretch reading.now.direction (moment_of span.start) span.far
+        (times (content_of S.Store conn.old) reading.now.node.now)))) }
 {
-    if within.at_least(latest) {
-        return current_values(alloc, conn, node, bytes, start, far, direction, limit);
+    if reading.within.at_least(latest) {
+        return current_values(conn, reading, span, limit);
     }
-    values(
-        alloc, conn, node, bytes, start, far, direction, limit, within,
-    )
+    values(conn, reading, span, limit)
 }
 
 /// The first `limit` of a node's live values from one source time to another, both included.
 pub fn range_in<S: Alter>(
-    alloc: Global,
     conn: &mut Connection<S>,
-    node: &NodeId,
-    from: Moment,
-    to: Moment,
-    direction: Direction,
+    reading: &NodeReading<'_>,
+    between: Between,
     limit: usize,
     latest: &Vector,
-    within: &Vector,
 ) -> Result<Vec<Held>, StoreFault>
     requires idles { WhereClean S.Store conn.old Idles }
     requires filled { WhereClean S.Store conn.old (Sees IsFilled) }
@@ -154,89 +138,91 @@ pub fn range_in<S: Alter>(
     requires latest { HasCleanDisk (state S.Store conn.old)
         → AreLastNumbers latest.now (content_of S.Store conn.old) }
     ensures { LeavesUnchanged (state S.Store conn.old) (state S.Store conn.new) result
-        (λ v. v.items ≡ take limit
-        (range_of (content_within S.Store conn.old within.now) node.now from to direction)) }
+        (λ v. v.items ≡ take limit (range_of
+        (content_within S.Store conn.old reading.now.within.now) reading.now.node.now between.from
+        between.to reading.now.direction)) }
 {
-    match spelled_node(alloc, node)? {
+    match spelled_node(reading.alloc, reading.node)? {
         Some(bytes) => {
-            let span = span_of(from, to, direction);
-            live_values(
-                alloc, conn, node, &bytes, span.start, span.far, direction, limit, latest, within,
-            )
+            let spelled = SpelledReading {
+                alloc: reading.alloc,
+                node: reading.node,
+                bytes: &bytes,
+                direction: reading.direction,
+                within: reading.within,
+            };
+            let span = span_of(between, reading.direction);
+            live_values(conn, &spelled, span, limit, latest)
         }
-        None => Ok(Vec::new(alloc)),
+        None => Ok(Vec::new(reading.alloc)),
     }
 }
 
 /// The first `limit` of a node's modifications from one source time to another, both included, that
 /// stand behind a place, where one is given.
 pub fn log_in<S: Alter>(
-    alloc: Global,
     conn: &mut Connection<S>,
-    node: &NodeId,
-    from: Moment,
-    to: Moment,
+    reading: &NodeReading<'_>,
+    between: Between,
     after: &Option<LogPlace>,
-    direction: Direction,
     limit: usize,
-    within: &Vector,
 ) -> Result<Vec<Entry>, StoreFault>
     requires idles { WhereClean S.Store conn.old Idles }
     requires filled { WhereClean S.Store conn.old (Sees IsFilled) }
     ensures { LeavesUnchanged (state S.Store conn.old) (state S.Store conn.new) result
-        (λ v. v.items ≡ take limit (log_of (content_within S.Store conn.old within.now) node.now
-        from to after.now direction)) }
+        (λ v. v.items ≡ take limit (log_of
+        (content_within S.Store conn.old reading.now.within.now) reading.now.node.now between.from
+        between.to after.now reading.now.direction)) }
 {
-    match spelled_node(alloc, node)? {
+    match spelled_node(reading.alloc, reading.node)? {
         Some(bytes) => {
-            let (near, far) = ends_behind(from, to, after, direction);
-            let span = span_of(near, far, direction);
-            entries(
-                alloc, conn, node, &bytes, span.start, span.far, after, direction, limit, within,
-            )
+            let spelled = SpelledReading {
+                alloc: reading.alloc,
+                node: reading.node,
+                bytes: &bytes,
+                direction: reading.direction,
+                within: reading.within,
+            };
+            let ends = ends_behind(between, after, reading.direction);
+            let span = span_of(ends, reading.direction);
+            entries(conn, &spelled, span, after, limit)
         }
-        None => Ok(Vec::new(alloc)),
+        None => Ok(Vec::new(reading.alloc)),
     }
 }
 
 /// The live value of a node, by its spelling, that is nearest to a source time, strictly beyond it.
 fn outside_of<S: Alter>(
-    alloc: Global,
     conn: &mut Connection<S>,
-    node: &NodeId,
-    bytes: &[u8],
+    reading: &SpelledReading<'_>,
     time: Moment,
-    direction: Direction,
     latest: &Vector,
-    within: &Vector,
 ) -> Result<Option<Held>, StoreFault>
     requires idles { WhereClean S.Store conn.old Idles }
     requires filled { WhereClean S.Store conn.old (Sees IsFilled) }
     requires kept { WhereClean S.Store conn.old (Sees AreKept) }
     requires latest { HasCleanDisk (state S.Store conn.old)
         → AreLastNumbers latest.now (content_of S.Store conn.old) }
-    requires spelled { bytes.now ≡ node_id.canon node.now }
-    requires lawful { IsNodeId node.now }
+    requires spelled { reading.now.bytes.now ≡ node_id.canon reading.now.node.now }
+    requires lawful { IsNodeId reading.now.node.now }
     ensures { LeavesUnchanged (state S.Store conn.old) (state S.Store conn.new) result
-        (λ h. h ≡ outside_of (content_within S.Store conn.old within.now) node.now time direction) }
+        (λ h. h ≡ outside_of (content_within S.Store conn.old reading.now.within.now)
+        reading.now.node.now time reading.now.direction) }
 {
-    let place = place_of(time);
-    let far = end_of_time(direction);
-    let found = live_values(
-        alloc, conn, node, bytes, place, far, direction, 1, latest, within,
-    )?;
+    let span = Span {
+        start: place_of(time),
+        far: end_of_time(reading.direction),
+    };
+    let found = live_values(conn, reading, span, 1, latest)?;
     Ok(first_of(found))
 }
 
 /// The live value of a node that is nearest to a source time, strictly beyond it.
 pub fn outside_in<S: Alter>(
-    alloc: Global,
     conn: &mut Connection<S>,
-    node: &NodeId,
+    reading: &NodeReading<'_>,
     time: Moment,
-    direction: Direction,
     latest: &Vector,
-    within: &Vector,
 ) -> Result<Option<Held>, StoreFault>
     requires idles { WhereClean S.Store conn.old Idles }
     requires filled { WhereClean S.Store conn.old (Sees IsFilled) }
@@ -244,10 +230,20 @@ pub fn outside_in<S: Alter>(
     requires latest { HasCleanDisk (state S.Store conn.old)
         → AreLastNumbers latest.now (content_of S.Store conn.old) }
     ensures { LeavesUnchanged (state S.Store conn.old) (state S.Store conn.new) result
-        (λ h. h ≡ outside_of (content_within S.Store conn.old within.now) node.now time direction) }
+        (λ h. h ≡ outside_of (content_within S.Store conn.old reading.now.within.now)
+        reading.now.node.now time reading.now.direction) }
 {
-    match spelled_node(alloc, node)? {
-        Some(bytes) => outside_of(alloc, conn, node, &bytes, time, direction, latest, within),
+    match spelled_node(reading.alloc, reading.node)? {
+        Some(bytes) => {
+            let spelled = SpelledReading {
+                alloc: reading.alloc,
+                node: reading.node,
+                bytes: &bytes,
+                direction: reading.direction,
+                within: reading.within,
+            };
+            outside_of(conn, &spelled, time, latest)
+        }
         None => Ok(None),
     }
 }

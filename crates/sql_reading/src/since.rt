@@ -22,6 +22,15 @@ use sqlite::{Alter, Connection};
 use stamp::{ReplicaNo, Vector};
 use std::alloc::Global;
 
+/// Which records are asked: those that a vector lacks, up to `limit` in all; `own` is the vector of what is
+/// held.
+#[derive(Clone, Copy, Debug)]
+struct Lacking<'a> {
+    own: &'a Vector,
+    vector: &'a Vector,
+    limit: usize,
+}
+
 /// The rows of an origin behind a number, as many as are wanted, or all where SQL has no such count.
 fn behind(origin: ReplicaNo, number: u64, wanted: usize) -> RowsAfter
     requires { number ≤ greatest }
@@ -53,7 +62,6 @@ fn push_all(found: &mut Vec<Record>, mut more: Vec<Record>, limit: usize) -> Res
 
 /// Puts the records of an origin behind a number behind others, up to `limit` in all.
 fn push_behind<S: Alter>(
-    alloc: Global,
     conn: &mut Connection<S>,
     found: &mut Vec<Record>,
     origin: ReplicaNo,
@@ -70,36 +78,33 @@ fn push_behind<S: Alter>(
 {
     let asked = behind(origin, number, limit - found.len());
     let rows = rows_behind(conn, &asked)?;
-    let more = decode_all(alloc, &rows)?;
+    let more = decode_all(*found.allocator(), &rows)?;
     push_all(found, more, limit)
 }
 
 /// Puts the records of an origin that a vector lacks behind others, up to `limit` in all.
 fn push_lacked<S: Alter>(
-    alloc: Global,
     conn: &mut Connection<S>,
     found: &mut Vec<Record>,
     number: u8,
-    own: &Vector,
-    vector: &Vector,
-    limit: usize,
+    lacking: &Lacking<'_>,
 ) -> Result<(), StoreFault>
     requires idles { WhereClean S.Store conn.old Idles }
     requires filled { WhereClean S.Store conn.old (Sees IsFilled) }
     requires own { HasCleanDisk (state S.Store conn.old)
-        → AreLastNumbers own.now (content_of S.Store conn.old) }
+        → AreLastNumbers lacking.now.own.now (content_of S.Store conn.old) }
     requires replica { IsReplica number }
-    requires room { length found.old.items < limit }
+    requires room { length found.old.items < lacking.now.limit }
     ensures { LeavesUnchanged (state S.Store conn.old) (state S.Store conn.new) result
-        (λ _. found.new.items ≡ take limit (found.old.items
-        ++ lacked_of (content_of S.Store conn.old) (number_of vector.now) number)) }
+        (λ _. found.new.items ≡ take lacking.now.limit (found.old.items
+        ++ lacked_of (content_of S.Store conn.old) (number_of lacking.now.vector.now) number)) }
 {
     let Some(origin) = ReplicaNo::new(number) else {
         return Ok(());
     };
-    let held = vector.get(origin);
-    if own.covers(origin, held + 1) {
-        return push_behind(alloc, conn, found, origin, held, limit);
+    let held = lacking.vector.get(origin);
+    if lacking.own.covers(origin, held + 1) {
+        return push_behind(conn, found, origin, held, lacking.limit);
     }
     Ok(())
 }
@@ -120,12 +125,13 @@ pub fn records_since<S: Alter>(
     ensures { LeavesUnchanged (state S.Store conn.old) (state S.Store conn.new) result
         (λ v. v.items ≡ missing (content_of S.Store conn.old) (number_of vector.now) limit) }
 {
+    let lacking = Lacking { own, vector, limit };
     let mut found = Vec::new(alloc);
     for number in 1..65u8 {
         if found.len() >= limit {
             return Ok(found);
         }
-        push_lacked(alloc, conn, &mut found, number, own, vector, limit)?;
+        push_lacked(conn, &mut found, number, &lacking)?;
     }
     Ok(found)
 }

@@ -14,40 +14,38 @@ ghost use Rattle.sql_reading.specs.Walking.{IsStartPlace, IsStoryRead, stretch, 
 ghost use Rattle.sql_tables.specs.Connections.{WhereClean, Sees, content_of};
 ghost use Rattle.sql_reading.specs.Connections.{content_within};
 
+use crate::asked::{Span, SpelledReading};
 use crate::lookahead::{Ahead, next_time, nothing_ahead, rows_to_ask, take_story};
 use crate::reads::Story;
 use crate::shown::{push_entries, push_value};
-use archive::{Direction, LogPlace, StoreFault};
+use archive::{LogPlace, StoreFault};
 use records::{Entry, Held, Moment, Record};
-use sql_tables::{RowTime, place_of};
+use sql_tables::place_of;
 use sqlite::{Alter, Connection};
 use stamp::Vector;
-use std::alloc::Global;
-use ua_binary::NodeId;
 
 /// Takes off the records of the first time that is held, and keeps those that a vector covers.
 fn covered_story<S: Alter>(
-    alloc: Global,
     conn: &mut Connection<S>,
     ahead: &mut Ahead,
-    node: &NodeId,
-    bytes: &[u8],
+    reading: &SpelledReading<'_>,
     time: Moment,
-    direction: Direction,
-    within: &Vector,
 ) -> Result<Vec<Record>, StoreFault>
     requires idles { WhereClean S.Store conn.old Idles }
     requires filled { WhereClean S.Store conn.old (Sees IsFilled) }
-    requires spelled { bytes.now ≡ node_id.canon node.now }
-    requires lawful { IsNodeId node.now }
+    requires spelled { reading.now.bytes.now ≡ node_id.canon reading.now.node.now }
+    requires lawful { IsNodeId reading.now.node.now }
     requires first { HasCleanDisk (state S.Store conn.old)
-        → HoldsFirst (content_of S.Store conn.old) node.now direction time ahead.old }
+        → HoldsFirst (content_of S.Store conn.old) reading.now.node.now reading.now.direction time
+        ahead.old }
     ensures { LeavesUnchanged (state S.Store conn.old) (state S.Store conn.new) result
-        (λ v. (v.items ≡ versions (content_within S.Store conn.old within.now) node.now time)
-        × HoldsNext (content_of S.Store conn.old) node.now direction time ahead.new) }
+        (λ v. (v.items ≡ versions (content_within S.Store conn.old reading.now.within.now)
+        reading.now.node.now time)
+        × HoldsNext (content_of S.Store conn.old) reading.now.node.now reading.now.direction time
+        ahead.new) }
 {
-    let mut records = take_story(alloc, conn, ahead, node, bytes, time, direction)?;
-    keep_covered(&mut records, within);
+    let mut records = take_story(conn, ahead, reading, time)?;
+    keep_covered(&mut records, reading.within);
     Ok(records)
 }
 
@@ -61,74 +59,70 @@ fn keep_covered(records: &mut Vec<Record>, within: &Vector)
 /// The first time of a node that is strictly beyond a place, and not beyond a far time, with the
 /// records that a vector covers. What is held ahead is then what stands beyond that time.
 fn next_story<S: Alter>(
-    alloc: Global,
     conn: &mut Connection<S>,
     ahead: &mut Ahead,
-    node: &NodeId,
-    bytes: &[u8],
-    place: &RowTime,
-    far: Moment,
-    direction: Direction,
+    reading: &SpelledReading<'_>,
+    span: Span,
     count: u16,
-    within: &Vector,
 ) -> Result<Option<Story>, StoreFault>
     requires idles { WhereClean S.Store conn.old Idles }
     requires filled { WhereClean S.Store conn.old (Sees IsFilled) }
-    requires spelled { bytes.now ≡ node_id.canon node.now }
-    requires lawful { IsNodeId node.now }
-    requires place { IsStartPlace direction place.now.pico }
+    requires spelled { reading.now.bytes.now ≡ node_id.canon reading.now.node.now }
+    requires lawful { IsNodeId reading.now.node.now }
+    requires place { IsStartPlace reading.now.direction span.start.pico }
     requires some { 0 < count }
     requires ahead { HasCleanDisk (state S.Store conn.old) → HoldsNext
-        (content_of S.Store conn.old) node.now direction (moment_of place.now) ahead.old }
+        (content_of S.Store conn.old) reading.now.node.now reading.now.direction
+        (moment_of span.start) ahead.old }
     ensures { LeavesUnchanged (state S.Store conn.old) (state S.Store conn.new) result
-        (λ o. IsStoryRead (content_of S.Store conn.old) node.now (number_of within.now) direction
-        (moment_of place.now) far o ahead.new.records.items ahead.new.ends) }
+        (λ o. IsStoryRead (content_of S.Store conn.old) reading.now.node.now
+        (number_of reading.now.within.now) reading.now.direction (moment_of span.start) span.far o
+        ahead.new.records.items ahead.new.ends) }
 {
-    let next = next_time(alloc, conn, ahead, node, bytes, place, direction, count)?;
+    let next = next_time(conn, ahead, reading, &span.start, count)?;
     let Some(time) = next else {
         return Ok(None);
     };
-    if direction.is_past(far, time) {
+    if reading.direction.is_past(span.far, time) {
         return Ok(None);
     }
-    let records = covered_story(alloc, conn, ahead, node, bytes, time, direction, within)?;
+    let records = covered_story(conn, ahead, reading, time)?;
     Ok(Some(Story { time, records }))
 }
 
 /// The first `limit` of a node's values beyond a place, up to a far time.
 pub(crate) fn values<S: Alter>(
-    alloc: Global,
     conn: &mut Connection<S>,
-    node: &NodeId,
-    bytes: &[u8],
-    start: RowTime,
-    far: Moment,
-    direction: Direction,
+    reading: &SpelledReading<'_>,
+    span: Span,
     limit: usize,
-    within: &Vector,
 ) -> Result<Vec<Held>, StoreFault>
     requires idles { WhereClean S.Store conn.old Idles }
     requires filled { WhereClean S.Store conn.old (Sees IsFilled) }
-    requires spelled { bytes.now ≡ node_id.canon node.now }
-    requires lawful { IsNodeId node.now }
-    requires place { IsStartPlace direction start.pico }
+    requires spelled { reading.now.bytes.now ≡ node_id.canon reading.now.node.now }
+    requires lawful { IsNodeId reading.now.node.now }
+    requires place { IsStartPlace reading.now.direction span.start.pico }
     ensures { LeavesUnchanged (state S.Store conn.old) (state S.Store conn.new) result
         (λ v. v.items ≡ take limit
-        (flat_map (values_at (content_within S.Store conn.old within.now) node.now)
-        (stretch direction (moment_of start) far (times (content_of S.Store conn.old) node.now)))) }
+        (flat_map
+        (values_at (content_within S.Store conn.old reading.now.within.now) reading.now.node.now)
+        (stretch reading.now.direction (moment_of span.start) span.far
+        (times (content_of S.Store conn.old) reading.now.node.now)))) }
 {
-    let mut found = Vec::new(alloc);
-    let mut ahead = nothing_ahead(alloc);
-    let mut place = start;
+    let mut found = Vec::new(reading.alloc);
+    let mut ahead = nothing_ahead(reading.alloc);
+    let mut place = span.start;
     for _ in 0..u64::MAX {
         if found.len() >= limit {
             found.truncate(limit);
             return Ok(found);
         }
         let count = rows_to_ask(found.len(), limit);
-        let next = next_story(
-            alloc, conn, &mut ahead, node, bytes, &place, far, direction, count, within,
-        )?;
+        let left = Span {
+            start: place,
+            far: span.far,
+        };
+        let next = next_story(conn, &mut ahead, reading, left, count)?;
         let Some(story) = next else {
             found.truncate(limit);
             return Ok(found);
@@ -142,45 +136,50 @@ pub(crate) fn values<S: Alter>(
 /// The first `limit` of a node's modifications beyond a place, up to a far time, that stand behind
 /// another place, where one is given.
 pub(crate) fn entries<S: Alter>(
-    alloc: Global,
     conn: &mut Connection<S>,
-    node: &NodeId,
-    bytes: &[u8],
-    start: RowTime,
-    far: Moment,
+    reading: &SpelledReading<'_>,
+    span: Span,
     after: &Option<LogPlace>,
-    direction: Direction,
     limit: usize,
-    within: &Vector,
 ) -> Result<Vec<Entry>, StoreFault>
     requires idles { WhereClean S.Store conn.old Idles }
     requires filled { WhereClean S.Store conn.old (Sees IsFilled) }
-    requires spelled { bytes.now ≡ node_id.canon node.now }
-    requires lawful { IsNodeId node.now }
-    requires place { IsStartPlace direction start.pico }
+    requires spelled { reading.now.bytes.now ≡ node_id.canon reading.now.node.now }
+    requires lawful { IsNodeId reading.now.node.now }
+    requires place { IsStartPlace reading.now.direction span.start.pico }
     ensures { LeavesUnchanged (state S.Store conn.old) (state S.Store conn.new) result
         (λ v. v.items ≡ take limit (flat_map
-        (entries_at (content_within S.Store conn.old within.now) node.now after.now direction)
-        (stretch direction (moment_of start) far (times (content_of S.Store conn.old) node.now)))) }
+        (entries_at (content_within S.Store conn.old reading.now.within.now) reading.now.node.now
+        after.now reading.now.direction)
+        (stretch reading.now.direction (moment_of span.start) span.far
+        (times (content_of S.Store conn.old) reading.now.node.now)))) }
 {
-    let mut found = Vec::new(alloc);
-    let mut ahead = nothing_ahead(alloc);
-    let mut place = start;
+    let mut found = Vec::new(reading.alloc);
+    let mut ahead = nothing_ahead(reading.alloc);
+    let mut place = span.start;
     for _ in 0..u64::MAX {
         if found.len() >= limit {
             found.truncate(limit);
             return Ok(found);
         }
         let count = rows_to_ask(found.len(), limit);
-        let next = next_story(
-            alloc, conn, &mut ahead, node, bytes, &place, far, direction, count, within,
-        )?;
+        let left = Span {
+            start: place,
+            far: span.far,
+        };
+        let next = next_story(conn, &mut ahead, reading, left, count)?;
         let Some(story) = next else {
             found.truncate(limit);
             return Ok(found);
         };
         place = place_of(story.time);
-        push_entries(alloc, &mut found, &story.records, direction, after)?;
+        push_entries(
+            reading.alloc,
+            &mut found,
+            &story.records,
+            reading.direction,
+            after,
+        )?;
     }
     Err(StoreFault::Refused)
 }

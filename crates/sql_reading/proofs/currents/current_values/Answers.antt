@@ -14,16 +14,17 @@ pub returns : goal.returns
 returns g c =
     let e = c.in_ok-rows.ensures in
     let db = (state g.S.Store c.args.conn.now).now.trees in
-    let s = c.args.start in
-    let d = c.args.direction in
+    let s = c.args.span.start in
+    let d = c.args.reading.now.direction in
     let rows = c.in_ok-rows.rows.items in
     let limit = as_count (Int c.stretch_of-along.result.count) in
     record {
       answer = λ clean.
           let before : HasCleanDisk (state g.S.Store c.args.conn.now) =
           omega (arith, e.crash.clean, clean) in
-          let page : AreNextCurrents d c.args.bytes.now s.ticks s.pico (ticks_of c.args.far)
-          (pos (pico_of c.args.far)) limit (map current_columns (db 4)) rows =
+          let page : AreNextCurrents d c.args.reading.now.bytes.now s.ticks s.pico
+          (ticks_of c.args.span.far)
+          (pos (pico_of c.args.span.far)) limit (map current_columns (db 4)) rows =
           rw (
             c.stretch_of-along.ensures.near.0,
             c.stretch_of-along.ensures.near.1,
@@ -31,7 +32,8 @@ returns g c =
             c.stretch_of-along.ensures.far.1,
           ) at
           (e.answer clean) in
-          let items = currents_found d db c.args.node.now c.args.bytes.now s.ticks s.pico c.args.far
+          let items = currents_found d db c.args.reading.now.node.now c.args.reading.now.bytes.now
+          s.ticks s.pico c.args.span.far
           limit rows c.in_ok-found.found.items (c.requires.filled before)
           (c.requires.kept before) c.requires.lawful c.requires.spelled c.requires.place page
           (c.in_ok-found.ensures ∙ ap (flat_map helds_in) c.deref.ensures.value) in

@@ -11,8 +11,8 @@ returns g c =
     let e = c.in_ok-fill.ensures in
     let db = (state g.S.Store c.args.conn.now).now.trees in
     let R = content_in db in
-    let node = c.args.node.now in
-    let d = c.args.direction in
+    let node = c.args.reading.now.node.now in
+    let d = c.args.reading.now.direction in
     let place = moment_at c.args.place.now.ticks c.args.place.now.pico in
     let held = c.fill.new.ahead in
     record {

@@ -15,23 +15,24 @@ returns g c =
     let e = c.in_ok-rows.ensures in
     let db = (state g.S.Store c.args.conn.now).now.trees in
     let p = c.args.place.now in
-    let d = c.args.direction in
+    let d = c.args.reading.now.direction in
     let rows = c.in_ok-rows.rows.items in
     record {
       answer = λ clean.
-          let page : AreNextRows d c.args.bytes.now p.ticks p.pico
+          let page : AreNextRows d c.args.reading.now.bytes.now p.ticks p.pico
           (as_count (Int (pos c.args.count))) (cells (db 1)) rows =
           rw (
             c.rows_beyond-next.ensures.ticks,
             c.rows_beyond-next.ensures.pico,
             c.rows_beyond-next.ensures.count,
           ) at (e.answer clean) in
-          let items = rows_found d db c.args.node.now c.args.bytes.now p.ticks p.pico
+          let items = rows_found d db c.args.reading.now.node.now c.args.reading.now.bytes.now
+          p.ticks p.pico
           (Some c.args.count) rows c.in_ok-records.records.items
           (c.requires.filled (omega (arith, e.crash.clean, clean))) c.requires.lawful
           c.requires.spelled c.requires.place page
           (c.in_ok-records.ensures.read ∙ ap (flat_map records_in) c.deref.ensures.value) in
-          read_ahead_is (records_beyond (content_in db) c.args.node.now d
+          read_ahead_is (records_beyond (content_in db) c.args.reading.now.node.now d
           (moment_at p.ticks p.pico)) c.from-2.result.items c.args.count
           (nat_lt c.len.result c.from.result) (c.from-2.ensures.0 ∙ items) c.requires.some
           (ap₂ nat_lt (c.len.ensures ∙ (c.in_ok-records.records.ok.0

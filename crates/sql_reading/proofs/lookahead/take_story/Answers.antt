@@ -17,7 +17,8 @@ returns-then-is_used_up g c =
     (λ clean v is. (
       is,
       nothing_held (records_beyond
-          (content_in a.now.trees) c.args.node.now c.args.direction c.args.time) left ends
+          (content_in a.now.trees) c.args.reading.now.node.now c.args.reading.now.direction
+          c.args.time) left ends
           (sym c.is_used_up.ensures ∙ c.if-is_used_up.true),
     )) c.story_at.ensures
 
@@ -25,16 +26,16 @@ pub returns : goal.returns
 returns g c =
     let a = state g.S.Store c.args.conn.now in
     let R = content_in a.now.trees in
-    let d = c.args.direction in
+    let d = c.args.reading.now.direction in
     let held = c.args.ahead.now in
     asked_nothing a c.turn.new.records _ c.requires.idles
     (λ clean.
-    let told = story_taken R c.args.node.now d c.args.time held.records.items
+    let told = story_taken R c.args.reading.now.node.now d c.args.time held.records.items
     c.in_ok-taken.taken.items c.take_time.new.records.items held.ends
     (stamps_apart a.now.trees (c.requires.filled clean))
     (c.requires.first clean) c.in_ok-taken.ensures.value
     (sym c.is_used_up.ensures ∙ c.if-is_used_up.false) in (
       c.turn.ensures ∙ (ap (in_direction d) told.0
-          ∙ turned_back d (versions R c.args.node.now c.args.time)),
+          ∙ turned_back d (versions R c.args.reading.now.node.now c.args.time)),
       told.1,
     ))

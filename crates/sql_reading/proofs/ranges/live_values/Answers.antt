@@ -14,14 +14,15 @@ returns-then-at_least g c =
     let a = state g.S.Store c.args.conn.now in
     let b = state g.S.Store c.current_values.new.conn in
     let R = content_in a.now.trees in
-    let v = number_of c.args.within.now in
-    let s = c.args.start in
+    let v = number_of c.args.reading.now.within.now in
+    let s = c.args.span.start in
     let covers : (o : ℕ) → number_of c.args.latest.now o ≤ v o =
     c.at_least.ensures.0 c.if-at_least.true in
     asked_as a b c.current_values.result _ _
     (λ clean w is. subst (λ S. w.items
-    ≡ take c.args.limit (flat_map (values_at S c.args.node.now)
-    (stretch c.args.direction (moment_at s.ticks s.pico) c.args.far (times R c.args.node.now))))
+    ≡ take c.args.limit (flat_map (values_at S c.args.reading.now.node.now)
+    (stretch c.args.reading.now.direction (moment_at s.ticks s.pico) c.args.span.far
+    (times R c.args.reading.now.node.now))))
     (sym (cut_all R v (λ o. let last =
     c.requires.latest (omega (arith, c.current_values.ensures.crash.clean, clean)) o in
     omega (arith, last, covers o)))) is) c.current_values.ensures

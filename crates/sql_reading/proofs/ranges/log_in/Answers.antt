@@ -13,14 +13,15 @@ returns-in-Some g c =
     let a = state g.S.Store c.args.conn.now in
     let b = state g.S.Store c.entries.new.conn in
     let s = c.span_of-span.result in
-    let ends = c.ends_behind-near.result in
-    let cut_off = cut (content_in a.now.trees) (number_of c.args.within.now) in
+    let ends = c.ends_behind-ends.result in
+    let cut_off = cut (content_in a.now.trees) (number_of c.args.reading.now.within.now) in
     asked_as a b c.entries.result _ _
     (λ clean v is. is ∙ ap (take c.args.limit) (sym
-    (log_as cut_off c.args.node.now c.args.direction c.args.after.now c.args.from c.args.to
-    ends.0 ends.1 c.ends_behind-near.ensures
-    ∙ log_found (content_in a.now.trees) c.args.node.now
-    (number_of c.args.within.now) c.args.direction ends.0 ends.1
+    (log_as cut_off c.args.reading.now.node.now c.args.reading.now.direction c.args.after.now
+    c.args.between.from c.args.between.to
+    ends.from ends.to c.ends_behind-ends.ensures
+    ∙ log_found (content_in a.now.trees) c.args.reading.now.node.now
+    (number_of c.args.reading.now.within.now) c.args.reading.now.direction ends.from ends.to
     (moment_at s.start.ticks s.start.pico) s.far c.args.after.now c.span_of-span.ensures.span)))
     c.entries.ensures
 
@@ -30,7 +31,8 @@ returns-in-None g c =
     asked_nothing a _ _ c.requires.idles
     (λ clean. c.new.ensures.items ∙ (take_nothing c.args.limit
     ∙ ap (take c.args.limit) (sym
-    (no_log (content_in a.now.trees) c.args.node.now
-    (number_of c.args.within.now) c.args.direction c.args.from c.args.to c.args.after.now
-    (no_times a.now.trees c.args.node.now (c.requires.filled clean)
+    (no_log (content_in a.now.trees) c.args.reading.now.node.now
+    (number_of c.args.reading.now.within.now) c.args.reading.now.direction c.args.between.from
+    c.args.between.to c.args.after.now
+    (no_times a.now.trees c.args.reading.now.node.now (c.requires.filled clean)
     (c.in_ok-bytes.ensures.long c.in-None.is))))))

@@ -10,7 +10,7 @@ pub returns-in-None : goal.returns-in-None
 returns-in-None g c =
     let a = state g.S.Store c.args.conn.now in
     asked_nothing a None _ c.requires.idles (λ clean.
-    sym (no_outside (content_in a.now.trees) c.args.node.now
-    (number_of c.args.within.now) c.args.direction c.args.time
-    (no_times a.now.trees c.args.node.now (c.requires.filled clean)
+    sym (no_outside (content_in a.now.trees) c.args.reading.now.node.now
+    (number_of c.args.reading.now.within.now) c.args.reading.now.direction c.args.time
+    (no_times a.now.trees c.args.reading.now.node.now (c.requires.filled clean)
     (c.in_ok-bytes.ensures.long c.in-None.is))))

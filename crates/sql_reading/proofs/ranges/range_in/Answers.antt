@@ -14,8 +14,9 @@ returns-in-Some g c =
     let s = c.span_of-span.result in
     asked_as a b c.live_values.result _ _
     (λ clean v is. is ∙ ap (take c.args.limit) (sym
-    (range_found (content_in a.now.trees) c.args.node.now
-    (number_of c.args.within.now) c.args.direction c.args.from c.args.to
+    (range_found (content_in a.now.trees) c.args.reading.now.node.now
+    (number_of c.args.reading.now.within.now) c.args.reading.now.direction c.args.between.from
+    c.args.between.to
     (moment_at s.start.ticks s.start.pico) s.far c.span_of-span.ensures.span)))
     c.live_values.ensures
 
@@ -25,7 +26,8 @@ returns-in-None g c =
     asked_nothing a _ _ c.requires.idles
     (λ clean. c.new.ensures.items ∙ (take_nothing c.args.limit
     ∙ ap (take c.args.limit) (sym
-    (no_range (content_in a.now.trees) c.args.node.now
-    (number_of c.args.within.now) c.args.direction c.args.from c.args.to
-    (no_times a.now.trees c.args.node.now (c.requires.filled clean)
+    (no_range (content_in a.now.trees) c.args.reading.now.node.now
+    (number_of c.args.reading.now.within.now) c.args.reading.now.direction c.args.between.from
+    c.args.between.to
+    (no_times a.now.trees c.args.reading.now.node.now (c.requires.filled clean)
     (c.in_ok-bytes.ensures.long c.in-None.is))))))

@@ -12,23 +12,25 @@ returns-then-covers g c =
     let a = state g.S.Store c.args.conn.now in
     let b = state g.S.Store c.push_behind.new.conn in
     asked_as a b c.push_behind.result _ _
-    (λ clean told is. is ∙ ap (λ l. take c.args.limit (c.args.found.now.items ++ l))
+    (λ clean told is. is ∙ ap (λ l. take c.args.lacking.now.limit (c.args.found.now.items ++ l))
     (behind_lacked (content_in a.now.trees)
-    (number_of c.args.vector.now) c.in-Some.origin c.get-held.result c.get-held.ensures.number
-    ∙ ap (lacked_of (content_in a.now.trees) (number_of c.args.vector.now))
+    (number_of c.args.lacking.now.vector.now) c.in-Some.origin c.get-held.result
+    c.get-held.ensures.number
+    ∙ ap (lacked_of (content_in a.now.trees) (number_of c.args.lacking.now.vector.now))
     c.in-Some.ensures.0))
     c.push_behind.ensures
 
 pub returns : goal.returns
 returns g c =
     let a = state g.S.Store c.args.conn.now in
-    let v = number_of c.args.vector.now in
-    let no : c.get-held.result + 1 ≤ number_of c.args.own.now c.in-Some.origin → ⊥ = search rules in
+    let v = number_of c.args.lacking.now.vector.now in
+    let no : c.get-held.result + 1 ≤ number_of c.args.lacking.now.own.now c.in-Some.origin → ⊥ =
+    search rules in
     asked_nothing a _ _ c.requires.idles
     (λ clean.
-    nothing_pushed c.args.limit c.args.found.now.items
+    nothing_pushed c.args.lacking.now.limit c.args.found.now.items
     (lacked_of (content_in a.now.trees) v c.args.number) c.requires.room
     (none_lacked (content_in a.now.trees) v c.args.number
     (not_behind (content_in a.now.trees)
-    (number_of c.args.own.now) v c.args.number c.in-Some.origin c.get-held.result
+    (number_of c.args.lacking.now.own.now) v c.args.number c.in-Some.origin c.get-held.result
     (c.requires.own clean) c.in-Some.ensures.0 c.get-held.ensures.number no)))

@@ -10,8 +10,9 @@ returns g c =
     record {
       answer = λ clean.
           let told = e.answer clean in (
-            covered_found (state g.S.Store c.args.conn.now).now.trees c.args.node.now c.args.time
-                (number_of c.args.within.now) c.in_ok-records.records.items
+            covered_found (state g.S.Store c.args.conn.now).now.trees c.args.reading.now.node.now
+                c.args.time
+                (number_of c.args.reading.now.within.now) c.in_ok-records.records.items
                 c.keep_covered.new.records.items (c.requires.filled
                 (omega (arith, e.crash.clean, clean))) told.0 c.keep_covered.ensures,
             told.1,

@@ -19,11 +19,13 @@ items_of v = v.items
 pub loop-init : goal.loop-init
 loop-init g c = (
   walked_start (λ rs.
-      filter (follows c.args.direction c.args.after.now)
-      (in_direction c.args.direction (reverse (entries_after None rs)))) c.args.node.now
-      (number_of c.args.within.now) c.args.direction
-      (moment_at c.args.start.ticks c.args.start.pico) c.args.far (state g.S.Store c.args.conn.now)
-      (moment_at c.args.start.ticks c.args.start.pico) c.new-found.result.items
+      filter (follows c.args.reading.now.direction c.args.after.now)
+      (in_direction c.args.reading.now.direction (reverse (entries_after None rs))))
+      c.args.reading.now.node.now
+      (number_of c.args.reading.now.within.now) c.args.reading.now.direction
+      (moment_at c.args.span.start.ticks c.args.span.start.pico) c.args.span.far
+      (state g.S.Store c.args.conn.now)
+      (moment_at c.args.span.start.ticks c.args.span.start.pico) c.new-found.result.items
       c.nothing_ahead-ahead.result.records.items c.nothing_ahead-ahead.result.ends c.requires.idles
       refl c.new-found.ensures.items c.nothing_ahead-ahead.ensures.records
       c.nothing_ahead-ahead.ensures.ends,
@@ -35,10 +37,11 @@ returns-then-len-limit g c =
     let a = state g.S.Store c.args.conn.now in
     let b = state g.S.Store c.loop.conn in
     let reached : c.args.limit ≤ length c.loop.found.items = omega (arith, c.loop.found.ok.0) in
-    walked_enough (λ rs. filter (follows c.args.direction c.args.after.now)
-    (in_direction c.args.direction (reverse (entries_after None rs)))) c.args.node.now
-    (number_of c.args.within.now) c.args.direction
-    (moment_at c.args.start.ticks c.args.start.pico) c.args.far items_of a b
+    walked_enough (λ rs. filter (follows c.args.reading.now.direction c.args.after.now)
+    (in_direction c.args.reading.now.direction (reverse (entries_after None rs))))
+    c.args.reading.now.node.now
+    (number_of c.args.reading.now.within.now) c.args.reading.now.direction
+    (moment_at c.args.span.start.ticks c.args.span.start.pico) c.args.span.far items_of a b
     (moment_at c.loop.place.ticks c.loop.place.pico) c.loop.found.items
     c.loop.ahead.records.items c.loop.ahead.ends c.args.limit c.truncate.new.self
     c.loop.invariant.0 reached c.truncate.ensures.items
@@ -56,10 +59,12 @@ next_story-requires-clause-place g c = c.loop.invariant.1
 
 pub next_story-requires-clause-ahead : goal.next_story-requires-clause-ahead
 next_story-requires-clause-ahead g c clean =
-    ahead_still (λ rs. filter (follows c.args.direction c.args.after.now)
-    (in_direction c.args.direction (reverse (entries_after None rs)))) c.args.node.now
-    (number_of c.args.within.now) c.args.direction
-    (moment_at c.args.start.ticks c.args.start.pico) c.args.far (state g.S.Store c.args.conn.now)
+    ahead_still (λ rs. filter (follows c.args.reading.now.direction c.args.after.now)
+    (in_direction c.args.reading.now.direction (reverse (entries_after None rs))))
+    c.args.reading.now.node.now
+    (number_of c.args.reading.now.within.now) c.args.reading.now.direction
+    (moment_at c.args.span.start.ticks c.args.span.start.pico) c.args.span.far
+    (state g.S.Store c.args.conn.now)
     (state g.S.Store c.loop.conn) (moment_at c.loop.place.ticks c.loop.place.pico)
     c.loop.found.items c.loop.ahead.records.items c.loop.ahead.ends c.loop.invariant.0 clean
 
@@ -70,25 +75,28 @@ returns-in_err-next g c =
     let d = state g.S.Store c.next_story.new.conn in
     let P : Vec Entry Global → Type 0 =
     λ x. x.items ≡ take c.args.limit (beyond
-    (λ rs. filter (follows c.args.direction c.args.after.now)
-    (in_direction c.args.direction (reverse (entries_after None rs)))) c.args.node.now
-    (number_of c.args.within.now) c.args.direction
-    (moment_at c.args.start.ticks c.args.start.pico) c.args.far a.now.trees
-    (moment_at c.args.start.ticks c.args.start.pico)) in
+    (λ rs. filter (follows c.args.reading.now.direction c.args.after.now)
+    (in_direction c.args.reading.now.direction (reverse (entries_after None rs))))
+    c.args.reading.now.node.now
+    (number_of c.args.reading.now.within.now) c.args.reading.now.direction
+    (moment_at c.args.span.start.ticks c.args.span.start.pico) c.args.span.far a.now.trees
+    (moment_at c.args.span.start.ticks c.args.span.start.pico)) in
     let told : c.from_residual.result ≡ Err c.in_err-next.field-0.0 = search rules in
     subst (λ r. LeavesUnchanged a d r P) (sym told)
     (passed_err a b d c.in_err-next.field-0.0 (Told
-    (λ rs. filter (follows c.args.direction c.args.after.now)
-    (in_direction c.args.direction (reverse (entries_after None rs)))) c.args.node.now
-    (number_of c.args.within.now) c.args.direction
-    (moment_at c.args.start.ticks c.args.start.pico) c.args.far b
+    (λ rs. filter (follows c.args.reading.now.direction c.args.after.now)
+    (in_direction c.args.reading.now.direction (reverse (entries_after None rs))))
+    c.args.reading.now.node.now
+    (number_of c.args.reading.now.within.now) c.args.reading.now.direction
+    (moment_at c.args.span.start.ticks c.args.span.start.pico) c.args.span.far b
     (moment_at c.loop.place.ticks c.loop.place.pico) c.next_story.new.ahead.records.items
     c.next_story.new.ahead.ends) P c.loop.invariant.0.passed
     (subst (λ r. LeavesUnchanged b d r (Told
-    (λ rs. filter (follows c.args.direction c.args.after.now)
-    (in_direction c.args.direction (reverse (entries_after None rs)))) c.args.node.now
-    (number_of c.args.within.now) c.args.direction
-    (moment_at c.args.start.ticks c.args.start.pico) c.args.far b
+    (λ rs. filter (follows c.args.reading.now.direction c.args.after.now)
+    (in_direction c.args.reading.now.direction (reverse (entries_after None rs))))
+    c.args.reading.now.node.now
+    (number_of c.args.reading.now.within.now) c.args.reading.now.direction
+    (moment_at c.args.span.start.ticks c.args.span.start.pico) c.args.span.far b
     (moment_at c.loop.place.ticks c.loop.place.pico) c.next_story.new.ahead.records.items
     c.next_story.new.ahead.ends)) c.in_err-next.was c.next_story.ensures))
 
@@ -98,16 +106,18 @@ returns-in_default g c =
     let b = state g.S.Store c.loop.conn in
     let d = state g.S.Store c.next_story.new.conn in
     let e = subst (λ o. LeavesUnchanged b d (Ok o)
-    (Told (λ rs. filter (follows c.args.direction c.args.after.now)
-    (in_direction c.args.direction (reverse (entries_after None rs)))) c.args.node.now
-    (number_of c.args.within.now) c.args.direction
-    (moment_at c.args.start.ticks c.args.start.pico) c.args.far b
+    (Told (λ rs. filter (follows c.args.reading.now.direction c.args.after.now)
+    (in_direction c.args.reading.now.direction (reverse (entries_after None rs))))
+    c.args.reading.now.node.now
+    (number_of c.args.reading.now.within.now) c.args.reading.now.direction
+    (moment_at c.args.span.start.ticks c.args.span.start.pico) c.args.span.far b
     (moment_at c.loop.place.ticks c.loop.place.pico) c.next_story.new.ahead.records.items
     c.next_story.new.ahead.ends)) c.in_default.is c.in_ok-next.ensures in
-    walked_ends (λ rs. filter (follows c.args.direction c.args.after.now)
-    (in_direction c.args.direction (reverse (entries_after None rs)))) c.args.node.now
-    (number_of c.args.within.now) c.args.direction
-    (moment_at c.args.start.ticks c.args.start.pico) c.args.far items_of a b d
+    walked_ends (λ rs. filter (follows c.args.reading.now.direction c.args.after.now)
+    (in_direction c.args.reading.now.direction (reverse (entries_after None rs))))
+    c.args.reading.now.node.now
+    (number_of c.args.reading.now.within.now) c.args.reading.now.direction
+    (moment_at c.args.span.start.ticks c.args.span.start.pico) c.args.span.far items_of a b d
     (moment_at c.loop.place.ticks c.loop.place.pico) c.loop.found.items
     c.loop.ahead.records.items c.next_story.new.ahead.records.items c.loop.ahead.ends
     c.next_story.new.ahead.ends c.args.limit c.truncate-in_default.new.self c.loop.invariant.0 e
@@ -120,25 +130,28 @@ returns-in_err-push_entries g c =
     let d = state g.S.Store c.next_story.new.conn in
     let P : Vec Entry Global → Type 0 =
     λ x. x.items ≡ take c.args.limit (beyond
-    (λ rs. filter (follows c.args.direction c.args.after.now)
-    (in_direction c.args.direction (reverse (entries_after None rs)))) c.args.node.now
-    (number_of c.args.within.now) c.args.direction
-    (moment_at c.args.start.ticks c.args.start.pico) c.args.far a.now.trees
-    (moment_at c.args.start.ticks c.args.start.pico)) in
+    (λ rs. filter (follows c.args.reading.now.direction c.args.after.now)
+    (in_direction c.args.reading.now.direction (reverse (entries_after None rs))))
+    c.args.reading.now.node.now
+    (number_of c.args.reading.now.within.now) c.args.reading.now.direction
+    (moment_at c.args.span.start.ticks c.args.span.start.pico) c.args.span.far a.now.trees
+    (moment_at c.args.span.start.ticks c.args.span.start.pico)) in
     let told : c.from_residual-in_err-push_entries.result ≡ Err c.in_err-push_entries.field-0.0 =
     search rules in
     let passed = passed_ok b d (Some c.in-Some.story)
-    (Told (λ rs. filter (follows c.args.direction c.args.after.now)
-    (in_direction c.args.direction (reverse (entries_after None rs)))) c.args.node.now
-    (number_of c.args.within.now) c.args.direction
-    (moment_at c.args.start.ticks c.args.start.pico) c.args.far b
+    (Told (λ rs. filter (follows c.args.reading.now.direction c.args.after.now)
+    (in_direction c.args.reading.now.direction (reverse (entries_after None rs))))
+    c.args.reading.now.node.now
+    (number_of c.args.reading.now.within.now) c.args.reading.now.direction
+    (moment_at c.args.span.start.ticks c.args.span.start.pico) c.args.span.far b
     (moment_at c.loop.place.ticks c.loop.place.pico) c.next_story.new.ahead.records.items
     c.next_story.new.ahead.ends) (subst
     (λ o. LeavesUnchanged b d (Ok o) (Told
-    (λ rs. filter (follows c.args.direction c.args.after.now)
-    (in_direction c.args.direction (reverse (entries_after None rs)))) c.args.node.now
-    (number_of c.args.within.now) c.args.direction
-    (moment_at c.args.start.ticks c.args.start.pico) c.args.far b
+    (λ rs. filter (follows c.args.reading.now.direction c.args.after.now)
+    (in_direction c.args.reading.now.direction (reverse (entries_after None rs))))
+    c.args.reading.now.node.now
+    (number_of c.args.reading.now.within.now) c.args.reading.now.direction
+    (moment_at c.args.span.start.ticks c.args.span.start.pico) c.args.span.far b
     (moment_at c.loop.place.ticks c.loop.place.pico) c.next_story.new.ahead.records.items
     c.next_story.new.ahead.ends)) c.in-Some.is c.in_ok-next.ensures) in
     subst (λ r. LeavesUnchanged a d r P) (sym told)
@@ -152,17 +165,19 @@ loop-preserved g c =
     let b = state g.S.Store c.loop.conn in
     let d = state g.S.Store c.next_story.new.conn in
     let e = subst (λ o. LeavesUnchanged b d (Ok o)
-    (Told (λ rs. filter (follows c.args.direction c.args.after.now)
-    (in_direction c.args.direction (reverse (entries_after None rs)))) c.args.node.now
-    (number_of c.args.within.now) c.args.direction
-    (moment_at c.args.start.ticks c.args.start.pico) c.args.far b
+    (Told (λ rs. filter (follows c.args.reading.now.direction c.args.after.now)
+    (in_direction c.args.reading.now.direction (reverse (entries_after None rs))))
+    c.args.reading.now.node.now
+    (number_of c.args.reading.now.within.now) c.args.reading.now.direction
+    (moment_at c.args.span.start.ticks c.args.span.start.pico) c.args.span.far b
     (moment_at c.loop.place.ticks c.loop.place.pico) c.next_story.new.ahead.records.items
     c.next_story.new.ahead.ends)) c.in-Some.is c.in_ok-next.ensures in
     let p = c.place_of-place.ensures in (
-      walked_on (λ rs. filter (follows c.args.direction c.args.after.now)
-          (in_direction c.args.direction (reverse (entries_after None rs)))) c.args.node.now
-          (number_of c.args.within.now) c.args.direction
-          (moment_at c.args.start.ticks c.args.start.pico) c.args.far a b d
+      walked_on (λ rs. filter (follows c.args.reading.now.direction c.args.after.now)
+          (in_direction c.args.reading.now.direction (reverse (entries_after None rs))))
+          c.args.reading.now.node.now
+          (number_of c.args.reading.now.within.now) c.args.reading.now.direction
+          (moment_at c.args.span.start.ticks c.args.span.start.pico) c.args.span.far a b d
           (moment_at c.loop.place.ticks c.loop.place.pico)
           (moment_at c.place_of-place.result.ticks c.place_of-place.result.pico) c.loop.found.items
           c.push_entries.new.found.items c.loop.ahead.records.items
@@ -172,10 +187,10 @@ loop-preserved g c =
           c.place_of-place.result.pico p.0 p.1)
           (c.in_ok-push_entries.ensures.value
           ∙ ap (λ rs. c.loop.found.items
-          ++ filter (follows c.args.direction c.args.after.now)
-          (in_direction c.args.direction (reverse (entries_after None rs))))
+          ++ filter (follows c.args.reading.now.direction c.args.after.now)
+          (in_direction c.args.reading.now.direction (reverse (entries_after None rs))))
           c.deref.ensures.value),
-      is_place c.args.direction c.in-Some.story.time c.place_of-place.result.pico p.1,
+      is_place c.args.reading.now.direction c.in-Some.story.time c.place_of-place.result.pico p.1,
     )
 
 pub returns : goal.returns

@@ -10,9 +10,10 @@ use Rattle.sql_reading.proofs.walking.entries.Given as goal
 
 abbrev pub invariant-loop : goal.invariant-loop
 invariant-loop g l =
-    Walked (λ rs. filter (follows l.direction l.after)
-    (in_direction l.direction (reverse (entries_after None rs)))) l.node
-    (number_of l.within) l.direction (moment_at l.fn.start.ticks l.fn.start.pico) l.far
+    Walked (λ rs. filter (follows l.reading.direction l.after)
+    (in_direction l.reading.direction (reverse (entries_after None rs)))) l.reading.node.now
+    (number_of l.reading.within.now) l.reading.direction
+    (moment_at l.fn.span.start.ticks l.fn.span.start.pico) l.fn.span.far
     (state g.S.Store l.fn.conn) (state g.S.Store l.conn)
     (moment_at l.place.ticks l.place.pico) l.found.items l.ahead.records.items l.ahead.ends
-    × IsStartPlace l.direction l.place.pico
+    × IsStartPlace l.reading.direction l.place.pico

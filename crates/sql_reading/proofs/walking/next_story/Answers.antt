@@ -16,12 +16,14 @@ returns-in_default g c =
     let b = state g.S.Store c.next_time.new.conn in
     let e = c.in_ok-next.ensures in
     let R = content_in a.now.trees in
-    let place = moment_at c.args.place.now.ticks c.args.place.now.pico in
+    let place = moment_at c.args.span.start.ticks c.args.span.start.pico in
     passed_told a b None _ (passed_ok a b c.in_ok-next.next _ e)
     (λ clean. (
-      no_story R c.args.node.now
-          (number_of c.args.within.now) c.args.direction place c.args.far
-          (subst (IsNextTime c.args.direction place (times R c.args.node.now)) c.in_default.is
+      no_story R c.args.reading.now.node.now
+          (number_of c.args.reading.now.within.now) c.args.reading.now.direction place
+          c.args.span.far
+          (subst (IsNextTime c.args.reading.now.direction place
+          (times R c.args.reading.now.node.now)) c.in_default.is
           (e.answer clean).0),
       tt,
     ))
@@ -32,12 +34,13 @@ returns-then-is_past g c =
     let b = state g.S.Store c.next_time.new.conn in
     let e = c.in_ok-next.ensures in
     let R = content_in a.now.trees in
-    let place = moment_at c.args.place.now.ticks c.args.place.now.pico in
+    let place = moment_at c.args.span.start.ticks c.args.span.start.pico in
     passed_told a b None _ (passed_ok a b c.in_ok-next.next _ e)
     (λ clean. (
-      stretch_stops c.args.direction place c.args.far c.in-Some.time
-          (times R c.args.node.now) (subst
-          (IsNextTime c.args.direction place (times R c.args.node.now)) c.in-Some.is
+      stretch_stops c.args.reading.now.direction place c.args.span.far c.in-Some.time
+          (times R c.args.reading.now.node.now) (subst
+          (IsNextTime c.args.reading.now.direction place (times R c.args.reading.now.node.now))
+          c.in-Some.is
           (e.answer clean).0) (sym c.is_past.ensures ∙ c.if-is_past.true),
       tt,
     ))
@@ -48,8 +51,8 @@ covered_story-requires-clause-first g c clean =
     let b = state g.S.Store c.next_time.new.conn in
     let e = c.in_ok-next.ensures in
     let held = c.next_time.new.ahead in
-    let d = c.args.direction in
-    let node = c.args.node.now in
+    let d = c.args.reading.now.direction in
+    let node = c.args.reading.now.node.now in
     subst (λ t. StandsFirst (content_in t) node d c.in-Some.time held.records.items held.ends)
     (sym (same_trees a b (passed_ok a b c.in_ok-next.next _ e) clean))
     (subst (λ o. IfSome o (λ time.
@@ -64,8 +67,8 @@ returns g c =
     let e = c.in_ok-next.ensures in
     let f = c.in_ok-records.ensures in
     let R = content_in a.now.trees in
-    let place = moment_at c.args.place.now.ticks c.args.place.now.pico in
-    let v = number_of c.args.within.now in
+    let place = moment_at c.args.span.start.ticks c.args.span.start.pico in
+    let v = number_of c.args.reading.now.within.now in
     let first = passed_ok a b c.in_ok-next.next _ e in
     let second = passed_ok b d c.in_ok-records.records _ f in
     passed_told a d (Some _) _ (passed_then a b d first second)
@@ -73,12 +76,16 @@ returns g c =
     let before = early b d second clean in
     let same = same_trees a b first before in
     let told = f.answer clean in (
-      next_story_is R c.args.node.now v c.args.direction place c.args.far c.in-Some.time
+      next_story_is R c.args.reading.now.node.now v c.args.reading.now.direction place
+          c.args.span.far c.in-Some.time
           c.in_ok-records.records.items (subst
-          (IsNextTime c.args.direction place (times R c.args.node.now)) c.in-Some.is
+          (IsNextTime c.args.reading.now.direction place (times R c.args.reading.now.node.now))
+          c.in-Some.is
           (e.answer before).0) (sym c.is_past.ensures ∙ c.if-is_past.false)
           (subst (λ t. c.in_ok-records.records.items
-          ≡ versions (cut (content_in t) v) c.args.node.now c.in-Some.time) same told.0),
-      subst (λ t. IsAhead (content_in t) c.args.node.now c.args.direction c.in-Some.time
+          ≡ versions (cut (content_in t) v) c.args.reading.now.node.now c.in-Some.time) same
+          told.0),
+      subst (λ t. IsAhead (content_in t) c.args.reading.now.node.now c.args.reading.now.direction
+          c.in-Some.time
           c.covered_story.new.ahead.records.items c.covered_story.new.ahead.ends) same told.1,
     ))
