@@ -98,34 +98,15 @@ pub(crate) fn are_asked(asked: &Column, who: &Column, value: &Column) -> bool
         && is_strict(value, b"value", Kind::Blob, true)
 }
 
-/// Whether these are the columns behind a record's name and tick.
-fn are_behind(
-    node: &Column,
-    time: &Column,
-    pico: &Column,
-    asked: &Column,
-    who: &Column,
-    value: &Column,
-) -> bool
-    ensures { IsTrue result
-        ↔
-        ((node.now ≡ strict (codes "node") Kind.Blob true)
-        × (time.now ≡ strict (codes "time") Kind.Integer true)
-        × (pico.now ≡ strict (codes "pico") Kind.Integer true)
-        × (asked.now ≡ strict (codes "asked") Kind.Integer true)
-        × (who.now ≡ strict (codes "who") Kind.Blob true)
-        × (value.now ≡ strict (codes "value") Kind.Blob true)) }
-{
-    are_placed(node, time, pico) && are_asked(asked, who, value)
-}
-
 /// Whether the columns are those of `records2`.
 fn are_columns_of_records(columns: &[Column]) -> bool
     ensures { IsTrue result ↔ (columns.now ≡ records2.columns) }
 {
     match columns {
         [origin, number, tick, node, time, pico, asked, who, value] => {
-            are_named(origin, number, tick) && are_behind(node, time, pico, asked, who, value)
+            are_named(origin, number, tick)
+                && are_placed(node, time, pico)
+                && are_asked(asked, who, value)
         }
         _ => false,
     }
