@@ -1,7 +1,7 @@
--- Before each long wait it was asked who comes, before each busy one something was done, and behind
--- each comes a round: the contract of `serve`.
+-- Before each wait it was asked who comes, before each busy one something was done, and behind each
+-- comes a round: the contract of `serve`.
 use Rattle.std.proofs.Common.{◌≡◌, ◌⊎◌, ℕ, ◌+◌, ◌<◌, ◌≤◌, Bool, true, false, List, [], ◌∷◌, ◌++◌, refl, sym, ◌∙◌, subst, ap, arith, inl, inr, cond}
-use Rattle.std.specs.Prelude.{Option, None, Some, IfSome, count_by, length, not, if◌then◌else◌}
+use Rattle.std.specs.Prelude.{Option, None, Some, IfSome, count_by, length, if◌then◌else◌}
 use Rattle.std.proofs.lemmas.Bool.{true≢false}
 use Rattle.std.proofs.lemmas.Option.{none-some, same_Some}
 use Rattle.std.proofs.lemmas.List.Sums.{sum_by-append, sum_by-cons}
@@ -12,7 +12,7 @@ use Rattle.multiplex.specs.Output.{Output}
 use Rattle.multiplex.specs.Behavior.{Behavior}
 use Rattle.multiplex.specs.Turns.{Loop, LoopTurn, Waits, Accepts, AcceptFails, AcceptsNobody, HasNoSlot, Calls, CallFails, CallsNobody, Steps, Closes, Rests, is_wait, count_waits, count_accepted, IsWait, AreTurns, TakesTurns}
 use Rattle.multiplex.specs.Rounds.{makes_progress, is_busy_wait, AreInRounds, happened_since, IsBusyBehindProgress, AreTurnsOf, AreComing}
-use Rattle.multiplex.specs.Serving.{is_long_wait, has_asked, AsksWhoComes, HasAsked}
+use Rattle.multiplex.specs.Serving.{has_asked, AsksWhoComes, HasAsked}
 use Rattle.multiplex.proofs.Rounding.{no_waits, no_accepted, until_first, round_of, rounds_more}
 use Rattle.multiplex.proofs.Turning.{join}
 
@@ -90,20 +90,6 @@ module _ {E : Type 0} where
   busy_waits (Closes k ending) none is = true≢false (sym is)
   busy_waits (Rests k) none is = true≢false (sym is)
 
-  -- a long wait is a wait
-  long_waits : (turn : LoopTurn E) → is_wait turn ≡ false → is_long_wait turn ≡ true → ⊥
-  long_waits (Waits busy now) none long = true≢false none
-  long_waits (Accepts k listener) none long = true≢false (sym long)
-  long_waits AcceptFails none long = true≢false (sym long)
-  long_waits AcceptsNobody none long = true≢false (sym long)
-  long_waits HasNoSlot none long = true≢false (sym long)
-  long_waits (Calls k made) none long = true≢false (sym long)
-  long_waits CallFails none long = true≢false (sym long)
-  long_waits CallsNobody none long = true≢false (sym long)
-  long_waits (Steps k step) none long = true≢false (sym long)
-  long_waits (Closes k ending) none long = true≢false (sym long)
-  long_waits (Rests k) none long = true≢false (sym long)
-
   -- no wait is among turns without a wait
   first_none : (turn : LoopTurn E) (turns : List (LoopTurn E)) → count_waits (turn ∷ turns) ≡ 0
       → is_wait turn ≡ false
@@ -120,7 +106,7 @@ module _ {E : Type 0} where
       → AsksWhoComes most accepted asked turns
   asks-none most accepted asked [] none = tt
   asks-none most accepted asked (turn ∷ turns) none = (
-    λ long. absurd (long_waits turn (first_none turn turns none) long),
+    λ waits. absurd (true≢false (sym waits ∙ first_none turn turns none)),
     asks-none most (accepted + count_accepted (turn ∷ []))
         (happened_since has_asked asked turn) turns
         (rest_none turn turns none),
@@ -172,8 +158,8 @@ module _ {S H R W V E : Type 0} (source : Effects S R W) (input : Input R) (outp
     pub rounds : AreInRounds (length old.slots) turns
     pub done : busy ≡ true → happened_after makes_progress true turns ≡ true
     pub asks : AsksWhoComes limits.connections 0 true turns
-    pub ready : (busy ≡ true) ⊎ ((happened_after has_asked true turns ≡ true) ⊎
-        (limits.connections ≡ Some accepted))
+    pub ready : (happened_after has_asked true turns ≡ true) ⊎
+        (limits.connections ≡ Some accepted)
 
   pub begun : (here : Loop S H R W V E) → SoFar 0 0 true here here
   begun here = record {
@@ -271,22 +257,19 @@ module _ {S H R W V E : Type 0} (source : Effects S R W) (input : Input R) (outp
             happened-join makes_progress true far.turns round
             ∙ happened-once makes_progress false tail count_tail some;
         asks = asks-join limits.connections 0 true far.turns round far.asks (
-          λ long. elim far.ready [
-            | inl working ↦ absurd (true≢false (sym long ∙ ap not working))
-            | inr known ↦ elim known [
-              | inl been ↦ inl been
-              | inr all ↦ inr (all ∙ ap (λ k. Some k) (sym accepted-so_far))
-            ]
+          λ waits. elim far.ready [
+            | inl been ↦ inl been
+            | inr all ↦ inr (all ∙ ap (λ k. Some k) (sym accepted-so_far))
           ],
           asks-none limits.connections (accepted_after 0 far.turns + count_accepted {E = E}
               (Waits busy now ∷ [])) false tail count_tail,
         );
         ready = elim asks.3 [
-          | inl all ↦ inr (inr (still_all limits.connections before more all step))
-          | inr some ↦ inr (inl (happened-join has_asked true far.turns round
+          | inl all ↦ inr (still_all limits.connections before more all step)
+          | inr some ↦ inl (happened-join has_asked true far.turns round
               ∙ happened-once has_asked false tail count_tail
               (let one : count_by has_asked tail ≡ count_by has_asked asks.0 + count_by has_asked
               (calls.0 ++ turns.0) = sum_by-append _ asks.0 (calls.0 ++ turns.0) in
-              omega (arith, one, some))))
+              omega (arith, one, some)))
         ];
       }

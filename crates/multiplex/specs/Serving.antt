@@ -1,5 +1,5 @@
 -- What a server does until it ends.
-use Rattle.std.specs.Prelude.{◌≡◌, ◌⊎◌, ℕ, ◌+◌, ◌≤◌, ◌<◌, Bool, true, false, not, List, [], ◌∷◌, length, count_by, All, Option, None, Some, IfSome}
+use Rattle.std.specs.Prelude.{◌≡◌, ◌⊎◌, ℕ, ◌+◌, ◌≤◌, ◌<◌, Bool, true, false, List, [], ◌∷◌, length, count_by, All, Option, None, Some, IfSome}
 use Rattle.multiplex.specs.declared.source.Call.{Call}
 use Rattle.multiplex.specs.declared.limits.Limits.{Limits}
 use Rattle.multiplex.specs.Effects.{Effects}
@@ -7,16 +7,12 @@ use Rattle.multiplex.specs.Input.{Input}
 use Rattle.multiplex.specs.Output.{Output}
 use Rattle.multiplex.specs.Behavior.{Behavior}
 use Rattle.multiplex.specs.Slots.{Slot, calling_slot}
-use Rattle.multiplex.specs.Turns.{Loop, state, LoopTurn, Waits, Accepts, AcceptFails, AcceptsNobody, HasNoSlot, count_waits, count_accepted, AreTurns, TakesTurns}
+use Rattle.multiplex.specs.Turns.{Loop, state, LoopTurn, Accepts, AcceptFails, AcceptsNobody, HasNoSlot, is_wait, count_waits, count_accepted, AreTurns, TakesTurns}
 use Rattle.multiplex.specs.Rounds.{AreInRounds, happened_since, AreComing}
 
 -- each slot is free
 abbrev pub AreAllFree : {X : Type 0} → List (Option X) → Type 0
 AreAllFree slots = All (λ slot. slot ≡ None) slots
-
--- it was waited until something is to be done
-abbrev pub is_long_wait : {E : Type 0} → LoopTurn E → Bool
-is_long_wait turn = elim turn [ Waits busy now ↦ not busy | _ ↦ false ]
 
 -- it was asked who comes, or no slot was free for one that comes
 abbrev pub has_asked : {E : Type 0} → LoopTurn E → Bool
@@ -28,12 +24,12 @@ has_asked turn = elim turn [
   | _ ↦ false
 ]
 
--- before each long wait it was asked since the wait before, unless all had come that were to
+-- before each wait it was asked since the wait before, unless all had come that were to
 abbrev pub AsksWhoComes : {E : Type 0} → (most : Option ℕ) → (accepted : ℕ) → (asked : Bool)
     → List (LoopTurn E) → Type 0
 AsksWhoComes most accepted asked [] = Unit {0}
 AsksWhoComes most accepted asked (turn ∷ turns) =
-    (is_long_wait turn ≡ true → (asked ≡ true) ⊎ (most ≡ Some accepted))
+    (is_wait turn ≡ true → (asked ≡ true) ⊎ (most ≡ Some accepted))
     × AsksWhoComes most (accepted + count_accepted (turn ∷ []))
     (happened_since has_asked asked turn) turns
 

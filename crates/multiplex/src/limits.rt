@@ -2,6 +2,8 @@
 
 ghost use Rattle.std.specs.Prelude.{◌≡◌};
 
+use std::alloc::Global;
+
 /// What a server takes at most.
 #[derive(Clone, Copy, Debug, PartialEq, Eq)]
 pub struct Limits {
@@ -36,6 +38,7 @@ impl Limits {
 /// What one round of turns goes by.
 #[derive(Clone, Copy)]
 pub(crate) struct Round {
+    pub(crate) alloc: Global,
     pub(crate) limits: Limits,
     /// Whether calls may begin: not once all connections are accepted and closed.
     pub(crate) may_call: bool,

@@ -53,7 +53,6 @@ fn is_done<X>(slots: &[Option<X>], accepted: u64, limits: Limits) -> bool
 /// Asks who comes; a connection gets this slot, which is free, and of one that failed the world is told. How many came,
 /// one or none.
 fn accept_at<S: Source, H: Handler>(
-    alloc: Global,
     source: &mut S,
     world: &mut H::World,
     slots: &mut [Option<Slot<H, S::Reader, S::Writer, H::End>>],
@@ -75,8 +74,8 @@ fn accept_at<S: Source, H: Handler>(
             reader,
             writer,
         } => {
-            let first = H::begin(alloc, listener);
-            let slot = Slot::new(first, reader, writer, Vec::new(alloc), round.now);
+            let first = H::begin(round.alloc, listener);
+            let slot = Slot::new(first, reader, writer, Vec::new(round.alloc), round.now);
             slots[place] = Some(slot);
             1
         }
@@ -91,7 +90,6 @@ fn accept_at<S: Source, H: Handler>(
 /// Asks who comes, where a slot is free and more are to be accepted; where none is, another connection may have to make
 /// place for the next one. How many came, one or none.
 fn accept_next<S: Source, H: Handler>(
-    alloc: Global,
     source: &mut S,
     world: &mut H::World,
     slots: &mut [Option<Slot<H, S::Reader, S::Writer, H::End>>],
@@ -109,7 +107,7 @@ fn accept_next<S: Source, H: Handler>(
         return 0;
     }
     match free_slot(slots, 0, round.limits.accept_slots) {
-        Some(place) => accept_at::<S, H>(alloc, source, world, slots, place, round),
+        Some(place) => accept_at::<S, H>(source, world, slots, place, round),
         None => {
             if source.is_coming() {
                 make_place::<S, H>(slots, round);
@@ -121,7 +119,6 @@ fn accept_next<S: Source, H: Handler>(
 
 /// Begins a call, where one is due.
 fn begin_call<S: Source, H: Handler>(
-    alloc: Global,
     source: &mut S,
     world: &mut H::World,
     place: usize,
@@ -131,8 +128,8 @@ fn begin_call<S: Source, H: Handler>(
         source.old world.old result source.new world.new }
 {
     let call = source.call(place, round.now)?;
-    let mut out = Vec::new(alloc);
-    match H::call(alloc, call.callee, world, &mut out) {
+    let mut out = Vec::new(round.alloc);
+    match H::call(round.alloc, call.callee, world, &mut out) {
         Some(first) => {
             let slot = Slot::new(first, call.reader, call.writer, out, round.now);
             Some(slot.calling(call.callee))
@@ -152,7 +149,6 @@ fn is_open<X>(slots: &[Option<X>], accepted: u64, limits: Limits) -> bool {
 
 /// Begins a call that is due, where a slot behind those for accepted connections is free.
 fn call_next<S: Source, H: Handler>(
-    alloc: Global,
     source: &mut S,
     world: &mut H::World,
     slots: &mut [Option<Slot<H, S::Reader, S::Writer, H::End>>],
@@ -167,7 +163,7 @@ fn call_next<S: Source, H: Handler>(
         return;
     }
     if let Some(place) = free_slot(slots, round.limits.accept_slots, slots.len()) {
-        if let Some(slot) = begin_call::<S, H>(alloc, source, world, place, round) {
+        if let Some(slot) = begin_call::<S, H>(source, world, place, round) {
             slots[place] = Some(slot);
         }
     }
@@ -202,12 +198,13 @@ pub fn serve<S: Source, H: Handler>(
         let now = source.wait(busy);
         let may_call = is_open(slots, accepted, limits);
         let round = Round {
+            alloc,
             limits,
             may_call,
             now,
         };
-        accepted += accept_next::<S, H>(alloc, source, world, slots, accepted, round);
-        call_next::<S, H>(alloc, source, world, slots, round);
+        accepted += accept_next::<S, H>(source, world, slots, accepted, round);
+        call_next::<S, H>(source, world, slots, round);
         busy = serve_round::<S, H>(source, world, slots, round, &mut longest_turn);
     }
     ServeReport {

@@ -1,7 +1,7 @@
 //! Clients of a script, and what each of them reads.
 
 use crate::scripts::{Client, PLAIN, Played, play};
-use multiplex::Limits;
+use multiplex::{Limits, SlotEnd};
 use std::alloc::{AllocError, Global};
 use std::test::Fail;
 
@@ -131,8 +131,9 @@ fn a_connection_breaks_at_each_byte(rt: HostRuntime) -> Result<(), Fail> {
     Ok(())
 }
 
-/// A script, its limits, and what comes of it: whether it is done, what each client that was closed had read in which
-/// slot, in the order of closing, and what the world is then.
+/// A script, its limits, and what comes of it: whether it is done; what each client that was closed had read in which
+/// slot, and the listener and the end that its handler was told, in the order of closing; which lines were answered, and
+/// when connections failed.
 struct Row {
     clients: &'static [Client],
     limits: Limits,
@@ -140,10 +141,12 @@ struct Row {
     tick: u64,
     is_done: bool,
     closed: &'static [(usize, usize, &'static [u8])],
-    world: &'static [u8],
+    ends: &'static [(usize, SlotEnd<u8>)],
+    answers: &'static [u8],
+    failed: &'static [u64],
 }
 
-static ROWS: [Row; 14] = [
+static ROWS: [Row; 17] = [
     // one message of each client in a round
     Row {
         clients: &[
@@ -164,7 +167,9 @@ static ROWS: [Row; 14] = [
         tick: 1,
         is_done: true,
         closed: &[(0, 0, b"a\nb\n\n"), (1, 1, b"c\nd\n\n")],
-        world: b"0a0b0c0\n0d0\n",
+        ends: &[(0, SlotEnd::Finished(0)), (0, SlotEnd::Finished(0))],
+        answers: b"0a0b0c0\n0d0\n",
+        failed: &[],
     },
     // the listener that each came to
     Row {
@@ -187,7 +192,9 @@ static ROWS: [Row; 14] = [
         tick: 1,
         is_done: true,
         closed: &[(0, 0, b"a\n"), (1, 1, b"b\n")],
-        world: b"1a0b",
+        ends: &[(1, SlotEnd::EndOfInput), (0, SlotEnd::EndOfInput)],
+        answers: b"1a0b",
+        failed: &[],
     },
     // no more than so many are accepted, and one that failed counts
     Row {
@@ -213,7 +220,9 @@ static ROWS: [Row; 14] = [
         tick: 1,
         is_done: true,
         closed: &[(1, 0, b"b\n")],
-        world: b"0b",
+        ends: &[(0, SlotEnd::EndOfInput)],
+        answers: b"0b",
+        failed: &[0],
     },
     // none at all
     Row {
@@ -229,7 +238,9 @@ static ROWS: [Row; 14] = [
         tick: 1,
         is_done: true,
         closed: &[],
-        world: b"",
+        ends: &[],
+        answers: b"",
+        failed: &[],
     },
     // one more than come: it isn't done
     Row {
@@ -245,7 +256,9 @@ static ROWS: [Row; 14] = [
         tick: 1,
         is_done: false,
         closed: &[(0, 0, b"a\n")],
-        world: b"0a",
+        ends: &[(0, SlotEnd::EndOfInput)],
+        answers: b"0a",
+        failed: &[],
     },
     // one slot for all, one after the other
     Row {
@@ -268,7 +281,9 @@ static ROWS: [Row; 14] = [
         tick: 1,
         is_done: true,
         closed: &[(0, 0, b"a\n"), (1, 0, b"b\n")],
-        world: b"0a0b",
+        ends: &[(0, SlotEnd::EndOfInput), (0, SlotEnd::EndOfInput)],
+        answers: b"0a0b",
+        failed: &[],
     },
     // calls have slots of their own, and don't count
     Row {
@@ -285,7 +300,13 @@ static ROWS: [Row; 14] = [
         tick: 1,
         is_done: true,
         closed: &[(100, 3, b"call"), (100, 3, b"call"), (0, 0, b"a\n")],
-        world: b"0a",
+        ends: &[
+            (1, SlotEnd::EndOfInput),
+            (1, SlotEnd::EndOfInput),
+            (0, SlotEnd::EndOfInput),
+        ],
+        answers: b"0a",
+        failed: &[],
     },
     // silence: it ends at 120,000 milliseconds
     Row {
@@ -299,7 +320,9 @@ static ROWS: [Row; 14] = [
         tick: 10_000,
         is_done: false,
         closed: &[],
-        world: b"",
+        ends: &[],
+        answers: b"",
+        failed: &[],
     },
     Row {
         clients: &[Client {
@@ -312,7 +335,9 @@ static ROWS: [Row; 14] = [
         tick: 10_000,
         is_done: false,
         closed: &[(0, 0, b"")],
-        world: b"",
+        ends: &[(0, SlotEnd::IdleTimeout)],
+        answers: b"",
+        failed: &[],
     },
     // a client that doesn't read its answer isn't answered again
     Row {
@@ -330,7 +355,9 @@ static ROWS: [Row; 14] = [
         tick: 10_000,
         is_done: true,
         closed: &[(0, 0, b"")],
-        world: b"0a",
+        ends: &[(0, SlotEnd::IdleTimeout)],
+        answers: b"0a",
+        failed: &[],
     },
     // where nothing may wait nobody is answered
     Row {
@@ -347,7 +374,9 @@ static ROWS: [Row; 14] = [
         tick: 1,
         is_done: false,
         closed: &[],
-        world: b"",
+        ends: &[],
+        answers: b"",
+        failed: &[],
     },
     // where too much waits nobody is answered, till it is given up
     Row {
@@ -373,7 +402,9 @@ static ROWS: [Row; 14] = [
         tick: 10_000,
         is_done: true,
         closed: &[(0, 0, b""), (1, 1, b"b\n\n")],
-        world: b"0a0b0\n",
+        ends: &[(0, SlotEnd::IdleTimeout), (0, SlotEnd::Finished(0))],
+        answers: b"0a0b0\n",
+        failed: &[],
     },
     // one that says nothing makes place for the next one, after 10,000 milliseconds
     Row {
@@ -397,7 +428,9 @@ static ROWS: [Row; 14] = [
         tick: 1000,
         is_done: true,
         closed: &[(0, 0, b""), (1, 0, b"b\n\n")],
-        world: b"0b0\n",
+        ends: &[(0, SlotEnd::Displaced), (0, SlotEnd::Finished(0))],
+        answers: b"0b0\n",
+        failed: &[],
     },
     // one that is established doesn't
     Row {
@@ -422,9 +455,96 @@ static ROWS: [Row; 14] = [
         tick: 1000,
         is_done: false,
         closed: &[],
-        world: b"0!",
+        ends: &[],
+        answers: b"0!",
+        failed: &[],
+    },
+    // two that have much to say are answered in turns
+    Row {
+        clients: &[
+            Client {
+                text: b"a\nb\nc\nd\n\n",
+                ..PLAIN
+            },
+            Client {
+                text: b"e\nf\ng\nh\n\n",
+                ..PLAIN
+            },
+        ],
+        limits: Limits {
+            connections: Some(2),
+            ..WIDE
+        },
+        calls: 0,
+        tick: 1,
+        is_done: true,
+        closed: &[(0, 0, b"a\nb\nc\nd\n\n"), (1, 1, b"e\nf\ng\nh\n\n")],
+        ends: &[(0, SlotEnd::Finished(0)), (0, SlotEnd::Finished(0))],
+        answers: b"0a0b0e0c0f0d0g0\n0h0\n",
+        failed: &[],
+    },
+    // one that breaks off behind its first line
+    Row {
+        clients: &[Client {
+            text: b"a\nb\n",
+            reads: 2,
+            ..PLAIN
+        }],
+        limits: Limits {
+            connections: Some(1),
+            ..WIDE
+        },
+        calls: 0,
+        tick: 1,
+        is_done: true,
+        closed: &[(0, 0, b"a\n")],
+        ends: &[(0, SlotEnd::Broken)],
+        answers: b"0a",
+        failed: &[],
+    },
+    // each that failed is told, with its time
+    Row {
+        clients: &[
+            Client {
+                fails: true,
+                ..PLAIN
+            },
+            Client {
+                fails: true,
+                comes: 7,
+                ..PLAIN
+            },
+            Client {
+                text: b"a\n",
+                ..PLAIN
+            },
+        ],
+        limits: Limits {
+            connections: Some(3),
+            ..WIDE
+        },
+        calls: 0,
+        tick: 1,
+        is_done: true,
+        closed: &[(2, 0, b"a\n")],
+        ends: &[(0, SlotEnd::EndOfInput)],
+        answers: b"0a",
+        failed: &[0, 7],
     },
 ];
+
+/// Whether each connection that was closed ended as the row says, and was told once.
+fn are_told(ends: &[(usize, SlotEnd<u8>)], row: &Row) -> bool {
+    if ends.len() != row.ends.len() {
+        return false;
+    }
+    for ((listener, ending), want) in ends.iter().zip(row.ends.iter()) {
+        if *listener != want.0 || *ending != want.1 {
+            return false;
+        }
+    }
+    true
+}
 
 /// Whether a script comes to what its row says.
 fn is_as_said(alloc: Global, row: &Row) -> Result<bool, AllocError> {
@@ -437,7 +557,10 @@ fn is_as_said(alloc: Global, row: &Row) -> Result<bool, AllocError> {
             return Ok(false);
         }
     }
-    Ok(played.report.is_done == row.is_done && played.world.as_slice() == row.world)
+    let told = are_told(played.world.ends.as_slice(), row);
+    let answered = played.world.answers.as_slice() == row.answers;
+    let failed = played.world.failed.as_slice() == row.failed;
+    Ok(played.report.is_done == row.is_done && told && answered && failed)
 }
 
 #[test]

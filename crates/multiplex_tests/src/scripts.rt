@@ -216,8 +216,30 @@ impl<'a> Source for Script<'a> {
     }
 }
 
-/// Answers each line by itself, and notes its listener and its first letter in the world, in the order of answers. An
-/// empty line ends the connection, and a line that begins by `!` establishes it.
+/// What the connections of a script leave, in the order in which it came about.
+#[derive(Drop)]
+pub struct Notes {
+    /// The listener and the first letter of each line that was answered.
+    pub answers: Vec<u8>,
+    /// The listener of each connection that was closed, and how it ended.
+    pub ends: Vec<(usize, SlotEnd<u8>)>,
+    /// When connections failed at a listener.
+    pub failed: Vec<u64>,
+}
+
+impl Notes {
+    /// Nothing came about yet.
+    fn new(alloc: Global) -> Notes {
+        Notes {
+            answers: Vec::new(alloc),
+            ends: Vec::new(alloc),
+            failed: Vec::new(alloc),
+        }
+    }
+}
+
+/// Answers each line by itself, and notes it. An empty line ends the connection, and a line that begins by `!` establishes
+/// it.
 #[derive(Drop)]
 pub struct Echo {
     listener: usize,
@@ -226,14 +248,14 @@ pub struct Echo {
 }
 
 impl Echo {
-    fn note(&self, first: u8, world: &mut Vec<u8>) {
+    fn note(&self, first: u8, world: &mut Notes) {
         let listener = if self.listener == 0 { b'0' } else { b'1' };
-        let _ = world.extend_from_slice(&[listener, first]);
+        let _ = world.answers.extend_from_slice(&[listener, first]);
     }
 }
 
 impl Handler for Echo {
-    type World = Vec<u8>;
+    type World = Notes;
 
     type End = u8;
 
@@ -269,7 +291,7 @@ impl Handler for Echo {
     fn call(
         alloc: Global,
         _callee: usize,
-        _world: &mut Vec<u8>,
+        _world: &mut Notes,
         out: &mut Vec<u8>,
     ) -> Option<Echo> {
         match out.extend_from_slice(b"call") {
@@ -285,7 +307,7 @@ impl Handler for Echo {
         }
     }
 
-    fn answer(&mut self, world: &mut Vec<u8>, out: &mut Vec<u8>) -> Progress<u8> {
+    fn answer(&mut self, world: &mut Notes, out: &mut Vec<u8>) -> Progress<u8> {
         let Some(at) = self.came.iter().position(|byte| *byte == b'\n') else {
             return Progress::NeedsMore;
         };
@@ -306,9 +328,13 @@ impl Handler for Echo {
         self.established
     }
 
-    fn close(self, _callee: Option<usize>, _world: &mut Vec<u8>, _ending: SlotEnd<u8>) {}
+    fn close(self, _callee: Option<usize>, world: &mut Notes, ending: SlotEnd<u8>) {
+        let _ = world.ends.push((self.listener, ending));
+    }
 
-    fn fail_accept(_world: &mut Vec<u8>, _now: u64) {}
+    fn fail_accept(world: &mut Notes, now: u64) {
+        let _ = world.failed.push(now);
+    }
 }
 
 /// What came of a script.
@@ -316,7 +342,7 @@ impl Handler for Echo {
 pub struct Played {
     pub report: ServeReport,
     pub closed: Vec<(usize, usize, Vec<u8>)>,
-    pub world: Vec<u8>,
+    pub world: Notes,
 }
 
 /// Plays a script over so many slots; so many calls are due, and the clock goes on by so much where nothing is to be done.
@@ -337,7 +363,7 @@ pub fn play(
         tick,
         closed: Vec::new(alloc),
     };
-    let mut world = Vec::new(alloc);
+    let mut world = Notes::new(alloc);
     let mut all: Vec<Option<Slot<Echo, Mouth, Ear, u8>>> = Vec::new(alloc);
     for _ in 0..slots {
         all.push(None)?;
