@@ -498,7 +498,7 @@ static ROWS: [Row; 17] = [
         tick: 1,
         is_done: true,
         closed: &[(0, 0, b"a\n")],
-        ends: &[(0, SlotEnd::Broken)],
+        ends: &[(0, SlotEnd::ReadFailed)],
         answers: b"0a",
         failed: &[],
     },
