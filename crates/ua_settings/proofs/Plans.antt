@@ -228,6 +228,22 @@ accepted document archive server users peers space (Ok settings) a s u p is_spac
 accepted document archive server users peers space (Err fault) a s u p is_space ok err =
     inl (ap Err err)
 
+-- nodes that make no space, or want of memory, are what the settings are refused by
+pub unspaced : (document : Members) (fault : SettingsFault)
+    → IsSpaceOrStarved document (Err fault) → IsAcceptedOrStarved document (Err fault)
+unspaced document fault (inl starved) = let is : fault ≡ OutOfMemory = cc in inl (ap Err is)
+unspaced document fault (inr is) = inr (by (space_in document) is)
+  where
+    by : (made : Result Layout BuildFault)
+        → (let result : Result Layout SettingsFault = Err fault in result)
+        ≡ result_map_both (λ space. space) Space made
+        → (let result : Result SettingsValues SettingsFault = Err fault in result)
+        ≡ result_map_both (values_of_tables (table_at (codes "archive") document)
+        (table_at (codes "server") document) (tables document User) (tables document Peer))
+        Space made
+    by (Ok space) e = absurd cc
+    by (Err cause) e = let is : fault ≡ Space cause = cc in ap Err is
+
 pub users_same : (document server : Members) (anonymous : Bool) (named : List SessionUser)
     → server ≡ table_at (codes "server") document
     → anonymous ≡ truth_at (codes "anonymous") server → named ≡ map user_in (tables document User)

@@ -89,6 +89,7 @@ first_kind test spot same (wrong ∷ wrongs) =
 
 pub refused_so : (document : Members)
     → first_refusal document ≡ option_map (λ (p : Wrong × Spot). p.0) (first_wrong document)
+unfolding wrong_at
 refused_so document =
     first_kind (λ wrong. list_any (λ section.
     list_any (is_wrong (names_in document) wrong section) (tables document section))

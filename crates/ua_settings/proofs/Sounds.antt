@@ -52,6 +52,7 @@ all_right names wrong section n (members ∷ more) none =
 
 each_section : (document : Members) (wrong : Wrong) → wrong_at document wrong ≡ None
     → (section : Section) → wrong_in document wrong section ≡ None
+unfolding wrong_at
 each_section document wrong none section =
     let one = none_both (wrong_in document wrong Document) _ none in
     let two = none_both (wrong_in document wrong Archive) _ one.1 in

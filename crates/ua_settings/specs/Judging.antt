@@ -75,7 +75,7 @@ first_some f [] = None
 first_some f (a ∷ more) = option_or (f a) (first_some f more)
 
 -- the first wrong key of a document
-abbrev pub wrong_at : Members → Wrong → Option Spot
+unfoldable pub wrong_at : Members → Wrong → Option Spot
 wrong_at document wrong =
     first_some (λ section. wrong_from (names_in document) wrong section 1 (tables document section))
     (Document ∷ Archive ∷ Server ∷ User ∷ Folder ∷ Variable ∷ Peer ∷ [])

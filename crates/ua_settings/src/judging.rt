@@ -317,6 +317,7 @@ fn known_in<'a>(alloc: Global, document: &'a Table) -> Result<Known<'a>, AllocEr
 }
 
 /// The first key of a document that is wrong in this way.
+#[tactic(auto, unfolding(crate::specs::Judging::wrong_at))]
 fn wrong_at<'a>(
     alloc: Global,
     known: &Known<'_>,

@@ -274,11 +274,15 @@ pub(crate) fn read_document(alloc: Global, document: &Table) -> Result<Settings,
     let users = read_users(alloc, truth(server, "anonymous"), tables.as_slice())?;
     let callees = tables_of(alloc, document, Section::Peer)?;
     let peers = read_peers(alloc, callees.as_slice())?;
-    let space = read_space(alloc, document, server)?;
-    let listed = Listed {
-        users,
-        peers,
-        space,
-    };
-    settings_of(alloc, archive, server, listed)
+    match read_space(alloc, document, server) {
+        Ok(space) => {
+            let listed = Listed {
+                users,
+                peers,
+                space,
+            };
+            settings_of(alloc, archive, server, listed)
+        }
+        Err(fault) => Err(fault),
+    }
 }

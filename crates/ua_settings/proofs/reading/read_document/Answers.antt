@@ -5,7 +5,7 @@ use Rattle.toml.specs.View.{table_view}
 use Rattle.ua_settings.proofs.ReadingParts.{user_in}
 use Rattle.ua_settings.specs.Reading.{peer_in}
 use Rattle.ua_settings.specs.Sound.{IsSoundUser, IsSoundPeer}
-use Rattle.ua_settings.proofs.Plans.{map_twice, all_under, accepted, users_same}
+use Rattle.ua_settings.proofs.Plans.{map_twice, all_under, accepted, unspaced, users_same}
 use Rattle.ua_settings.proofs.reading.read_document.Goals as goal
 
 pub read_users-requires : goal.read_users-requires
@@ -23,7 +23,10 @@ read_peers-requires c =
     ∙ c.in_ok-callees.ensures)) c.requires.peers)
 
 pub returns : goal.returns
-returns c =
+returns c = unspaced (table_view c.args.document.now) c.in-Err.fault c.in-Err.ensures
+
+pub returns-in-Ok : goal.returns-in-Ok
+returns-in-Ok c =
     let same_archive = ap (λ table. unwrap_or table no_members) c.in-Some.ensures in
     let same_server = ap (λ table. unwrap_or table no_members) c.in-Some-table_at.ensures in
     let tables = ap (map (λ table. table_view table.now)) c.as_slice.ensures.value
@@ -36,10 +39,10 @@ returns c =
     ∙ ap (map peer_in) callees in
     accepted (table_view c.args.document.now) (table_view c.in-Some.archive.now)
     (table_view c.in-Some-table_at.server.now) c.in_ok-users.users c.in_ok-peers.peers
-    c.in_ok-space.space c.settings_of.result same_archive same_server
+    c.in-Ok.space c.settings_of.result same_archive same_server
     (c.in_ok-users.ensures.ok ∙ users_same (table_view c.args.document.now)
     (table_view c.in-Some-table_at.server.now) c.truth.result
     (map (λ user. user_in (table_view user.now)) c.as_slice.result.now) same_server
     c.truth.ensures named)
-    (c.in_ok-peers.ensures.ok ∙ called) c.in_ok-space.ensures
+    (c.in_ok-peers.ensures.ok ∙ called) c.in-Ok.ensures
     c.settings_of.ensures.ok c.settings_of.ensures.err
