@@ -328,7 +328,9 @@ impl Handler for Echo {
         self.established
     }
 
-    fn close(self, _callee: Option<usize>, world: &mut Notes, ending: SlotEnd<u8>) {
+    fn close(self, _callee: Option<usize>, world: &mut Notes, ending: SlotEnd<u8>)
+        ensures { Unit {0} }
+    {
         let _ = world.ends.push((self.listener, ending));
     }
 
