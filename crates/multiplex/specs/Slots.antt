@@ -93,10 +93,13 @@ IsReadAtRest handler room slot =
     (handler.needs_more slot.handler × (slot.readable ≡ false))
     ⊎ ((0 < length slot.waiting) ⊎ (room ≡ false))
 
+-- nothing can be read or answered there now
+abbrev pub IsReadQuiet : {H R W V E : Type 0} → Behavior H V E → Bool → Slot H R W E → Type 0
+IsReadQuiet handler room slot = slot.ending ≡ None → IsReadAtRest handler room slot
+
 -- nothing can be read, answered or written there now
 abbrev pub IsQuiet : {H R W V E : Type 0} → Behavior H V E → Bool → Slot H R W E → Type 0
-IsQuiet handler room slot =
-    (slot.ending ≡ None → IsReadAtRest handler room slot) × IsWriteAtRest slot
+IsQuiet handler room slot = IsReadQuiet handler room slot × IsWriteAtRest slot
 
 -- nothing can be done at it now, nor may it be closed
 abbrev pub IsAtRest : {H R W V E : Type 0} → Behavior H V E → Bool → Slot H R W E → Type 0

@@ -3,7 +3,7 @@
 ghost use Rattle.std.specs.Prelude.{◌≡◌, ◌<◌, ◌⊎◌, ◌↔◌, Bool, IsTrue, false, true, ℕ, length, [], Some, IfSome, IfNone};
 ghost use Rattle.std.specs.Option.{option_map};
 ghost use Rattle.multiplex.specs.declared.handler.SlotEnd.TheVariants.{Finished, Displaced};
-ghost use Rattle.multiplex.specs.Slots.{first_slot, IsResponsive, IsUnheard, IsQuiet, IsWriteAtRest, MayClose};
+ghost use Rattle.multiplex.specs.Slots.{first_slot, IsResponsive, IsUnheard, IsQuiet, IsReadQuiet, IsWriteAtRest, MayClose};
 ghost use Rattle.multiplex.specs.Steps.{IsVisit, TakesSteps};
 
 use crate::handler::{Handler, Progress, SlotEnd};
@@ -206,9 +206,9 @@ impl<H: Handler, R: NonBlockingRead, W: NonBlockingWrite> Slot<H, R, W, H::End> 
         self.ending = Some(SlotEnd::Displaced);
     }
 
-    /// Its turn: some bytes are written, what stands first is answered, or else some bytes are read. It is answered and
-    /// read only where nothing of it waits to be written, and where there is `room` for answers. Whether more may be
-    /// done at once; else it is at rest.
+    /// Its turn: what stands first is answered, or else some bytes are read, and then some bytes are written. It is
+    /// answered and read only where nothing of it waits to be written, and where there is `room` for answers. Whether
+    /// more may be done at once; else it is at rest.
     pub(crate) fn visit(&mut self, ready: bool, room: bool, world: &mut H::World, now: u64) -> bool
         ensures steps { TakesSteps R.input W.output H.behavior (IsVisit 1 1 1 result) room now
             world.old self.old world.new self.new }
@@ -216,10 +216,10 @@ impl<H: Handler, R: NonBlockingRead, W: NonBlockingWrite> Slot<H, R, W, H::End> 
         ensures rest { result ≡ false → IsQuiet H.behavior room self.new }
     {
         self.wake_if(ready);
-        let wrote = self.write_next(now);
         let advanced = self.advance(room, world, now);
+        let wrote = self.write_next(now);
         self.stop_if_idle(now);
-        either(wrote, advanced)
+        either(advanced, wrote)
     }
 
     /// Where it may be ready, it is tried again.
@@ -242,6 +242,8 @@ impl<H: Handler, R: NonBlockingRead, W: NonBlockingWrite> Slot<H, R, W, H::End> 
             v self.old v self.new }
         ensures same { result ≡ false → self.new.waiting ≡ self.old.waiting }
         ensures rest { result ≡ false → IsWriteAtRest self.new }
+        ensures read { (room : Bool) → result ≡ false → IsReadQuiet H.behavior room self.old
+            → IsReadQuiet H.behavior room self.new }
     {
         if self.may_write() {
             let wrote = self.write_some(now);
@@ -260,6 +262,8 @@ impl<H: Handler, R: NonBlockingRead, W: NonBlockingWrite> Slot<H, R, W, H::End> 
             v self.old v self.new }
         ensures same { result ≡ false → self.new.waiting ≡ self.old.waiting }
         ensures rest { result ≡ false → IsWriteAtRest self.new }
+        ensures read { (room : Bool) → result ≡ false → IsReadQuiet H.behavior room self.old
+            → IsReadQuiet H.behavior room self.new }
     {
         match self.writer.try_write(&self.out[self.sent..]) {
             WriteAttempt::Written(n) => {
@@ -284,7 +288,7 @@ impl<H: Handler, R: NonBlockingRead, W: NonBlockingWrite> Slot<H, R, W, H::End> 
         ensures steps { TakesSteps R.input W.output H.behavior (IsVisit 1 1 0 result) room now
             world.old self.old world.new self.new }
         ensures same { result ≡ false → self.new.waiting ≡ self.old.waiting }
-        ensures rest { result ≡ false → IsWriteAtRest self.old → IsQuiet H.behavior room self.new }
+        ensures rest { result ≡ false → IsReadQuiet H.behavior room self.new }
     {
         if self.is_responsive() {
             if room {

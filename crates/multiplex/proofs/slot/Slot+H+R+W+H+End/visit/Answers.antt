@@ -14,15 +14,16 @@ returns-clause-steps g c =
     more g.R.NonBlockingRead.input g.W.NonBlockingWrite.output g.H.Handler.behavior 0 0 0 1 1 1
     false all all room now v v w _ _ _ (λ done. inr done)
     (c.wake_if.ensures.steps v room now)
-    (more g.R.NonBlockingRead.input g.W.NonBlockingWrite.output g.H.Handler.behavior 0 0 1 1 1 0
-    wrote advanced all room now v v w _ _ _ c.either.ensures.some
-    (c.write_next-wrote.ensures.steps v room)
-    (more g.R.NonBlockingRead.input g.W.NonBlockingWrite.output g.H.Handler.behavior 1 1 0 0 0 0
-    advanced false advanced room now v w w _ _ _ (λ done. inl done)
-    c.advance-advanced.ensures.steps (c.stop_if_idle.ensures.steps w room)))
+    (more g.R.NonBlockingRead.input g.W.NonBlockingWrite.output g.H.Handler.behavior 1 1 0 0 0 1
+    advanced wrote all room now v w w _ _ _ c.either.ensures.some
+    c.advance-advanced.ensures.steps
+    (more g.R.NonBlockingRead.input g.W.NonBlockingWrite.output g.H.Handler.behavior 0 0 1 0 0 0
+    wrote false wrote room now w w w _ _ _ (λ done. inl done)
+    (c.write_next-wrote.ensures.steps w room) (c.stop_if_idle.ensures.steps w room)))
 
 pub returns-clause-rest : goal.returns-clause-rest
 returns-clause-rest g c none =
     let both = c.either.ensures.none none in
-    c.stop_if_idle.ensures.rest c.args.room
-    (c.advance-advanced.ensures.rest both.1 (c.write_next-wrote.ensures.rest both.0))
+    let read = c.write_next-wrote.ensures.read c.args.room both.1
+    (c.advance-advanced.ensures.rest both.0) in
+    c.stop_if_idle.ensures.rest c.args.room (read, c.write_next-wrote.ensures.rest both.1)
