@@ -10,7 +10,7 @@ use Rattle.archive.specs.Store.{Store, StepResult, IsLeft}
 use Rattle.archive.specs.Steps.{Transitions}
 use Rattle.archive.proofs.Acting.{left-stays}
 use Rattle.archive.proofs.Calls.{passes-none, passes-then}
-use Rattle.exchange.specs.declared.message.Party.{Party}
+use Rattle.exchange.specs.Messages.{Party}
 use Rattle.exchange.specs.declared.fault.ExchangeFault.{ExchangeFault}
 use Rattle.exchange.specs.Dialogs.{DialogState, Greets, received, records_read, learned_at, party_of}
 use Rattle.exchange.proofs.HandleLemmas.{unbroken_before}

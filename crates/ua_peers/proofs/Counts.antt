@@ -13,8 +13,7 @@ use Rattle.exchange.specs.declared.message.State.{State}
 use Rattle.exchange.specs.declared.message.State.TheVariants.{Pulling, Pushing, Serving, Done, Failed}
 use Rattle.exchange.specs.declared.message.Message.TheVariants.{Asks, Carries, Ends}
 use Rattle.exchange.specs.Batches.{batch_of}
-use Rattle.exchange.specs.declared.message.Party.{Party}
-use Rattle.exchange.specs.declared.message.Message.{Message}
+use Rattle.exchange.specs.Messages.{Party, Message}
 use Rattle.exchange.specs.Dialogs.{Turn, failing, pushing, refusal, turned, Way, Clear, Unread, Stopped, Starved, Met, gone, fault_on, DialogState, received, answered_to, party_of, Writes, capped, counted_by, added_to}
 use Rattle.exchange.proofs.DialogsParts.{learnt}
 use Rattle.exchange.proofs.MergeLemmas.{grown}

@@ -5,8 +5,7 @@ use Rattle.std.specs.Option.{option_map_or}
 use Rattle.records.specs.Contents.{Content, merged}
 use Rattle.records.specs.declared.record.Record.{Record}
 use Rattle.exchange.specs.declared.fault.ExchangeFault.{ExchangeFault}
-use Rattle.exchange.specs.declared.message.Party.{Party}
-use Rattle.exchange.specs.declared.message.Message.{Message}
+use Rattle.exchange.specs.Messages.{Party, Message}
 use Rattle.exchange.specs.Dialogs.{received, records_read, learned_at}
 use Rattle.exchange.specs.Worlds.{ReplicaState, World, Event, Delivers, IsReplicaAt, IsUpdated, delivered, after_event, run}
 use Rattle.exchange.proofs.WorldLemmas.{get-set_same, get-set_other}

@@ -21,8 +21,7 @@ use Rattle.exchange.specs.declared.message.Message.TheVariants.{Asks, Carries, E
 use Rattle.exchange.specs.declared.message.State.{State}
 use Rattle.exchange.specs.declared.message.State.TheVariants.{Pulling, Pushing, Serving, Done, Failed}
 use Rattle.exchange.specs.declared.message.Title.{Title}
-use Rattle.exchange.specs.declared.message.Party.{Party}
-use Rattle.exchange.specs.declared.message.Message.{Message}
+use Rattle.exchange.specs.Messages.{Party, Message}
 use Rattle.exchange.specs.Frames.{end_frame, kind_of, frame_body_of, frame_of, message_at, checked_sender, HasFrame}
 use Rattle.exchange.specs.Dialogs.{asking_frame, Turn, Way, Clear, Unread, Stopped, Starved, Met, title_by, failing, carrying, pushing, ended_by, turned, gone, unfit, received, records_in, records_read, learned_at, answered_to, party_of, Writes}
 use Rattle.exchange.specs.Fault.{exchange_number}

@@ -21,9 +21,7 @@ use Rattle.exchange.specs.declared.message.FrameKind.TheVariants as kind
 use Rattle.exchange.specs.declared.message.Message.TheVariants.{Asks, Carries, Ends}
 use Rattle.exchange.specs.declared.message.State.{State}
 use Rattle.exchange.specs.declared.message.State.TheVariants.{Pulling, Pushing, Serving, Done, Failed}
-use Rattle.exchange.specs.declared.message.Party.{Party}
-use Rattle.exchange.specs.declared.message.Header.{Header}
-use Rattle.exchange.specs.declared.message.Message.{Message}
+use Rattle.exchange.specs.Messages.{Party, Header, Message}
 use Rattle.exchange.specs.Frames.{end_frame, frame_header, frame_letters, kind_of, frame_body_of, frame_of, message_at, HasFrame}
 use Rattle.exchange.specs.Dialogs.{asking_frame, Turn, Way, Clear, Unread, Stopped, Starved, Met, DialogState, failing, is_over, is_due, unfit, received, records_read, learned_at, turned, answered_to, title_by, party_of, IsHeld, Writes}
 use Rattle.exchange.specs.Fault.{exchange_number}

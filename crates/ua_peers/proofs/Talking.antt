@@ -14,7 +14,7 @@ use Rattle.exchange.specs.declared.message.FrameKind.{FrameKind}
 use Rattle.exchange.specs.declared.message.State.{State}
 use Rattle.exchange.specs.declared.message.State.TheVariants.{Pulling, Pushing, Serving, Done, Failed}
 use Rattle.exchange.specs.Batches.{longest_frame}
-use Rattle.exchange.specs.declared.message.Header.{Header}
+use Rattle.exchange.specs.Messages.{Header}
 use Rattle.exchange.specs.Frames.{end_frame, frame_header, titled, kind_at, frame_size_at, no_frames, ReceivedFrames, Gives, next_of, after_next}
 use Rattle.exchange.specs.Streams.{FrameContent, header_of}
 use Rattle.exchange.specs.Dialogs.{DialogState, is_over, is_due, unfit, Takes, TellsFault}

@@ -14,8 +14,7 @@ use Rattle.exchange.specs.declared.fault.ExchangeFault.{ExchangeFault}
 use Rattle.exchange.specs.declared.fault.ExchangeFault.TheVariants as exchange
 use Rattle.exchange.specs.declared.message.State.{State}
 use Rattle.exchange.specs.declared.message.State.TheVariants.{Pulling, Pushing, Serving, Done, Failed}
-use Rattle.exchange.specs.declared.message.Party.{Party}
-use Rattle.exchange.specs.declared.message.Message.{Message}
+use Rattle.exchange.specs.Messages.{Party, Message}
 use Rattle.exchange.specs.Frames.{end_frame, frame_header}
 use Rattle.exchange.specs.Streams.{FrameContent, AreFrames, header_of}
 use Rattle.exchange.specs.Dialogs.{Turn, Way, Clear, Unread, Stopped, Starved, Met, DialogState, fault_on, received, records_in, records_read, learned_at, answered_to, frame_answered, party_of, IsHeld, Writes, Takes, TellsFault}

@@ -2,7 +2,7 @@
 use Rattle.std.specs.Prelude.{◌≡◌, ◌⊎◌, ⊤, ℕ, List, [], ◌∷◌, ◌++◌, slice_get, Some, Result}
 use Rattle.std.specs.List.{AllByRecursion}
 use Rattle.records.specs.declared.record.Record.{Record}
-use Rattle.exchange.specs.declared.message.Party.{Party}
+use Rattle.exchange.specs.Messages.{Party}
 use Rattle.exchange.specs.Dialogs.{asking_frame, DialogState, received, records_read, party_of}
 use Rattle.exchange.specs.Worlds.{ReplicaState, World, Event, Sends, Delivers, IsReplicaAt}
 use Rattle.records.specs.Contents.{Content}

@@ -9,8 +9,7 @@ use Rattle.exchange.specs.declared.fault.ExchangeFault.{ExchangeFault}
 use Rattle.exchange.specs.declared.fault.ExchangeFault.TheVariants as exchange
 use Rattle.exchange.specs.declared.message.State.{State}
 use Rattle.exchange.specs.declared.message.State.TheVariants.{Done, Failed}
-use Rattle.exchange.specs.declared.message.Party.{Party}
-use Rattle.exchange.specs.declared.message.Message.{Message}
+use Rattle.exchange.specs.Messages.{Party, Message}
 use Rattle.exchange.specs.Frames.{end_frame, frame_header}
 use Rattle.exchange.specs.Streams.{FrameContent, AreFrames}
 use Rattle.exchange.specs.Dialogs.{Turn, Way, IsWay, DialogState, fault_on, is_over, received, records_read, learned_at, frame_answered, standing_after, party_of, IsHeld, Writes, TellsFault}

@@ -3,7 +3,7 @@
 ghost use Rattle.std.specs.Prelude.{◌≡◌, ◌++◌, ℕ, List, length, Option, Some, Result, Ok};
 ghost use Rattle.stamp.specs.Limits.{IsReplica};
 ghost use Rattle.records.specs.Contents.{Content, join};
-ghost use Rattle.exchange.specs.declared.message.Party.{Party};
+ghost use Rattle.exchange.specs.Messages.{Party};
 ghost use Rattle.exchange.specs.Dialogs.{asking_frame, DialogState as Stand, party_of, IsHeld};
 ghost use Rattle.exchange.specs.Meetings.{CanMeet};
 ghost use Rattle.exchange.specs.Worlds.{World, ReplicaState as Replica, Event, IsReplicaAt, IsUpdated, run};
