@@ -1,18 +1,18 @@
 #!/usr/bin/env python3
 """Runs the built program as a server of many connections at once, with clients and peers of its own.
 
-    tests/many.py PROGRAM [--long]
+    tests/many.py PROGRAM [--long] [CHECK ..]
 
 Clients that poll, update, stop in the midst of a message, read nothing or say nothing, and `sync`s of other replicas, all at once; servers
 that call each other by themselves and are killed meanwhile; many idle connections. Each check prints a line with what was measured, the
-first that fails ends the script by an error. With --long each goes on longer: two and a half minutes of polls, twenty kills.
+first that fails ends the script by an error; all are run where none is named. With --long each goes on longer: two and a half minutes of polls, twenty kills.
 """
 import os, random, select, socket, subprocess, sys, tempfile, threading, time
 import usage
 from opcua import Client, int32, node, value_at
 
 usage.shown(__doc__, 1)
-import store as one
+from running import free_port
 from network_line import Line, status
 
 here = os.path.dirname(os.path.abspath(__file__))
@@ -26,7 +26,7 @@ class Server:
     """A replica that serves, with a store of its own, and calls its peers."""
 
     def __init__(self, number, peers=(), port=None, store=True, keys=""):
-        self.number, self.port = number, port or one.free_port()
+        self.number, self.port = number, port or free_port()
         self.settings, self.store = os.path.join(folder, f"{number}-{self.port}.toml"), os.path.join(folder, f"{number}-{self.port}.db")
         self.peers, self.kept, self.keys, self.process = list(peers), store, keys, None
 
@@ -220,7 +220,7 @@ def they_call_each_other():
         if a.dump() == b.dump():
             break
         a.start(), b.start()
-    records = a.dump().count(b"\n") - 2
+    records = a.dump().count(b"\n")
     assert a.dump() == b.dump(), "not in step"
     assert records >= good, (records, good)
     return f"{good} values were answered Good at two machines, {records} records are at both; {20 if long else 5} kills"
@@ -259,12 +259,14 @@ def an_absent_peer():
     time.sleep(2.5)
     told = a.stop()
     name = f"uahist: peer 127.0.0.1:{b.port}: "
-    want = name + "connection ended (1)\n" + name + "works again\n" + name + "connection ended (1)\n"
+    want = name + "connection ended (2)\n" + name + "works again\n" + name + "connection ended (2)\n"
     assert told == want, told
     return "told when it failed, when it worked again, and when it failed again"
 
 
 checks = [a_poll_beside_others, bad_company, a_full_house, idle, they_call_each_other, a_chain, an_absent_peer]
+named = [word for word in sys.argv[2:] if word != "--long"]
+checks = [check for check in checks if not named or check.__name__ in named]
 for check in checks:
     begin = time.monotonic()
     told = check()

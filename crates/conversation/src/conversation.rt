@@ -42,7 +42,7 @@ impl<A, C, L> Model for Conversation<A, C, L> {
 impl<A: Archive, C: Clock, L: Log> Handler for Conversation<A, C, L> {
     ghost use Rattle.conversation.specs.Conversing.{behavior_over};
     ghost use Rattle.conversation.specs.Adding.{moves_over};
-    ghost use Rattle.conversation.specs.Closing.{log_calls};
+    ghost use Rattle.conversation.specs.Closing.{log_calls, TellsEnd};
 
     type World = World<A, C, L>;
 
@@ -117,7 +117,10 @@ impl<A: Archive, C: Clock, L: Log> Handler for Conversation<A, C, L> {
         callee: Option<usize>,
         world: &mut World<A, C, L>,
         ending: SlotEnd<Result<Ended, ServeFault>>,
-    ) {
+    )
+        ensures { TellsEnd (log_calls L.told L.told_failed L.told_call) callee world.old self ending
+            world.new }
+    {
         match callee {
             Some(callee) => tell_call(world, callee, call_outcome(ending)),
             None => tell_end(world, ending),

@@ -1,5 +1,7 @@
 //! What is told of connections.
 
+ghost use Rattle.std.specs.Prelude.{ℕ, List, Result};
+
 use counted_io::ServeFault;
 use ua_peers::SyncFault;
 
