@@ -18,7 +18,7 @@ use Rattle.ua_server.specs.declared.log.ErrorLog.{ErrorLog}
 use Rattle.ua_server.specs.declared.program.ProgramFault.{ProgramFault}
 use Rattle.ua_server.specs.declared.program.ProgramFault.TheVariants.{Address, Connection}
 use Rattle.ua_server.specs.Host.{KnownMachine}
-use Rattle.ua_server.specs.Telling.{Known, LogsFault, LogsFailed, LogsCall}
+use Rattle.ua_server.specs.Telling.{Known, fresh_log, LogsFault, LogsFailed, LogsCall}
 
 -- how a clock goes from one state to another and gives readings
 abbrev pub Readings : Type 0 → Type 1
@@ -85,6 +85,7 @@ pub record ServesMany {C E : Type 0} (known : KnownMachine) (gave : Readings C) 
   pub begins : IsAround known settings old first
   pub ends : IsAround known settings new last
   pub from : first.source ≡ source
+  pub fresh : first.world.log ≡ fresh_log old.errors
   pub free : AreAllFree first.slots
   pub served : HasServed known.effects known.input known.output (conversations known.held gave told)
       (limits_of settings count) first last done

@@ -1,6 +1,6 @@
 -- What a run of the program tells on standard error, its exit status, and the line of a call of a
 -- peer.
-use Rattle.std.specs.Prelude.{◌≡◌, ◌≢◌, slice_get, slice_set, ℕ, ◌-◌, ◌==◌, nat_lt, Bool, false, List, [], ◌∷◌, ◌++◌, Option, None, Some, Result, Ok, Err, ◌⊎◌, codes, if◌then◌else◌}
+use Rattle.std.specs.Prelude.{◌≡◌, ◌≢◌, slice_get, slice_set, replicate, ℕ, ◌-◌, ◌==◌, nat_lt, Bool, false, List, [], ◌∷◌, ◌++◌, Option, None, Some, Result, Ok, Err, ◌⊎◌, codes, if◌then◌else◌}
 use Rattle.std.specs.Fmt.{decimal}
 use Rattle.std.specs.Option.{option_map_or}
 use Rattle.std.specs.Result.{result_err}
@@ -94,6 +94,11 @@ LogsLine contents old new line =
 -- what is known to stand in what a writer writes to; None where nothing is
 abbrev pub Known : Type 0 → Type 0
 Known E = E → Option (List ℕ)
+
+-- standard error, of which nothing was told yet of connections
+abbrev pub fresh_log : {E : Type 0} → Tally E → ErrorLog E
+fresh_log errors =
+    record { errors = errors; told_at = None; missed = 0; calls = replicate 64 None }
 
 -- it was told by its lines that a connection ended by this fault
 abbrev pub LogsFault : {E : Type 0} → Known E → ErrorLog E → ServeFault → ErrorLog E → Type 0

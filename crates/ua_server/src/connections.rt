@@ -4,6 +4,7 @@ ghost use Rattle.std.specs.Prelude.{◌≡◌, ◌*◌, length, pos, Some, IfOk,
 ghost use Rattle.std.specs.Net.Grammar.{IsSocketText};
 ghost use Rattle.std.specs.declared.net.socket_addr.SocketAddr.{SocketAddr};
 ghost use Rattle.multiplex.specs.Serving.{AreAllFree};
+ghost use Rattle.ua_server.specs.Telling.{fresh_log};
 ghost use Rattle.ua_server.specs.Network.{limits_of, serving_of, IsServingFault};
 ghost use Rattle.ua_server.specs.Host.{known_machine};
 ghost use Rattle.ua_server.specs.Program.{IsUnheard, Listens};
@@ -72,6 +73,7 @@ pub(crate) fn serve_at<H: Host, C: Clock, E: Write>(
     connections: u32,
     host: &mut H,
 ) -> Result<(), ProgramFault>
+    requires { world.old.log ≡ fresh_log world.old.log.errors }
     ensures listens { Listens
         (known_machine H.means H.Archive.state H.Source.effects H.Source.Reader.input
         H.Source.Writer.output H.Reader.remaining H.Writer.contents)

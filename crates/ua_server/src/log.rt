@@ -33,13 +33,12 @@ pub(crate) struct ErrorLog<E> {
 }
 
 impl<E> ErrorLog<E> {
-    ghost use Rattle.std.specs.Prelude.{◌≡◌, ◌↔◌, None, Some, IsTrue, replicate, slice_get};
-    ghost use Rattle.ua_server.specs.Telling.{is_quiet};
+    ghost use Rattle.std.specs.Prelude.{◌≡◌, ◌↔◌, None, Some, IsTrue, slice_get};
+    ghost use Rattle.ua_server.specs.Telling.{fresh_log, is_quiet};
 
     /// Nothing was told yet.
     pub fn new(errors: Counted<E>) -> ErrorLog<E>
-        ensures { result
-            ≡ record { errors = errors; told_at = None; missed = 0; calls = replicate 64 None } }
+        ensures { result ≡ fresh_log errors }
     {
         ErrorLog {
             errors,

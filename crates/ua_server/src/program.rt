@@ -7,7 +7,7 @@ ghost use Rattle.std.specs.Io.KnownBytes.{Appends};
 ghost use Rattle.counted_io.specs.Bytes.{counted, AppendsPart};
 ghost use Rattle.ua_connection.specs.Environments.{Environment};
 ghost use Rattle.ua_server.specs.Single.{AnswersAt};
-ghost use Rattle.ua_server.specs.Telling.{exit_status, LogsLine, fault_text, numbered, told_line, error_lines, synced_line, fault_of, dump_fault, sync_fault, place_line};
+ghost use Rattle.ua_server.specs.Telling.{fresh_log, exit_status, LogsLine, fault_text, numbered, told_line, error_lines, synced_line, fault_of, dump_fault, sync_fault, place_line};
 ghost use Rattle.ua_server.specs.Host.{known_machine};
 ghost use Rattle.ua_server.specs.Program.{OpensArchive, OpensBy, PrintsSynced, PrintsText, CallsPeer, DoesCommand, DoesAndCloses, DoesLine, Runs, findings_in, scene_of, settings_path};
 ghost use Rattle.ua_server.specs.Dumping.{Dumps};
@@ -352,6 +352,7 @@ fn do_command<H: Host, C: Clock, R: Read, W: Write, E: Write>(
     input: &mut Counted<R>,
     output: &mut Counted<W>,
 ) -> Result<(), ProgramFault>
+    requires { world.old.log ≡ fresh_log world.old.log.errors }
     ensures read { IsErrOf result (ProgramFault.Connection ServeFault.Read)
         → input.new.faults ≡ counted input.old.faults }
     ensures write { IsErrOf result (ProgramFault.Connection ServeFault.Write)
@@ -384,6 +385,7 @@ fn do_over<H: Host, C: Clock, R: Read, W: Write, E: Write>(
     input: &mut Counted<R>,
     output: &mut Counted<W>,
 ) -> Ran<C, E>
+    requires { world.log ≡ fresh_log world.log.errors }
     ensures read { IsErrOf result.ending (ProgramFault.Connection ServeFault.Read)
         → input.new.faults ≡ counted input.old.faults }
     ensures write { IsErrOf result.ending (ProgramFault.Connection ServeFault.Write)
