@@ -15,7 +15,7 @@ use Rattle.ua_settings.specs.declared.peers.PeerCall.{PeerCall}
 use Rattle.conversation.specs.OtherEnds.{ConversationEnding, peer_at}
 use Rattle.conversation.specs.Answering.{AnswersFirst}
 use Rattle.conversation.specs.Closing.{LogCalls, ChangesLog, TellsCall, TellsEnd, connection_fault, call_outcome}
-use Rattle.conversation.specs.Starting.{Asks, StartsCall}
+use Rattle.conversation.specs.Starting.{AsksPeer, StartsCall}
 use Rattle.conversation.specs.Moves.{OnlyGrows, Moves}
 use Rattle.conversation.specs.Conversing.{behavior_over}
 use Rattle.conversation.specs.Growing.{transitions_grow, talks_grow, greets_grow, grows_none, grows_more}
@@ -66,7 +66,7 @@ module _ {A C L : Type 0} (state : A → Store) where
 
   -- a call begins
   ask_grows : (a b : Store) (made : List ℕ) (result : Result (Unit {0}) ExchangeFault)
-      → Asks a b made result → OnlyGrows a b
+      → AsksPeer a b made result → OnlyGrows a b
   ask_grows a b made result (inl greets) = greets_grow a b [] made result greets
   ask_grows a b made result (inr (frame, greets, none, starved)) =
       greets_grow a b [] frame (Ok tt) greets

@@ -14,8 +14,8 @@ use Rattle.conversation.specs.Closing.{LogCalls, TellsCall}
 
 -- the frame that asks was made, and is to be written; or a fault came, or memory to keep the frame
 -- was wanting, and nothing is
-abbrev pub Asks : (old new : Store) → (made : List ℕ) → Result (Unit {0}) ExchangeFault → Type 0
-Asks old new made result =
+abbrev pub AsksPeer : (old new : Store) → (made : List ℕ) → Result (Unit {0}) ExchangeFault → Type 0
+AsksPeer old new made result =
     Greets old new [] made result
     ⊎ ((frame : List ℕ) × Greets old new [] frame (Ok tt) × (made ≡ [])
     × (result ≡ Err OutOfMemory))
@@ -29,7 +29,7 @@ pub record StartsCall {A C L : Type 0} (state : A → Store) (calls : LogCalls L
   pub settings : between.server.settings ≡ v.server.settings
   pub clock : between.clock ≡ v.clock
   pub log : between.log ≡ v.log
-  pub asks : Asks (state v.server.replica.archive) (state between.server.replica.archive) made
+  pub asks : AsksPeer (state v.server.replica.archive) (state between.server.replica.archive) made
       result
   pub begins : elim result [
     | Ok done ↦ (other ≡ Some (Peer (peer_at calling []))) × (w ≡ between)

@@ -4,7 +4,7 @@ ghost use Rattle.std.specs.Prelude.{◌≡◌, ◌++◌, [], List, ℕ, IfOk, If
 ghost use Rattle.exchange.specs.declared.fault.ExchangeFault.{ExchangeFault};
 ghost use Rattle.std.specs.Result.{result_map_both};
 ghost use Rattle.ua_peers.specs.Calling.{calling};
-ghost use Rattle.conversation.specs.Starting.{Asks};
+ghost use Rattle.conversation.specs.Starting.{AsksPeer};
 
 use crate::answering::append;
 use crate::world::World;
@@ -22,7 +22,7 @@ pub(crate) fn start_call<A: Archive, C, L>(
     ensures clock { world.new.clock ≡ world.old.clock }
     ensures log { world.new.log ≡ world.old.log }
     ensures asks { (made : List ℕ) × (out.new.items ≡ out.old.items ++ made)
-        × Asks (A.state world.old.server.replica.archive)
+        × AsksPeer (A.state world.old.server.replica.archive)
         (A.state world.new.server.replica.archive) made
         (result_map_both (λ dialog. tt) (λ fault. fault) result) }
     ensures dialog { IfOk result (λ dialog. dialog ≡ calling) }

@@ -89,7 +89,7 @@ module _ {H R W V E : Type 0} (input : Input R) (output : Output W) (handler : B
     }
 
   -- what stood first was answered, where nothing waited; the answer waits
-  pub record IsAnswer (now : ℕ) (v : V) (old : Slot H R W E) (made : List ℕ) (end : Option E)
+  pub record IsAnswering (now : ℕ) (v : V) (old : Slot H R W E) (made : List ℕ) (end : Option E)
       (w : V) (new : Slot H R W E) : Type 0 where
     pub responsive : IsResponsive old
     pub answers : handler.answers v old.handler made end w new.handler
@@ -148,7 +148,7 @@ module _ {H R W V E : Type 0} (input : Input R) (output : Output W) (handler : B
   -- what happened at a connection, at this time, between two states of the world
   abbrev pub IsStep : ℕ → V → Slot H R W E → Step E → V → Slot H R W E → Type 0
   IsStep now v old (Receives bytes made end) w new = (w ≡ v) × IsReceipt now old bytes made end new
-  IsStep now v old (Answers made end) w new = IsAnswer now v old made end w new
+  IsStep now v old (Answers made end) w new = IsAnswering now v old made end w new
   IsStep now v old Lacks w new = IsLack v old w new
   IsStep now v old (Writes bytes) w new = (w ≡ v) × IsWrite now old bytes new
   IsStep now v old (Stops ending) w new = (w ≡ v) × IsStop now old ending new

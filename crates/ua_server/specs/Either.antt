@@ -3,7 +3,7 @@ use Rattle.std.specs.Prelude.{◌≡◌, ℕ, ◌<◌, ◌≤◌, ◌||◌, Bool
 use Rattle.std.specs.Result.{result_map_both}
 use Rattle.std.specs.Io.KnownBytes.{Consumes, IsAtEnd}
 use Rattle.archive.specs.Store.{Store, KeepsContent, CountsFaults}
-use Rattle.exchange.specs.Frames.{begins}
+use Rattle.conversation.specs.OtherEnds.{is_peers}
 use Rattle.ua_settings.specs.Settings.{SettingsValues}
 use Rattle.counted_io.specs.declared.fault.ServeFault.{ServeFault}
 use Rattle.counted_io.specs.declared.fault.ServeFault.TheVariants.{Read}
@@ -18,11 +18,6 @@ use Rattle.exchange.specs.Fault.{exchange_number}
 use Rattle.ua_connection.specs.Environments.{Environment}
 use Rattle.ua_peers.specs.Peers.{MeetsBehind, responding}
 use Rattle.ua_connection.specs.Serving.{ServesBehind}
-
--- a peer's connection begins with the letters of a frame that asks or brings; fewer than three
--- bytes are a client's
-abbrev pub is_peers : List ℕ → Bool
-is_peers first = begins first (codes "RXV") || begins first (codes "RXD")
 
 -- how a client's connection ended, as that of any connection
 abbrev pub end_of_client : ClientServed → Served

@@ -58,19 +58,20 @@ pub record KnownMachine : Type 1 where
 abbrev pub known_machine : {H A S R W P Q : Type 0} → Machine H A S R W → (A → Store)
     → Effects S P Q → Input P → Output Q → (R → Option (List ℕ)) → (W → Option (List ℕ))
     → KnownMachine
-known_machine {H} {A} {S} {R} {W} {P} {Q} machine held effects input output unread written = record {
-  Host = H;
-  Archive = A;
-  Source = S;
-  Reader = R;
-  Writer = W;
-  ClientReader = P;
-  ClientWriter = Q;
-  machine = machine;
-  held = held;
-  effects = effects;
-  input = input;
-  output = output;
-  unread = unread;
-  written = written;
-}
+known_machine {H} {A} {S} {R} {W} {P} {Q}
+    machine held effects input output unread written = record {
+      Host = H;
+      Archive = A;
+      Source = S;
+      Reader = R;
+      Writer = W;
+      ClientReader = P;
+      ClientWriter = Q;
+      machine = machine;
+      held = held;
+      effects = effects;
+      input = input;
+      output = output;
+      unread = unread;
+      written = written;
+    }

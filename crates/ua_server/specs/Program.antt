@@ -104,9 +104,9 @@ OpensBy {H} {A} machine held path result old new =
 -- ---- the network
 
 -- the text is no address, and nothing was asked for; or nothing was had at it
-abbrev pub IsUnheard : {H T : Type 0} → (SocketAddr → Option T → H → Type 0) → List ℕ
+abbrev pub IsUnreachable : {H T : Type 0} → (SocketAddr → Option T → H → Type 0) → List ℕ
     → (old new : H) → Type 0
-IsUnheard had text old new =
+IsUnreachable had text old new =
     (((address : SocketAddr) → IsSocketText text address → ⊥) × (new ≡ old))
     ⊎ ((address : SocketAddr) × IsSocketText text address × had address None new)
 
@@ -119,17 +119,21 @@ ListensAt known gave told settings count old new =
     × known.machine.listens old.host address settings.peers (Some source) new.host
     × ServesMany known gave told settings count source old new)
 
--- connections were served that came to the address of the settings; or nothing is had there, and the
--- archive, the clock and standard error stay, or memory was wanting before; no other fault ends it
+-- nothing is had at the address of the settings, and the archive, the clock and standard error stay
+abbrev pub FindsNoPlace : {C E : Type 0} → (known : KnownMachine) → SettingsValues
+    → (old new : Serving known.Host known.Archive C E) → Type 0
+FindsNoPlace known settings old new =
+    IsUnreachable (λ address. known.machine.listens old.host address settings.peers)
+    settings.listen old.host new.host × (new ≡ record old { host = new.host })
+
+-- connections were served that came to the address of the settings; or nothing is had there, or
+-- memory was wanting before; no other fault ends it
 abbrev pub Listens : {C E : Type 0} → (known : KnownMachine) → Readings C → Known E
     → SettingsValues → ℕ → (old new : Serving known.Host known.Archive C E)
     → Result (Unit {0}) ProgramFault → Type 0
 Listens known gave told settings count old new (Ok done) =
     ListensAt known gave told settings count old new
-Listens known gave told settings count old new (Err Address) =
-    IsUnheard (λ address. known.machine.listens old.host address settings.peers) settings.listen
-    old.host new.host
-    × (new ≡ record old { host = new.host })
+Listens known gave told settings count old new (Err Address) = FindsNoPlace known settings old new
 Listens known gave told settings count old new (Err (Connection OutOfMemory)) = new ≡ old
 Listens known gave told settings count old new (Err fault) = ⊥
 
@@ -173,7 +177,7 @@ CallsAt known address old new result =
 abbrev pub CallsPeer : (known : KnownMachine) → List ℕ
     → (old new : Calling known.Host known.Archive) → Result (Unit {0}) ProgramFault → Type 0
 CallsPeer known text old new result =
-    (IsUnheard (known.machine.calls old.host) text old.host new.host × (result ≡ Err Address)
+    (IsUnreachable (known.machine.calls old.host) text old.host new.host × (result ≡ Err Address)
     × (new ≡ record old { host = new.host }))
     ⊎ ((address : SocketAddr) × IsSocketText text address × CallsAt known address old new result)
 

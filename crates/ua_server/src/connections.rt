@@ -7,7 +7,7 @@ ghost use Rattle.multiplex.specs.Serving.{AreAllFree};
 ghost use Rattle.ua_server.specs.Telling.{fresh_log};
 ghost use Rattle.ua_server.specs.Network.{limits_of, serving_of, IsServingFault};
 ghost use Rattle.ua_server.specs.Host.{known_machine};
-ghost use Rattle.ua_server.specs.Program.{IsUnheard, Listens};
+ghost use Rattle.ua_server.specs.Program.{IsUnreachable, Listens};
 
 use crate::host::Host;
 use crate::log::ErrorLog;
@@ -54,7 +54,7 @@ fn listen_at<H: Host>(settings: &Settings, host: &mut H) -> Result<H::Source, Pr
         × H.means.listens host.old address settings.now.peers (Some source) host.new) }
     ensures refused { IfErr result
         (λ fault. (fault ≡ ProgramFault.Address)
-        × IsUnheard (λ address. H.means.listens host.old address settings.now.peers)
+        × IsUnreachable (λ address. H.means.listens host.old address settings.now.peers)
         settings.now.listen host.old host.new) }
 {
     let Ok(address) = settings.listen().parse::<SocketAddr>() else {

@@ -8,7 +8,8 @@ ghost use Rattle.ua_connection.specs.Environments.{Environment};
 ghost use Rattle.ua_connection.specs.Passing.{LineEvent, Passes};
 ghost use Rattle.ua_connection.specs.Serving.{ServesBehind, ServesPromptly};
 ghost use Rattle.ua_peers.specs.Peers.{MeetsBehind, responding};
-ghost use Rattle.ua_server.specs.Either.{is_peers, end_of_client, end_of_peer, ServesEither};
+ghost use Rattle.ua_server.specs.Either.{end_of_client, end_of_peer, ServesEither};
+ghost use Rattle.conversation.specs.OtherEnds.{is_peers};
 
 use archive::Archive;
 use counted_io::{Counted, ServeFault};

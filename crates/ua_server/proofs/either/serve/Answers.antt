@@ -1,6 +1,7 @@
 use Rattle.std.proofs.Common.{◌≡◌, ◌∙◌, Err, take, sym, inl, inr}
 use Rattle.counted_io.specs.declared.fault.ServeFault.TheVariants.{Read}
-use Rattle.ua_server.specs.Either.{is_peers, ConnectionEnding}
+use Rattle.ua_server.specs.Either.{ConnectionEnding}
+use Rattle.conversation.specs.OtherEnds.{is_peers}
 use Rattle.ua_connection.proofs.Outsides.{empty_environment}
 use Rattle.ua_server.proofs.Firsts.{are-first, breaks-off, goes-as-peer, goes-as-client}
 use Rattle.ua_server.proofs.either.serve.Goals as goal
