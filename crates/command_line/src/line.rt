@@ -37,7 +37,7 @@ pub enum Line<'a> {
         hex: bool,
         now: Option<i64>,
     },
-    /// Serve so many connections over TCP, one after the other, by the settings of the file at `settings`.
+    /// Serve so many connections over TCP, many at once, by the settings of the file at `settings`.
     Serve {
         settings: &'a str,
         connections: u32,

@@ -1,4 +1,4 @@
-//! Tests: dialogs with peers, and clients and peers that come one after the other.
+//! Tests: dialogs with peers, and clients and peers that come at once.
 #![tactic(auto)]
 
 #[cfg(test)]
