@@ -1,5 +1,5 @@
 -- Lemmas: what answers do are moves of the world, and moves add up.
-use Rattle.std.proofs.Common.{◌≡◌, ◌∙◌, ℕ, ℤ, List, [], Option, None, Some, Result, Ok, Err, slice_get, inl, inr, refl, sym, subst}
+use Rattle.std.proofs.Common.{◌≡◌, ◌∙◌, ℕ, ℤ, List, [], Option, None, Some, Result, Ok, Err, inl, inr, refl, sym, subst}
 use Rattle.archive.specs.Store.{Store}
 use Rattle.multiplex.specs.Behavior.{MovesAddUp}
 use Rattle.multiplex.specs.declared.handler.SlotEnd.{SlotEnd}
@@ -10,15 +10,21 @@ use Rattle.conversation.specs.declared.other_end.OtherEnd.TheVariants.{Unknown, 
 use Rattle.exchange.specs.declared.fault.ExchangeFault.{ExchangeFault}
 use Rattle.ua_peers.specs.declared.calling.SyncFault.{SyncFault}
 use Rattle.ua_peers.specs.declared.calling.SyncFault.TheVariants.{Exchange}
-use Rattle.ua_peers.specs.Calling.{calling}
 use Rattle.ua_settings.specs.declared.peers.PeerCall.{PeerCall}
-use Rattle.conversation.specs.OtherEnds.{ConversationEnding, peer_at}
+use Rattle.conversation.specs.OtherEnds.{ConversationEnding}
 use Rattle.conversation.specs.Answering.{AnswersFirst}
-use Rattle.conversation.specs.Closing.{LogCalls, ChangesLog, TellsCall, TellsEnd, connection_fault, call_outcome}
-use Rattle.conversation.specs.Starting.{AsksPeer, StartsCall}
+use Rattle.conversation.specs.Closing.{LogCalls, TellsCallOf, TellsFault, TellsEnd, connection_fault, call_outcome}
+use Rattle.conversation.specs.Starting.{AsksPeer, BeginsBy, StartsCall}
 use Rattle.conversation.specs.Moves.{OnlyGrows, Moves}
 use Rattle.conversation.specs.Conversing.{behavior_over}
 use Rattle.conversation.specs.Growing.{transitions_grow, talks_grow, greets_grow, grows_none, grows_more}
+
+-- a frame that asks
+ask_grows : (a b : Store) (made : List ℕ) (result : Result (Unit {0}) ExchangeFault)
+    → AsksPeer a b made result → OnlyGrows a b
+ask_grows a b made result (inl greets) = greets_grow a b [] made result greets
+ask_grows a b made result (inr (frame, greets, none, starved)) =
+    greets_grow a b [] frame (Ok tt) greets
 
 module _ {A C L : Type 0} (state : A → Store) where
   -- none
@@ -52,53 +58,37 @@ module _ {A C L : Type 0} (state : A → Store) where
 
   -- how a call ended
   call_moves : (calls : LogCalls L) (callee : ℕ) (v w : World A C L)
-      (outcome : Result (Unit {0}) SyncFault) → TellsCall calls v callee outcome w
-      → Moves state v w
-  call_moves calls callee v w outcome told = by (slice_get v.server.settings.peers callee) told
-    where
-      by : (peer : Option PeerCall) → (elim peer [
-        | None ↦ w ≡ v
-        | Some peer ↦
-            ChangesLog (λ old new. calls.told_call old callee peer.address outcome new) v w
-      ]) → Moves state v w
-      by None e = same_moves v w e
-      by (Some peer) changed = log_moves v w changed.0
+      (outcome : Result (Unit {0}) SyncFault) (peer : Option PeerCall)
+      → TellsCallOf calls v callee outcome w peer → Moves state v w
+  call_moves calls callee v w outcome None e = same_moves v w e
+  call_moves calls callee v w outcome (Some peer) changed = log_moves v w changed.0
 
   -- a call begins
-  ask_grows : (a b : Store) (made : List ℕ) (result : Result (Unit {0}) ExchangeFault)
-      → AsksPeer a b made result → OnlyGrows a b
-  ask_grows a b made result (inl greets) = greets_grow a b [] made result greets
-  ask_grows a b made result (inr (frame, greets, none, starved)) =
-      greets_grow a b [] frame (Ok tt) greets
+  begin_moves : (calls : LogCalls L) (callee : ℕ) (v w : World A C L) (other : Option OtherEnd)
+      (result : Result (Unit {0}) ExchangeFault) → BeginsBy calls callee v other w result
+      → Moves state v w
+  begin_moves calls callee v w other (Ok done) so = same_moves v w so.1
+  begin_moves calls callee v w other (Err fault) so =
+      call_moves calls callee v w (Err (Exchange fault)) _ so.1
 
   start_moves : (calls : LogCalls L) (callee : ℕ) (v w : World A C L) (made : List ℕ)
       (other : Option OtherEnd) → StartsCall state calls callee v made other w → Moves state v w
   start_moves calls callee v w made other s =
       more_moves v s.between w (s.settings, ask_grows _ _ made s.result s.asks)
-      (by s.result s.begins)
-    where
-      by : (result : Result (Unit {0}) ExchangeFault) → (elim result [
-        | Ok done ↦ (other ≡ Some (Peer (peer_at calling []))) × (w ≡ s.between)
-        | Err fault ↦
-            (other ≡ None) × TellsCall calls s.between callee (Err (Exchange fault)) w
-      ]) → Moves state s.between w
-      by (Ok done) so = same_moves s.between w so.1
-      by (Err fault) so = call_moves calls callee s.between w (Err (Exchange fault)) so.1
+      (begin_moves calls callee s.between w other s.result s.begins)
 
   -- how a connection ended
+  fault_moves : (calls : LogCalls L) (v w : World A C L) (fault : Option ServeFault)
+      → TellsFault calls v w fault → Moves state v w
+  fault_moves calls v w None e = same_moves v w e
+  fault_moves calls v w (Some fault) changed = log_moves v w changed.0
+
   end_moves : (calls : LogCalls L) (callee : Option ℕ) (v w : World A C L) (other : OtherEnd)
       (ending : SlotEnd ConversationEnding) → TellsEnd calls callee v other ending w
       → Moves state v w
   end_moves calls (Some callee) v w other ending told =
-      call_moves calls callee v w (call_outcome ending) told
-  end_moves calls None v w other ending told = by (connection_fault ending) told
-    where
-      by : (fault : Option ServeFault) → (elim fault [
-        | None ↦ w ≡ v
-        | Some fault ↦ ChangesLog (λ old new. calls.told old fault new) v w
-      ]) → Moves state v w
-      by None e = same_moves v w e
-      by (Some fault) changed = log_moves v w changed.0
+      call_moves calls callee v w (call_outcome ending) _ told
+  end_moves calls None v w other ending told = fault_moves calls v w (connection_fault ending) told
 
   -- what answers do are moves, and moves add up
   pub moves_over : (gave : C → List ℤ → C → Type 0) (calls : LogCalls L)

@@ -9,6 +9,7 @@ use Rattle.ua_peers.specs.declared.peers.PeerEnded.{PeerEnded}
 use Rattle.ua_peers.specs.declared.peers.PeerEnded.TheVariants as parted
 use Rattle.ua_peers.specs.declared.calling.SyncFault.{SyncFault}
 use Rattle.ua_peers.specs.declared.calling.SyncFault.TheVariants.{Connection, Exchange, Peer}
+use Rattle.ua_settings.specs.declared.peers.PeerCall.{PeerCall}
 use Rattle.conversation.specs.declared.ended.Ended.{Ended}
 use Rattle.conversation.specs.declared.ended.Ended.TheVariants as ended
 use Rattle.conversation.specs.declared.other_end.OtherEnd.{OtherEnd}
@@ -59,23 +60,31 @@ call_outcome other = Err (Connection Read)
 abbrev pub ChangesLog : {A C L : Type 0} → (L → L → Type 0) → World A C L → World A C L → Type 0
 ChangesLog so v w = (w ≡ record v { log = w.log }) × so v.log w.log
 
+-- it was told how a call of a peer ended, of this number, if there is one
+abbrev pub TellsCallOf : {A C L : Type 0} → LogCalls L → World A C L → (callee : ℕ)
+    → Result (Unit {0}) SyncFault → World A C L → Option PeerCall → Type 0
+TellsCallOf calls v callee outcome w None = w ≡ v
+TellsCallOf calls v callee outcome w (Some peer) =
+    ChangesLog (λ old new. calls.told_call old callee peer.address outcome new) v w
+
 -- it was told how a call of the peer of this number in the settings ended, if there is one
 abbrev pub TellsCall : {A C L : Type 0} → LogCalls L → World A C L → (callee : ℕ)
     → Result (Unit {0}) SyncFault → World A C L → Type 0
-TellsCall calls v callee outcome w = elim (slice_get v.server.settings.peers callee) [
-  | None ↦ w ≡ v
-  | Some peer ↦ ChangesLog (λ old new. calls.told_call old callee peer.address outcome new) v w
-]
+TellsCall calls v callee outcome w =
+    TellsCallOf calls v callee outcome w (slice_get v.server.settings.peers callee)
+
+-- it was told by which fault a connection ended, if it did
+abbrev pub TellsFault : {A C L : Type 0} → LogCalls L → World A C L → World A C L
+    → Option ServeFault → Type 0
+TellsFault calls v w None = w ≡ v
+TellsFault calls v w (Some fault) = ChangesLog (λ old new. calls.told old fault new) v w
 
 -- it was told how a connection that was accepted ended, if it ended by a fault: of a peer's dialog
 -- nothing, since the peer was told; of a call it was told how that ended
 abbrev pub TellsEnd : {A C L : Type 0} → LogCalls L → (callee : Option ℕ) → World A C L → OtherEnd
     → SlotEnd ConversationEnding → World A C L → Type 0
 TellsEnd calls (Some callee) v other ending w = TellsCall calls v callee (call_outcome ending) w
-TellsEnd calls None v other ending w = elim (connection_fault ending) [
-  | None ↦ w ≡ v
-  | Some fault ↦ ChangesLog (λ old new. calls.told old fault new) v w
-]
+TellsEnd calls None v other ending w = TellsFault calls v w (connection_fault ending)
 
 -- it was told that a connection failed before it could be used
 abbrev pub TellsFailed : {A C L : Type 0} → LogCalls L → World A C L → (now : ℕ) → World A C L

@@ -20,6 +20,14 @@ AsksPeer old new made result =
     ⊎ ((frame : List ℕ) × Greets old new [] frame (Ok tt) × (made ≡ [])
     × (result ≡ Err OutOfMemory))
 
+-- a dialog is begun; or that it can't be is told, as the end of the call
+abbrev pub BeginsBy : {A C L : Type 0} → LogCalls L → (callee : ℕ) → World A C L
+    → Option OtherEnd → World A C L → Result (Unit {0}) ExchangeFault → Type 0
+BeginsBy calls callee v other w (Ok done) =
+    (other ≡ Some (Peer (peer_at calling []))) × (w ≡ v)
+BeginsBy calls callee v other w (Err fault) =
+    (other ≡ None) × TellsCall calls v callee (Err (Exchange fault)) w
+
 -- a peer is called, as the initiator of a dialog, over an archive; where that can't be, it is told,
 -- as the end of the call; what the server is set to stays, and the time isn't asked for
 pub record StartsCall {A C L : Type 0} (state : A → Store) (calls : LogCalls L) (callee : ℕ)
@@ -31,7 +39,4 @@ pub record StartsCall {A C L : Type 0} (state : A → Store) (calls : LogCalls L
   pub log : between.log ≡ v.log
   pub asks : AsksPeer (state v.server.replica.archive) (state between.server.replica.archive) made
       result
-  pub begins : elim result [
-    | Ok done ↦ (other ≡ Some (Peer (peer_at calling []))) × (w ≡ between)
-    | Err fault ↦ (other ≡ None) × TellsCall calls between callee (Err (Exchange fault)) w
-  ]
+  pub begins : BeginsBy calls callee between other w result

@@ -1,7 +1,6 @@
 //! How a call of a peer begins.
 
-ghost use Rattle.std.specs.Prelude.{◌≡◌, ◌++◌, [], List, ℕ, IfOk, IfErr, Result, Unit, Ok, Err};
-ghost use Rattle.exchange.specs.declared.fault.ExchangeFault.{ExchangeFault};
+ghost use Rattle.std.specs.Prelude.{◌≡◌, ◌++◌, List, ℕ, IfOk};
 ghost use Rattle.std.specs.Result.{result_map_both};
 ghost use Rattle.ua_peers.specs.Calling.{calling};
 ghost use Rattle.conversation.specs.Starting.{AsksPeer};

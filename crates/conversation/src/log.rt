@@ -1,6 +1,8 @@
 //! What is told of connections.
 
 ghost use Rattle.std.specs.Prelude.{ℕ, List, Result};
+ghost use Rattle.counted_io.specs.declared.fault.ServeFault.{ServeFault};
+ghost use Rattle.ua_peers.specs.declared.calling.SyncFault.{SyncFault};
 
 use counted_io::ServeFault;
 use ua_peers::SyncFault;
