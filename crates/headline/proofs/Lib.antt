@@ -8,3 +8,8 @@ pub mod Merging
 pub mod Machines
 pub mod Witnesses
 pub mod Told
+pub mod Turns
+pub mod Streams
+pub mod Steps
+pub mod Conversations
+pub mod Calls

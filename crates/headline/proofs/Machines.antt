@@ -43,7 +43,7 @@ same_lists (x ∷ xs) (y ∷ ys) same =
     ap (λ z. z ∷ xs) (same_Some x y (same 0))
     ∙ ap (λ l. y ∷ l) (same_lists xs ys (λ i. same (suc i)))
 
-set_by : {X : Type 0} (xs ys : List X) (i : ℕ) (x y : X) → slice_get xs i ≡ Some x
+pub set_by : {X : Type 0} (xs ys : List X) (i : ℕ) (x y : X) → slice_get xs i ≡ Some x
     → slice_get ys i ≡ Some y → ((j : ℕ) → (j ≡ i → ⊥) → slice_get ys j ≡ slice_get xs j)
     → ys ≡ slice_set xs i y
 set_by xs ys i x y at now others = same_lists ys (slice_set xs i y) (λ j. elim (cases_eq j i) [
@@ -64,7 +64,7 @@ all_there P [] i x all e = absurd (none-some x e)
 all_there P (y ∷ xs) zero x all e = subst P (same_Some _ _ e) all.0
 all_there P (y ∷ xs) (suc i) x all e = all_there P xs i x all.1 e
 
-all_set : {X : Type 0} (P : X → Type 0) (xs : List X) (i : ℕ) (x : X) → AllByRecursion P xs → P x
+pub all_set : {X : Type 0} (P : X → Type 0) (xs : List X) (i : ℕ) (x : X) → AllByRecursion P xs → P x
     → AllByRecursion P (slice_set xs i x)
 all_set P [] i x all is = tt
 all_set P (y ∷ xs) zero x all is = (is, all.1)
@@ -77,7 +77,7 @@ all_append P (x ∷ xs) ys all more = (all.0, all_append P xs ys all.1 more)
 
 -- ---- lawful events
 
-updates_lawful : (i : ℕ) (events : List Event) → AreUpdates i events
+pub updates_lawful : (i : ℕ) (events : List Event) → AreUpdates i events
     → AllByRecursion IsLawfulEvent events
 updates_lawful i [] are = tt
 updates_lawful i (e ∷ es) are = (
@@ -85,7 +85,7 @@ updates_lawful i (e ∷ es) are = (
   updates_lawful i es are.1,
 )
 
-exchange_lawful : (i : ℕ) (e : Event) → IsExchange i e → IsLawfulEvent e
+pub exchange_lawful : (i : ℕ) (e : Event) → IsExchange i e → IsLawfulEvent e
 exchange_lawful i e (inl sends) = subst IsLawfulEvent (sym sends.2) tt
 exchange_lawful i e (inr delivers) = subst IsLawfulEvent (sym delivers.2) tt
 
@@ -107,7 +107,7 @@ held_by : (a : Store) (R : Content) → IsInUse a → a.content ≡ R → IsLeft
 held_by a R used held = inl (used.unbroken, held)
 
 -- and it holds what its replica does
-in_site : (a : Store) (s : ReplicaState) → IsInUse a → IsSiteOf a s → a.content ≡ s.content
+pub in_site : (a : Store) (s : ReplicaState) → IsInUse a → IsSiteOf a s → a.content ≡ s.content
 in_site a s used is = sym (left-alone a s.content used.durable used.honest used.unbroken is.content)
 
 -- the end of a past is a time of it
@@ -170,6 +170,21 @@ module _ {A : Type 0} (state : A → Store) where
   -- ---- what happens since
 
   -- lawful events, behind which the machines hold what the replicas do
+  pub simulates_on : (p : Execution) (machines : List A) (more : List Event) → IsExecution p
+      → AreInUse state machines → AllByRecursion IsLawfulEvent more
+      → AreSites state machines (run more (run p.events p.start)).replicas
+      → Simulates state (record p { events = p.events ++ more }) machines
+  simulates_on p machines more past used lawful hold = record {
+    past = record {
+      begins = past.begins;
+      lawful =
+          all_append IsLawfulEvent p.events more past.lawful lawful;
+    };
+    used = used;
+    hold = subst (λ (w : World). AreSites state machines w.replicas)
+        (sym (run_append p.events more p.start)) hold;
+  }
+
   goes_on : (p : Execution) (machines : List A) (more : List Event) → IsExecution p
       → AreInUse state machines → AllByRecursion IsLawfulEvent more
       → AreSites state machines (run more (run p.events p.start)).replicas
@@ -177,20 +192,11 @@ module _ {A : Type 0} (state : A → Store) where
   goes_on p machines more past used lawful hold = (
     record p { events = p.events ++ more },
     (more, refl),
-    record {
-      past = record {
-        begins = past.begins;
-        lawful =
-            all_append IsLawfulEvent p.events more past.lawful lawful;
-      };
-      used = used;
-      hold = subst (λ (w : World). AreSites state machines w.replicas)
-          (sym (run_append p.events more p.start)) hold;
-    },
+    simulates_on p machines more past used lawful hold,
   )
 
   -- a machine that goes on holds what its replica does
-  goes_as : (left later : Store) (s : ReplicaState) → RestartsAs left later → left.id ≡ s.id
+  pub goes_as : (left later : Store) (s : ReplicaState) → RestartsAs left later → left.id ≡ s.id
       → left.own ≡ s.number → IsSiteOf later (record s { content = later.content })
   goes_as left later s goes id own = record {
     id = goes.id ∙ id;
@@ -199,7 +205,7 @@ module _ {A : Type 0} (state : A → Store) where
         held_by later later.content goes.used refl;
   }
 
-  lawful_later : (a : Store) → IsInUse a → (r : Record) → Has a.content r → IsLawfulRecord r
+  pub lawful_later : (a : Store) → IsInUse a → (r : Record) → Has a.content r → IsLawfulRecord r
   lawful_later a used r h = (settled a used).lawful.records r h
 
   pub served : (p : Execution) (old new : List A) → Simulates state p old → Serves state old new

@@ -5,3 +5,5 @@ pub mod Readings
 pub mod Joins
 pub mod Machines
 pub mod Told
+pub mod Plants
+pub mod Calls

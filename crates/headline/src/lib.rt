@@ -18,10 +18,15 @@
 
 mod lawful;
 mod laws;
+mod plants;
 mod witness;
 
 pub use laws::{
     archives_answer_alike, every_update_stands, good_answers_are_stored,
     machines_simulate_an_execution, merging_is_a_join, pages_stay, replicas_converge,
+};
+pub use plants::{
+    a_call_that_is_done_leaves_all_at_both, answers_are_updates, connections_forge_nothing,
+    conversations_take_turns, frames_are_exchanges, plants_simulate_an_execution,
 };
 pub use witness::two_machines;

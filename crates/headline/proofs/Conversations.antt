@@ -1,0 +1,91 @@
+-- What is answered on one connection of many is a turn of a machine.
+use Rattle.std.proofs.Common.{◌≡◌, ℕ, ℤ, List, [], ◌++◌, map, Option, Result, refl, sym, ap, ◌∙◌, inl, inr}
+use Rattle.std.proofs.lemmas.List.{append-nil}
+use Rattle.archive.specs.Store.{Store}
+use Rattle.counted_io.specs.declared.fault.ServeFault.{ServeFault}
+use Rattle.exchange.specs.Dialogs.{party_of}
+use Rattle.ua_connection.specs.Turns.{ConnectionState}
+use Rattle.ua_peers.specs.Wires.{IsFirstPart}
+use Rattle.ua_peers.specs.declared.peers.PeerEnded.{PeerEnded}
+use Rattle.conversation.specs.declared.other_end.OtherEnd.{OtherEnd}
+use Rattle.conversation.specs.declared.other_end.PeerDialog.{PeerDialog}
+use Rattle.conversation.specs.declared.world.World.{World}
+use Rattle.conversation.specs.OtherEnds.{ConversationEnding}
+use Rattle.conversation.specs.Answering.{AnswersClient, AnswersPeer, Tells}
+use Rattle.headline.specs.Machines.{RestartsAs, IsMachine}
+use Rattle.headline.specs.Plants.{AreUnforged, Plant, plant_after, IsClientTurn, IsPeerTurn}
+
+-- what is written is what was said, or nothing
+told_part : (said made : List ℕ) (ends : Option (Result PeerEnded ServeFault))
+    (ending : Option ConversationEnding) → Tells said ends made ending → IsFirstPart made said
+told_part said made ends ending (inl all) = ([], sym all.0 ∙ sym (append-nil made))
+told_part said made ends ending (inr none) = (said, told none.0)
+  where
+    told : made ≡ [] → said ≡ made ++ said
+    told e = ap (λ (l : List ℕ). l ++ said) (sym e)
+
+module _ {A C L : Type 0} (state : A → Store) where
+  pub client_turns : (gave : C → List ℤ → C → Type 0) (v w : World A C L) (link : ConnectionState)
+      (made : List ℕ) (ending : Option ConversationEnding) (next : OtherEnd) (old : Plant A)
+      (place : ℕ) (later : A) → AnswersClient state gave v link made ending w next
+      → IsMachine state old.machines place v.server.replica.archive
+      → (state w.server.replica.archive).honest
+      → RestartsAs (state w.server.replica.archive) (state later)
+      → IsClientTurn state old (plant_after old place later [])
+  client_turns gave v w link made ending next old place later answers there honest goes = record {
+    place = place;
+    before = v.server.replica.archive;
+    later = later;
+    made = [];
+    there = there;
+    acts = record {
+      behind = w.server.replica.archive;
+      does = record {
+        settings = v.server.settings;
+        link = link;
+        used = answers.used;
+        answer = made;
+        ending = answers.ends;
+        next = answers.later;
+        advances = answers.advances;
+        silent = refl;
+      };
+      honest = honest;
+      goes = goes;
+    };
+    now = refl;
+  }
+
+  pub peer_turns : (v w : World A C L) (peer : PeerDialog) (made : List ℕ)
+      (ending : Option ConversationEnding) (next : OtherEnd) (old : Plant A) (place : ℕ) (later : A)
+      (answers : AnswersPeer state v peer made ending w next)
+      → AreUnforged old.written (party_of (state v.server.replica.archive))
+      (map (λ t. t.frame) answers.talks.taken)
+      → IsMachine state old.machines place v.server.replica.archive
+      → (state w.server.replica.archive).honest
+      → RestartsAs (state w.server.replica.archive) (state later)
+      → IsPeerTurn state old (plant_after old place later made)
+  peer_turns v w peer made ending next old place later answers unforged there honest goes = record {
+    place = place;
+    before = v.server.replica.archive;
+    later = later;
+    made = made;
+    there = there;
+    acts = record {
+      behind = w.server.replica.archive;
+      does = record {
+        start = peer.dialog;
+        came = peer.frames.waiting;
+        said = answers.said;
+        rest = answers.rest;
+        ending = answers.ends;
+        last = answers.last;
+        talks = answers.talks;
+        unforged = unforged;
+        part = told_part answers.said made answers.ends ending answers.tells;
+      };
+      honest = honest;
+      goes = goes;
+    };
+    now = refl;
+  }

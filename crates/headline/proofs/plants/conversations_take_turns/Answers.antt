@@ -1,0 +1,8 @@
+use Rattle.headline.proofs.Conversations.{client_turns, peer_turns}
+use Rattle.headline.proofs.plants.conversations_take_turns.Goals as goal
+
+pub returns-clause-client : goal.returns-clause-client
+returns-clause-client g c = client_turns g.A.Archive.state g.C.Clock.gave
+
+pub returns-clause-peer : goal.returns-clause-peer
+returns-clause-peer g c = peer_turns g.A.Archive.state
