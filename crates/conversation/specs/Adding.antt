@@ -13,7 +13,7 @@ use Rattle.ua_peers.specs.declared.calling.SyncFault.TheVariants.{Exchange}
 use Rattle.ua_settings.specs.declared.peers.PeerCall.{PeerCall}
 use Rattle.conversation.specs.OtherEnds.{ConversationEnding}
 use Rattle.conversation.specs.Answering.{AnswersFirst}
-use Rattle.conversation.specs.Closing.{LogCalls, TellsCallOf, TellsFault, TellsEnd, connection_fault, call_outcome}
+use Rattle.conversation.specs.Closing.{LogCalls, TellsCallOf, TellsFaultOf, TellsEnd, connection_fault, call_outcome}
 use Rattle.conversation.specs.Starting.{AsksPeer, BeginsBy, StartsCall}
 use Rattle.conversation.specs.Moves.{OnlyGrows, Moves}
 use Rattle.conversation.specs.Conversing.{behavior_over}
@@ -79,7 +79,7 @@ module _ {A C L : Type 0} (state : A → Store) where
 
   -- how a connection ended
   fault_moves : (calls : LogCalls L) (v w : World A C L) (fault : Option ServeFault)
-      → TellsFault calls v w fault → Moves state v w
+      → TellsFaultOf calls v w fault → Moves state v w
   fault_moves calls v w None e = same_moves v w e
   fault_moves calls v w (Some fault) changed = log_moves v w changed.0
 

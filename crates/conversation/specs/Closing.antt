@@ -74,17 +74,17 @@ TellsCall calls v callee outcome w =
     TellsCallOf calls v callee outcome w (slice_get v.server.settings.peers callee)
 
 -- it was told by which fault a connection ended, if it did
-abbrev pub TellsFault : {A C L : Type 0} → LogCalls L → World A C L → World A C L
+abbrev pub TellsFaultOf : {A C L : Type 0} → LogCalls L → World A C L → World A C L
     → Option ServeFault → Type 0
-TellsFault calls v w None = w ≡ v
-TellsFault calls v w (Some fault) = ChangesLog (λ old new. calls.told old fault new) v w
+TellsFaultOf calls v w None = w ≡ v
+TellsFaultOf calls v w (Some fault) = ChangesLog (λ old new. calls.told old fault new) v w
 
 -- it was told how a connection that was accepted ended, if it ended by a fault: of a peer's dialog
 -- nothing, since the peer was told; of a call it was told how that ended
 abbrev pub TellsEnd : {A C L : Type 0} → LogCalls L → (callee : Option ℕ) → World A C L → OtherEnd
     → SlotEnd ConversationEnding → World A C L → Type 0
 TellsEnd calls (Some callee) v other ending w = TellsCall calls v callee (call_outcome ending) w
-TellsEnd calls None v other ending w = TellsFault calls v w (connection_fault ending)
+TellsEnd calls None v other ending w = TellsFaultOf calls v w (connection_fault ending)
 
 -- it was told that a connection failed before it could be used
 abbrev pub TellsFailed : {A C L : Type 0} → LogCalls L → World A C L → (now : ℕ) → World A C L
