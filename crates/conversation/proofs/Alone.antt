@@ -51,7 +51,8 @@ fed settings a b link later used made piece advances =
     }) advances
 
 -- nothing came, and nothing was made, behind an end
-abbrev IsStill : {A C L : Type 0} → World A C L → (came made : List ℕ) → World A C L → OtherEnd → Type 0
+abbrev IsStill : {A C L : Type 0} → World A C L → (came made : List ℕ) → World A C L → OtherEnd
+    → Type 0
 IsStill v came made w next = (came ≡ []) × (made ≡ []) × (w ≡ v) × (next ≡ Over)
 
 ends-known : (end : Option ConversationEnding) (link : ConnectionState)

@@ -1,19 +1,25 @@
 -- What is answered on one connection of many is a turn of a machine.
-use Rattle.std.proofs.Common.{◌≡◌, ℕ, ℤ, List, [], ◌++◌, map, Option, Result, refl, sym, ap, ◌∙◌, inl, inr}
+use Rattle.std.proofs.Common.{◌≡◌, ℕ, ℤ, List, [], ◌++◌, map, Option, None, Some, Result, Ok, Err, refl, sym, ap, subst, ◌∙◌, inl, inr}
 use Rattle.std.proofs.lemmas.List.{append-nil}
 use Rattle.archive.specs.Store.{Store}
 use Rattle.counted_io.specs.declared.fault.ServeFault.{ServeFault}
+use Rattle.exchange.specs.declared.fault.ExchangeFault.{ExchangeFault}
 use Rattle.exchange.specs.Dialogs.{party_of}
 use Rattle.ua_connection.specs.Turns.{ConnectionState}
 use Rattle.ua_peers.specs.Wires.{IsFirstPart}
 use Rattle.ua_peers.specs.declared.peers.PeerEnded.{PeerEnded}
+use Rattle.ua_peers.specs.declared.calling.SyncFault.{SyncFault}
+use Rattle.ua_peers.specs.declared.calling.SyncFault.TheVariants.{Exchange}
+use Rattle.ua_settings.specs.declared.peers.PeerCall.{PeerCall}
 use Rattle.conversation.specs.declared.other_end.OtherEnd.{OtherEnd}
 use Rattle.conversation.specs.declared.other_end.PeerDialog.{PeerDialog}
 use Rattle.conversation.specs.declared.world.World.{World}
 use Rattle.conversation.specs.OtherEnds.{ConversationEnding}
 use Rattle.conversation.specs.Answering.{AnswersClient, AnswersPeer, Tells}
+use Rattle.conversation.specs.Closing.{LogCalls, TellsCallOf}
+use Rattle.conversation.specs.Starting.{AsksPeer, BeginsBy, StartsCall}
 use Rattle.headline.specs.Machines.{RestartsAs, IsMachine}
-use Rattle.headline.specs.Plants.{AreUnforged, Plant, plant_after, IsClientTurn, IsPeerTurn}
+use Rattle.headline.specs.Plants.{AreUnforged, BeginsCall, Plant, plant_after, IsClientTurn, IsPeerTurn, IsCallTurn}
 
 -- what is written is what was said, or nothing
 told_part : (said made : List ℕ) (ends : Option (Result PeerEnded ServeFault))
@@ -23,6 +29,13 @@ told_part said made ends ending (inr none) = (said, told none.0)
   where
     told : made ≡ [] → said ≡ made ++ said
     told e = ap (λ (l : List ℕ). l ++ said) (sym e)
+
+-- the frame that asks was made and is written, or not kept
+begun_by : (a b : Store) (made : List ℕ) (result : Result (Unit {0}) ExchangeFault)
+    → AsksPeer a b made result → BeginsCall a b made
+begun_by a b made result (inl greets) = (made, result, greets, ([], sym (append-nil made)))
+begun_by a b made result (inr (frame, greets, none, starved)) =
+    (frame, Ok tt, greets, (frame, ap (λ (l : List ℕ). l ++ frame) (sym none)))
 
 module _ {A C L : Type 0} (state : A → Store) where
   pub client_turns : (gave : C → List ℤ → C → Type 0) (v w : World A C L) (link : ConnectionState)
@@ -89,3 +102,45 @@ module _ {A C L : Type 0} (state : A → Store) where
     };
     now = refl;
   }
+
+  -- how a call ended was told, and the archive stays
+  told_same : (calls : LogCalls L) (callee : ℕ) (v w : World A C L)
+      (outcome : Result (Unit {0}) SyncFault) (peer : Option PeerCall)
+      → TellsCallOf calls v callee outcome w peer
+      → w.server.replica.archive ≡ v.server.replica.archive
+  told_same calls callee v w outcome None e =
+      ap (λ (u : World A C L). u.server.replica.archive) e
+  told_same calls callee v w outcome (Some peer) changed =
+      ap (λ (u : World A C L). u.server.replica.archive) changed.0
+
+  begun_same : (calls : LogCalls L) (callee : ℕ) (v w : World A C L) (other : Option OtherEnd)
+      (result : Result (Unit {0}) ExchangeFault) → BeginsBy calls callee v other w result
+      → w.server.replica.archive ≡ v.server.replica.archive
+  begun_same calls callee v w other (Ok done) so =
+      ap (λ (u : World A C L). u.server.replica.archive) so.1
+  begun_same calls callee v w other (Err fault) so =
+      told_same calls callee v w (Err (Exchange fault)) _ so.1
+
+  pub call_turns : (calls : LogCalls L) (callee : ℕ) (v w : World A C L) (made : List ℕ)
+      (other : Option OtherEnd) (old : Plant A) (place : ℕ) (later : A)
+      → StartsCall state calls callee v made other w
+      → IsMachine state old.machines place v.server.replica.archive
+      → (state w.server.replica.archive).honest
+      → RestartsAs (state w.server.replica.archive) (state later)
+      → IsCallTurn state old (plant_after old place later made)
+  call_turns calls callee v w made other old place later starts there honest goes =
+      let same = begun_same calls callee starts.between w other starts.result starts.begins in
+      record {
+        place = place;
+        before = v.server.replica.archive;
+        later = later;
+        made = made;
+        there = there;
+        acts = record {
+          behind = starts.between.server.replica.archive;
+          does = begun_by _ _ made starts.result starts.asks;
+          honest = subst (λ (x : A). (state x).honest) same honest;
+          goes = subst (λ (x : A). RestartsAs (state x) (state later)) same goes;
+        };
+        now = refl;
+      }

@@ -28,6 +28,8 @@ ghost use Rattle.conversation.specs.declared.other_end.PeerDialog.{PeerDialog};
 ghost use Rattle.conversation.specs.declared.world.World.{World as Shared};
 ghost use Rattle.conversation.specs.OtherEnds.{ConversationEnding};
 ghost use Rattle.conversation.specs.Answering.{AnswersClient, AnswersPeer};
+ghost use Rattle.conversation.specs.Closing.{LogCalls};
+ghost use Rattle.conversation.specs.Starting.{StartsCall};
 ghost use Rattle.headline.specs.Calls.{WasHeld, CallState, GoesBy, call_begun};
 ghost use Rattle.headline.specs.Executions.{Execution, IsExecution};
 ghost use Rattle.headline.specs.Machines.{RestartsAs, IsMachine};
@@ -114,8 +116,8 @@ pub fn plants_simulate_an_execution<A: Archive>()
         → AreSimulated A.state p later }
 {}
 
-/// What is answered on one connection of many (`conversation`) is a turn of a machine of any plant: a client's message, and frames of a peer,
-/// as long as they aren't forged. So what a loop over many connections makes of a machine's archive is turns of a plant.
+/// What is answered on one connection of many (`conversation`) is a turn of a machine of any plant: a client's message, frames of a peer, as
+/// long as they aren't forged, and the beginning of a call. So what a loop over many connections makes of a machine's archive is turns of a plant.
 pub fn conversations_take_turns<A: Archive, C: Clock, L>()
     ensures client { (v w : Shared A C L) (link : ConnectionState) (made : List ℕ)
         (ending : Option ConversationEnding) (next : OtherEnd) (old : Plant A) (place : ℕ)
@@ -133,6 +135,13 @@ pub fn conversations_take_turns<A: Archive, C: Clock, L>()
         → (A.state w.server.replica.archive).honest
         → RestartsAs (A.state w.server.replica.archive) (A.state later)
         → IsPeerTurn A.state old (plant_after old place later made) }
+    ensures call { (calls : LogCalls L) (callee : ℕ) (v w : Shared A C L) (made : List ℕ)
+        (other : Option OtherEnd) (old : Plant A) (place : ℕ) (later : A)
+        → StartsCall A.state calls callee v made other w
+        → IsMachine A.state old.machines place v.server.replica.archive
+        → (A.state w.server.replica.archive).honest
+        → RestartsAs (A.state w.server.replica.archive) (A.state later)
+        → IsCallTurn A.state old (plant_after old place later made) }
 {}
 
 /// When a call is done each end holds all that the other one held: whatever other turns come in between, which only add to what either

@@ -1,4 +1,4 @@
-use Rattle.headline.proofs.Conversations.{client_turns, peer_turns}
+use Rattle.headline.proofs.Conversations.{client_turns, peer_turns, call_turns}
 use Rattle.headline.proofs.plants.conversations_take_turns.Goals as goal
 
 pub returns-clause-client : goal.returns-clause-client
@@ -6,3 +6,6 @@ returns-clause-client g c = client_turns g.A.Archive.state g.C.Clock.gave
 
 pub returns-clause-peer : goal.returns-clause-peer
 returns-clause-peer g c = peer_turns g.A.Archive.state
+
+pub returns-clause-call : goal.returns-clause-call
+returns-clause-call g c = call_turns g.A.Archive.state
