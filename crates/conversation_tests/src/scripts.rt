@@ -5,8 +5,8 @@ use conversation::{Conversation, Ended, World};
 use counted_io::ServeFault;
 use historian::Server;
 use multiplex::{
-    Arrival, Call, Limits, NonBlockingRead, NonBlockingWrite, ReadAttempt, Slot, Source, WriteAttempt,
-    serve,
+    Arrival, Call, Limits, NonBlockingRead, NonBlockingWrite, ReadAttempt, Slot, Source,
+    WriteAttempt, serve,
 };
 use server_rows::network::Faults;
 use server_rows::plant::{archive_of, clock, plant};

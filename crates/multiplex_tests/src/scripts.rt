@@ -288,12 +288,7 @@ impl Handler for Echo {
         }
     }
 
-    fn call(
-        alloc: Global,
-        _callee: usize,
-        _world: &mut Notes,
-        out: &mut Vec<u8>,
-    ) -> Option<Echo> {
+    fn call(alloc: Global, _callee: usize, _world: &mut Notes, out: &mut Vec<u8>) -> Option<Echo> {
         match out.extend_from_slice(b"call") {
             Ok(()) => Some(Echo::begin(alloc, 1)),
             Err(_) => None,

@@ -1,6 +1,6 @@
 -- What a run of the program tells on standard error, its exit status, and the line of a call of a
 -- peer.
-use Rattle.std.specs.Prelude.{◌≡◌, ◌≢◌, slice_get, slice_set, replicate, ℕ, ◌-◌, ◌==◌, nat_lt, Bool, false, List, [], ◌∷◌, ◌++◌, Option, None, Some, Result, Ok, Err, ◌⊎◌, codes, if◌then◌else◌}
+use Rattle.std.specs.Prelude.{◌≡◌, ◌≢◌, slice_get, slice_set, replicate, ℕ, ◌-◌, ◌==◌, nat_lt, Bool, true, false, List, [], ◌∷◌, ◌++◌, Option, None, Some, Result, Ok, Err, ◌⊎◌, codes, if◌then◌else◌}
 use Rattle.std.specs.Fmt.{decimal}
 use Rattle.std.specs.Option.{option_map_or}
 use Rattle.std.specs.Result.{result_err}
@@ -124,9 +124,10 @@ failed_lines missed =
 -- second ago of another, and else told, with how many were counted
 abbrev pub LogsFailed : {E : Type 0} → Known E → ErrorLog E → (now : ℕ) → ErrorLog E → Type 0
 LogsFailed contents old now new =
-    if is_quiet old now then new ≡ record old { missed = counted old.missed }
-    else (new ≡ record old { errors = new.errors; told_at = Some now; missed = 0 })
-    × LogsLine contents old.errors new.errors (failed_lines old.missed)
+    ((is_quiet old now ≡ true) × (new ≡ record old { missed = counted old.missed }))
+    ⊎ ((is_quiet old now ≡ false)
+    × (new ≡ record old { errors = new.errors; told_at = Some now; missed = 0 })
+    × LogsLine contents old.errors new.errors (failed_lines old.missed))
 
 -- what that of a dialog with a peer that was called is called
 abbrev pub sync_fault : SyncFault → ProgramFault

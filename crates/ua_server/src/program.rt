@@ -400,11 +400,12 @@ fn do_over<H: Host, C: Clock, R: Read, W: Write, E: Write>(
         result.errors) result.ending }
 {
     let ending = do_command(&mut world, line, host, input, output);
-    host.close(world.server.replica.archive);
+    let World { server, clock, log } = world;
+    host.close(server.replica.archive);
     Ran {
         ending,
-        clock: world.clock,
-        errors: world.log.errors,
+        clock,
+        errors: log.errors,
     }
 }
 
