@@ -1,13 +1,20 @@
 -- Names for parts of the definitions in specs/Telling, for the lemmas on these parts.
-use Rattle.std.proofs.Common.{◌≡◌, ◌≤◌, ◌<◌, ◌+◌, ◌-◌, ℕ, Bool, List, [], ◌++◌, length, take, codes, cond, Some, None, refl, ap, ◌∙◌, append_assoc, arith}
+use Rattle.std.proofs.Common.{◌≡◌, ◌≤◌, ◌<◌, ◌+◌, ◌-◌, ℕ, Bool, true, false, List, [], ◌++◌, length, take, codes, cond, Some, None, Ok, Err, inl, inr, refl, ap, subst, ◌∙◌, append_assoc, arith}
 use Rattle.std.proofs.lemmas.Bool.{le-leb}
 use Rattle.std.proofs.lemmas.List.{length-append}
 use Rattle.std.specs.Fmt.{decimal}
 use Rattle.std.specs.Fmt.Cut.{cut_to, dots, floor_char_boundary}
-use Rattle.std.specs.Prelude.{Option}
+use Rattle.std.specs.Prelude.{◌↔◌, ◌⊎◌, ◌≢◌, Option, Result, OnOk, OnErr, IsTrue, slice_get}
+use Rattle.std.specs.Result.{result_err}
+use Rattle.std.specs.Io.KnownBytes.{Appends}
+use Rattle.counted_io.specs.Bytes.{AppendsPart, counted}
+use Rattle.counted_io.specs.Tally.{Tally}
+use Rattle.counted_io.specs.declared.fault.ServeFault.{ServeFault}
+use Rattle.ua_peers.specs.declared.calling.SyncFault.{SyncFault}
+use Rattle.ua_server.specs.declared.log.ErrorLog.{ErrorLog}
 use Rattle.ua_server.specs.declared.program.ProgramFault.{ProgramFault}
 use Rattle.ua_server.specs.declared.program.ProgramFault.TheVariants.{Line, File, Settings, Store, BadHex, Address, Connection, Call, Exchange, Peer}
-use Rattle.ua_server.specs.Telling.{words_of, number_told, numbered, fault_text, failed_text, told_line, place_line}
+use Rattle.ua_server.specs.Telling.{Known, words_of, number_told, numbered, fault_text, failed_text, outcome_text, call_lines, told_line, place_line, KeepsLast, LogsCall, LogsLine}
 
 -- the text of a fault without a number, and of one with it
 pub text-without : (fault : ProgramFault) → number_told fault ≡ None
@@ -119,3 +126,35 @@ second-line (Connection fault) = refl
 second-line (Call fault) = refl
 second-line (Exchange fault) = refl
 second-line (Peer number) = refl
+
+-- a line that was written, or a first part of it
+pub line-logged : {W : Type 0} (contents : W → Option (List ℕ)) (old new : Tally W)
+    (result : Result (Unit {0}) ServeFault) (line : List ℕ)
+    → OnOk result (Appends (contents old.inner) (contents new.inner) line)
+    → OnOk result (new.faults ≡ old.faults)
+    → OnErr result (AppendsPart (contents old.inner) (contents new.inner) line)
+    → OnErr result (new.faults ≡ counted old.faults) → LogsLine contents old new line
+line-logged contents old new (Ok done) line ok kept part write = inl (ok, kept)
+line-logged contents old new (Err fault) line ok kept part write = inr (part, write)
+
+-- what a test denies
+pub denied : (b : Bool) (P : Type 0) → (IsTrue b ↔ P) → b ≡ false → P → ⊥
+denied true P iff e p = absurd cc
+denied false P iff e p = let so = iff.1 p in cc
+
+-- how a call ended, where the last one ended otherwise
+pub call-logged : {E : Type 0} (contents : Known E) (old new : ErrorLog E) (callee : ℕ)
+    (address : List ℕ) (outcome : Result (Unit {0}) SyncFault) (fault : Option SyncFault)
+    → fault ≡ result_err outcome → (slice_get old.calls callee ≢ Some fault)
+    → new ≡ record old { errors = new.errors; calls = new.calls }
+    → KeepsLast old.calls new.calls callee fault
+    → LogsLine contents old.errors new.errors (call_lines address (outcome_text fault))
+    → LogsCall contents old callee address outcome new
+call-logged {E} contents old new callee address outcome fault e differs set keeps line =
+    let P : Option SyncFault → Type 0 = λ f.
+    ((slice_get old.calls callee ≡ Some f) × (new ≡ old))
+    ⊎ ((slice_get old.calls callee ≢ Some f)
+    × (new ≡ record old { errors = new.errors; calls = new.calls })
+    × KeepsLast old.calls new.calls callee f
+    × LogsLine contents old.errors new.errors (call_lines address (outcome_text f))) in
+    subst P e (inr (differs, set, keeps, line))

@@ -67,10 +67,9 @@ ServingLoop known C E =
     Loop known.Source OtherEnd known.ClientReader known.ClientWriter
     (World known.Archive C (ErrorLog E)) ConversationEnding
 
--- it serves over these settings, this archive, this clock and standard error
-pub record IsAround {C E : Type 0} (known : KnownMachine) (settings : SettingsValues)
+-- it serves over this archive, this clock and standard error
+pub record IsAround {C E : Type 0} (known : KnownMachine)
     (around : Serving known.Host known.Archive C E) (loop : ServingLoop known C E) : Type 0 where
-  pub settings_are : loop.world.server.settings ≡ settings
   pub archive : loop.world.server.replica.archive ≡ around.archive
   pub clock : loop.world.clock ≡ around.clock
   pub errors : loop.world.log.errors ≡ around.errors
@@ -82,8 +81,9 @@ pub record ServesMany {C E : Type 0} (known : KnownMachine) (gave : Readings C) 
   pub first : ServingLoop known C E
   pub last : ServingLoop known C E
   pub done : Bool
-  pub begins : IsAround known settings old first
-  pub ends : IsAround known settings new last
+  pub begins : IsAround known old first
+  pub ends : IsAround known new last
+  pub settings_are : first.world.server.settings ≡ settings
   pub from : first.source ≡ source
   pub fresh : first.world.log ≡ fresh_log old.errors
   pub free : AreAllFree first.slots

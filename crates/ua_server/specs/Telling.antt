@@ -1,6 +1,6 @@
 -- What a run of the program tells on standard error, its exit status, and the line of a call of a
 -- peer.
-use Rattle.std.specs.Prelude.{◌≡◌, ◌≢◌, slice_get, slice_set, replicate, ℕ, ◌-◌, ◌==◌, nat_lt, Bool, true, false, List, [], ◌∷◌, ◌++◌, Option, None, Some, Result, Ok, Err, ◌⊎◌, codes, if◌then◌else◌}
+use Rattle.std.specs.Prelude.{◌≡◌, ◌≢◌, ◌<◌, ◌≤◌, slice_get, slice_set, replicate, ℕ, ◌-◌, ◌==◌, nat_lt, Bool, true, false, List, [], ◌∷◌, ◌++◌, Option, None, Some, Result, Ok, Err, ◌⊎◌, codes, if◌then◌else◌}
 use Rattle.std.specs.Fmt.{decimal}
 use Rattle.std.specs.Option.{option_map_or}
 use Rattle.std.specs.Result.{result_err}
@@ -156,6 +156,12 @@ behind_name address text = address ++ behind_peer text
 abbrev pub call_lines : List ℕ → List ℕ → List ℕ
 call_lines address text = codes "uahist: peer " ++ behind_name address text
 
+-- of the first 64 peers the end of the last call is kept
+abbrev pub KeepsLast : (old new : List (Option SyncFault)) → (callee : ℕ) → Option SyncFault
+    → Type 0
+KeepsLast old new callee fault =
+    (callee < 64 → new ≡ slice_set old callee fault) × (64 ≤ callee → new ≡ old)
+
 -- how a call of a peer ended: as the last one, and nothing is told; or otherwise, which is told and
 -- kept; of the peers behind the 64th it is told each time
 abbrev pub LogsCall : {E : Type 0} → Known E → ErrorLog E → (callee : ℕ) → (address : List ℕ)
@@ -164,7 +170,8 @@ LogsCall contents old callee address outcome new =
     let fault = result_err outcome in
     ((slice_get old.calls callee ≡ Some fault) × (new ≡ old))
     ⊎ ((slice_get old.calls callee ≢ Some fault)
-    × (new ≡ record old { errors = new.errors; calls = slice_set old.calls callee fault })
+    × (new ≡ record old { errors = new.errors; calls = new.calls })
+    × KeepsLast old.calls new.calls callee fault
     × LogsLine contents old.errors new.errors (call_lines address (outcome_text fault)))
 
 -- the second line of a fault, if it has one

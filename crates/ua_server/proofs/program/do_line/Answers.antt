@@ -24,5 +24,5 @@ returns-in-Ok-clause-does g c =
       Ok (server.settings, server.replica.archive),
       c.open_server.new.host,
       subst P c.settings_path.ensures c.in-Ok.ensures.opens,
-      c.do_over.ensures.does,
+      rw c.new-log.ensures at c.do_over.ensures.does,
     )
