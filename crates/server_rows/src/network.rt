@@ -2,7 +2,9 @@
 
 use crate::ends::{Narrow, Slow};
 use counted_io::ServeFault;
-use multiplex::{Arrival, NonBlockingRead, NonBlockingWrite, ReadAttempt, Source, WriteAttempt};
+use multiplex::{
+    Arrival, Call, NonBlockingRead, NonBlockingWrite, ReadAttempt, Source, WriteAttempt,
+};
 use std::alloc::Global;
 use std::io::{Read, Write};
 use ua_server::{Log, SyncFault};
