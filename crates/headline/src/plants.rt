@@ -28,7 +28,7 @@ ghost use Rattle.conversation.specs.declared.other_end.PeerDialog.{PeerDialog};
 ghost use Rattle.conversation.specs.declared.world.World.{World as Shared};
 ghost use Rattle.conversation.specs.OtherEnds.{ConversationEnding};
 ghost use Rattle.conversation.specs.Answering.{AnswersClient, AnswersPeer};
-ghost use Rattle.conversation.specs.Closing.{LogCalls};
+ghost use Rattle.conversation.specs.Closing.{log_calls};
 ghost use Rattle.conversation.specs.Starting.{StartsCall};
 ghost use Rattle.headline.specs.Calls.{WasHeld, CallState, GoesBy, call_begun};
 ghost use Rattle.headline.specs.Executions.{Execution, IsExecution};
@@ -36,6 +36,7 @@ ghost use Rattle.headline.specs.Machines.{RestartsAs, IsMachine};
 ghost use Rattle.headline.specs.Plants.{BringsSent, IsReplaced, AreLawfulBatches, AreUnforged, AreWholeFrames, CameOver, Plant, plant_after, IsNewPlant, PlantSimulates, PlantExtendsTo, IsClientTurn, IsPeerTurn, IsCallTurn, IsRestart, ArePlantSteps, AreSimulated};
 
 use archive::Archive;
+use conversation::Log;
 use exchange::State;
 use ua_connection::Clock;
 
@@ -118,7 +119,7 @@ pub fn plants_simulate_an_execution<A: Archive>()
 
 /// What is answered on one connection of many (`conversation`) is a turn of a machine of any plant: a client's message, frames of a peer, as
 /// long as they aren't forged, and the beginning of a call. So what a loop over many connections makes of a machine's archive is turns of a plant.
-pub fn conversations_take_turns<A: Archive, C: Clock, L>()
+pub fn conversations_take_turns<A: Archive, C: Clock, L: Log>()
     ensures client { (v w : Shared A C L) (link : ConnectionState) (made : List ℕ)
         (ending : Option ConversationEnding) (next : OtherEnd) (old : Plant A) (place : ℕ)
         (later : A) → AnswersClient A.state C.gave v link made ending w next
@@ -135,9 +136,9 @@ pub fn conversations_take_turns<A: Archive, C: Clock, L>()
         → (A.state w.server.replica.archive).honest
         → RestartsAs (A.state w.server.replica.archive) (A.state later)
         → IsPeerTurn A.state old (plant_after old place later made) }
-    ensures call { (calls : LogCalls L) (callee : ℕ) (v w : Shared A C L) (made : List ℕ)
+    ensures call { (callee : ℕ) (v w : Shared A C L) (made : List ℕ)
         (other : Option OtherEnd) (old : Plant A) (place : ℕ) (later : A)
-        → StartsCall A.state calls callee v made other w
+        → StartsCall A.state (log_calls L.told L.told_failed L.told_call) callee v made other w
         → IsMachine A.state old.machines place v.server.replica.archive
         → (A.state w.server.replica.archive).honest
         → RestartsAs (A.state w.server.replica.archive) (A.state later)

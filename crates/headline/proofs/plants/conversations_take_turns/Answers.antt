@@ -1,3 +1,4 @@
+use Rattle.conversation.specs.Closing.{log_calls}
 use Rattle.headline.proofs.Conversations.{client_turns, peer_turns, call_turns}
 use Rattle.headline.proofs.plants.conversations_take_turns.Goals as goal
 
@@ -8,4 +9,5 @@ pub returns-clause-peer : goal.returns-clause-peer
 returns-clause-peer g c = peer_turns g.A.Archive.state
 
 pub returns-clause-call : goal.returns-clause-call
-returns-clause-call g c = call_turns g.A.Archive.state
+returns-clause-call g c =
+    call_turns g.A.Archive.state (log_calls g.L.Log.told g.L.Log.told_failed g.L.Log.told_call)
