@@ -1,5 +1,7 @@
 //! A plant, its archive and its clock.
 
+ghost use Rattle.std.specs.Prelude.{◌≡◌, IfSome};
+
 use archive::ListArchive;
 use stamp::ReplicaNo;
 use std::alloc::Global;
@@ -21,6 +23,16 @@ pub fn archive_of(alloc: Global, settings: &Settings) -> ListArchive {
     ListArchive::new(alloc, settings.archive(), settings.replica())
 }
 
+/// A text; none for want of memory.
+fn text_of(alloc: Global, text: &str) -> Option<Text>
+    ensures { IfSome result (λ made. made ≡ text.now) }
+{
+    match Text::from_str(alloc, text) {
+        Ok(made) => Some(made),
+        Err(_) => None,
+    }
+}
+
 /// A plant with the one variable `ns=1;s=T`, an Int32, at the replica of this number; none where it is no replica's, or for want
 /// of memory.
 pub fn plant_of(alloc: Global, number: u8) -> Option<Settings> {
@@ -35,13 +47,15 @@ pub fn plant_of(alloc: Global, number: u8) -> Option<Settings> {
             folder: None,
         }],
     };
+    let url = text_of(alloc, "opc.tcp://localhost:4840")?;
+    let application = text_of(alloc, "urn:uahist")?;
     Some(Settings::of(Parts {
         archive: Uuid::nil(),
         replica: ReplicaNo::new(number)?,
         store: None,
-        listen: Text::from_str(alloc, "127.0.0.1:4840").ok()?,
-        url: Text::from_str(alloc, "opc.tcp://localhost:4840").ok()?,
-        application: Text::from_str(alloc, "urn:uahist").ok()?,
+        listen: text_of(alloc, "127.0.0.1:4840")?,
+        url,
+        application,
         users: Users::new(alloc, true),
         space: Space::build(alloc, &plan).ok()?,
         connections: 64,
