@@ -154,7 +154,7 @@ impl<'a> TcpSource<'a> {
 
     /// The ends of a connection, which is watched under the number of its slot.
     fn watch(&mut self, slot: usize, mut stream: TcpStream) -> io::Result<(Incoming, Outgoing)> {
-        while self.ready.len() <= slot {
+        for _ in self.ready.len()..slot.saturating_add(1) {
             self.ready.push(false)?;
         }
         self.poll.registry().register(
