@@ -23,7 +23,10 @@ use Rattle.ua_connection.proofs.Flow.{turned-then}
 use Rattle.conversation.specs.declared.other_end.OtherEnd.{OtherEnd}
 use Rattle.conversation.specs.declared.other_end.OtherEnd.TheVariants.{Unknown, Client, Over}
 use Rattle.conversation.specs.declared.world.World.{World}
-use Rattle.conversation.specs.OtherEnds.{ConversationEnding, is_peers, known_by, unless_over}
+use Rattle.conversation.specs.declared.door.Door.{Door}
+use Rattle.conversation.specs.declared.door.Door.TheVariants.{Both, Clients, Peers}
+use Rattle.conversation.specs.Doors.{is_peers}
+use Rattle.conversation.specs.OtherEnds.{ConversationEnding, known_by, unless_over}
 use Rattle.conversation.specs.Receiving.{TakesBytes}
 use Rattle.conversation.specs.Answering.{AnswersFirst, client_ending}
 use Rattle.conversation.specs.Alone.{still_behavior, TakesAll, AnswersStretch}
@@ -64,24 +67,26 @@ too-few : (letters : List ℕ) → nat_lt (length letters) 3 ≡ true → 3 ≤ 
 too-few letters few long = absurd (grind (arith, rules))
 
 -- the first three letters tell whose connection it is, whatever follows
-peers-more : (came more : List ℕ) → nat_lt (length came) 3 ≡ false
-    → is_peers (came ++ more) ≡ is_peers came
-peers-more [] more long = cc
-peers-more (a ∷ []) more long = cc
-peers-more (a ∷ b ∷ []) more long = cc
-peers-more (a ∷ b ∷ c ∷ came) more long = refl
+peers-more : (door : Door) (came more : List ℕ) → nat_lt (length came) 3 ≡ false
+    → is_peers door (came ++ more) ≡ is_peers door came
+peers-more Both [] more long = cc
+peers-more Both (a ∷ []) more long = cc
+peers-more Both (a ∷ b ∷ []) more long = cc
+peers-more Both (a ∷ b ∷ c ∷ came) more long = refl
+peers-more Clients came more long = refl
+peers-more Peers came more long = refl
 
 -- who brought these bytes, and more, is no peer: nobody is known yet, or a client
-known : (came more : List ℕ) → is_peers (came ++ more) ≡ false
-    → ((nat_lt (length came) 3 ≡ true) × (known_by came ≡ Unknown came))
-    ⊎ (known_by came ≡ Client (with_more new_link came))
-known came more client = by (nat_lt (length came) 3) refl
+known : (door : Door) (came more : List ℕ) → is_peers door (came ++ more) ≡ false
+    → ((nat_lt (length came) 3 ≡ true) × (known_by door came ≡ Unknown door came))
+    ⊎ (known_by door came ≡ Client (with_more new_link came))
+known door came more client = by (nat_lt (length came) 3) refl
   where
     by : (b : Bool) → nat_lt (length came) 3 ≡ b
-        → ((nat_lt (length came) 3 ≡ true) × (known_by came ≡ Unknown came))
-        ⊎ (known_by came ≡ Client (with_more new_link came))
+        → ((nat_lt (length came) 3 ≡ true) × (known_by door came ≡ Unknown door came))
+        ⊎ (known_by door came ≡ Client (with_more new_link came))
     by true e = inl (e, rw e refl)
-    by false e = inr (rw e (rw (sym (peers-more came more e) ∙ client) refl))
+    by false e = inr (rw e (rw (sym (peers-more door came more e) ∙ client) refl))
 
 module _ {R W A C L : Type 0} (input : Input R) (output : Output W) (state : A → Store)
     (gave : C → List ℤ → C → Type 0) (log : LogCalls L) where
@@ -323,33 +328,33 @@ module _ {R W A C L : Type 0} (input : Input R) (output : Output W) (state : A �
           (λ (s : Slot OtherEnd R W ConversationEnding). s.handler) own.5.1 ∙ is) taken.1 own.6)
 
       -- the same from the first letter on
-      pub from-letters : (v w : World A C L) (letters : List ℕ)
+      pub from-letters : (v w : World A C L) (door : Door) (letters : List ℕ)
           (old new : Slot OtherEnd R W ConversationEnding) (steps : List (Step ConversationEnding))
-          → old.handler ≡ Unknown letters → nat_lt (length letters) 3 ≡ true → TakesAll steps
+          → old.handler ≡ Unknown door letters → nat_lt (length letters) 3 ≡ true → TakesAll steps
           → 3 ≤ length (letters ++ bytes_received steps)
-          → is_peers (letters ++ bytes_received steps) ≡ false
+          → is_peers door (letters ++ bytes_received steps) ≡ false
           → AreOwnSteps input output (still_behavior state gave log) v old steps w new
           → AnswersStretch state gave v new_link (letters ++ bytes_received steps)
           (bytes_made steps) w new.handler
-      from-letters v w letters old new [] is few taken long client own =
+      from-letters v w door letters old new [] is few taken long client own =
           absurd (too-few letters few (subst (λ (came : List ℕ). 3 ≤ length came)
           (append-nil letters) long))
-      from-letters v w letters old new
+      from-letters v w door letters old new
           (step.Receives bytes made end ∷ steps) is few taken long client own =
           let got = subst (λ (e : Option ConversationEnding).
-          TakesBytes (Unknown letters) bytes made e own.3.handler) taken.0
+          TakesBytes (Unknown door letters) bytes made e own.3.handler) taken.0
           (subst (λ (o : OtherEnd). TakesBytes o bytes made end own.3.handler) is
           own.5.1.receives) in
           let rest = bytes_received steps in
           let same = append_assoc letters bytes rest in
           let long_so : 3 ≤ length ((letters ++ bytes) ++ rest) =
           subst (λ (came : List ℕ). 3 ≤ length came) (sym same) long in
-          let client_so : is_peers ((letters ++ bytes) ++ rest) ≡ false =
-          subst (λ (came : List ℕ). is_peers came ≡ false) (sym same) client in
+          let client_so : is_peers door ((letters ++ bytes) ++ rest) ≡ false =
+          subst (λ (came : List ℕ). is_peers door came ≡ false) (sym same) client in
           let on : AnswersStretch state gave own.1 new_link ((letters ++ bytes) ++ rest)
           (bytes_made steps) w new.handler =
-          elim (known (letters ++ bytes) rest client_so) [
-            | inl more ↦ from-letters own.1 w (letters ++ bytes) own.3 new steps
+          elim (known door (letters ++ bytes) rest client_so) [
+            | inl more ↦ from-letters own.1 w door (letters ++ bytes) own.3 new steps
                 (got.1 ∙ more.1) more.0 taken.1 long_so client_so own.6
             | inr now ↦ came-answered own.1 w new_link (letters ++ bytes) rest
                 (bytes_made steps) new.handler (alone own.1 w
@@ -362,50 +367,50 @@ module _ {R W A C L : Type 0} (input : Input R) (output : Output W) (state : A �
           same
           (subst (λ (m : List ℕ). AnswersStretch state gave own.1 new_link
           ((letters ++ bytes) ++ rest) (m ++ bytes_made steps) w new.handler) (sym got.0) on))
-      from-letters v w letters old new
+      from-letters v w door letters old new
           (step.Answers made end ∷ steps) is few taken long client own =
           let said = subst (λ (o : OtherEnd).
           AnswersFirst state gave own.0 o made end own.1 own.3.handler) is own.5.answers in
-          let on = from-letters own.1 w letters own.3 new steps said.3 few taken.1 long client own.6
+          let on = from-letters own.1 w door letters own.3 new steps said.3 few taken.1 long client own.6
           in
           same-answered v own.1 w new_link (letters ++ bytes_received steps)
           (made ++ bytes_made steps) new.handler (said.2 ∙ own.4)
           (subst (λ (m : List ℕ). AnswersStretch state gave own.1 new_link
           (letters ++ bytes_received steps) (m ++ bytes_made steps) w new.handler)
           (sym said.0) on)
-      from-letters v w letters old new (step.Lacks ∷ steps) is few taken long client own =
+      from-letters v w door letters old new (step.Lacks ∷ steps) is few taken long client own =
           let said = subst (λ (o : OtherEnd).
           AnswersFirst state gave own.0 o [] None own.1 own.3.handler) is own.5.answers in
           same-answered v own.1 w new_link (letters ++ bytes_received steps)
           (bytes_made steps) new.handler (said.2 ∙ own.4)
-          (from-letters own.1 w letters own.3 new steps said.3 few taken.1 long client own.6)
-      from-letters v w letters old new (step.Writes bytes ∷ steps) is few taken long client own =
+          (from-letters own.1 w door letters own.3 new steps said.3 few taken.1 long client own.6)
+      from-letters v w door letters old new (step.Writes bytes ∷ steps) is few taken long client own =
           same-answered v own.1 w new_link (letters ++ bytes_received steps)
           (bytes_made steps) new.handler (own.5.0 ∙ own.4)
-          (from-letters own.1 w letters own.3 new steps
+          (from-letters own.1 w door letters own.3 new steps
           (ap (λ (s : Slot OtherEnd R W ConversationEnding). s.handler) own.5.1.others ∙ is) few
           taken.1 long client own.6)
-      from-letters v w letters old new (step.Stops ending ∷ steps) is few taken long client own =
+      from-letters v w door letters old new (step.Stops ending ∷ steps) is few taken long client own =
           same-answered v own.1 w new_link (letters ++ bytes_received steps)
           (bytes_made steps) new.handler (own.5.0 ∙ own.4)
-          (from-letters own.1 w letters own.3 new steps
+          (from-letters own.1 w door letters own.3 new steps
           (ap (λ (s : Slot OtherEnd R W ConversationEnding). s.handler) own.5.1.others ∙ is) few
           taken.1 long client own.6)
-      from-letters v w letters old new (step.FindsEmpty ∷ steps) is few taken long client own =
+      from-letters v w door letters old new (step.FindsEmpty ∷ steps) is few taken long client own =
           same-answered v own.1 w new_link (letters ++ bytes_received steps)
           (bytes_made steps) new.handler (own.5.0 ∙ own.4)
-          (from-letters own.1 w letters own.3 new steps
+          (from-letters own.1 w door letters own.3 new steps
           (ap (λ (s : Slot OtherEnd R W ConversationEnding). s.handler) own.5.1.others ∙ is) few
           taken.1 long client own.6)
-      from-letters v w letters old new (step.FindsFull ∷ steps) is few taken long client own =
+      from-letters v w door letters old new (step.FindsFull ∷ steps) is few taken long client own =
           same-answered v own.1 w new_link (letters ++ bytes_received steps)
           (bytes_made steps) new.handler (own.5.0 ∙ own.4)
-          (from-letters own.1 w letters own.3 new steps
+          (from-letters own.1 w door letters own.3 new steps
           (ap (λ (s : Slot OtherEnd R W ConversationEnding). s.handler) own.5.1.others ∙ is) few
           taken.1 long client own.6)
-      from-letters v w letters old new (step.Wakes ∷ steps) is few taken long client own =
+      from-letters v w door letters old new (step.Wakes ∷ steps) is few taken long client own =
           same-answered v own.1 w new_link (letters ++ bytes_received steps)
           (bytes_made steps) new.handler (own.5.0 ∙ own.4)
-          (from-letters own.1 w letters own.3 new steps
+          (from-letters own.1 w door letters own.3 new steps
           (ap (λ (s : Slot OtherEnd R W ConversationEnding). s.handler) own.5.1 ∙ is) few taken.1
           long client own.6)

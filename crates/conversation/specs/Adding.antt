@@ -43,7 +43,7 @@ module _ {A C L : Type 0} (state : A → Store) where
   answer_moves : (gave : C → List ℤ → C → Type 0) (v w : World A C L) (old new : OtherEnd)
       (made : List ℕ) (ending : Option ConversationEnding)
       → AnswersFirst state gave v old made ending w new → Moves state v w
-  answer_moves gave v w (Unknown letters) new made ending a = same_moves v w a.2
+  answer_moves gave v w (Unknown door letters) new made ending a = same_moves v w a.2
   answer_moves gave v w Over new made ending a = same_moves v w a.2
   answer_moves gave v w (Client link) new made ending a =
       (a.settings, transitions_grow _ _ _ _ a.advances)

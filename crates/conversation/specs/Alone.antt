@@ -15,7 +15,9 @@ use Rattle.ua_connection.specs.Turns.{ConnectionState, new_link, Advances}
 use Rattle.conversation.specs.declared.other_end.OtherEnd.{OtherEnd}
 use Rattle.conversation.specs.declared.other_end.OtherEnd.TheVariants.{Unknown, Client}
 use Rattle.conversation.specs.declared.world.World.{World}
-use Rattle.conversation.specs.OtherEnds.{ConversationEnding, is_peers, unless_over}
+use Rattle.conversation.specs.declared.door.Door.{Door}
+use Rattle.conversation.specs.Doors.{is_peers}
+use Rattle.conversation.specs.OtherEnds.{ConversationEnding, unless_over}
 use Rattle.conversation.specs.Answering.{client_ending}
 use Rattle.conversation.specs.Closing.{LogCalls}
 use Rattle.conversation.specs.Conversing.{behavior_over}
@@ -31,10 +33,11 @@ abbrev pub TakesAll : List (Step ConversationEnding) → Type 0
 TakesAll steps =
     AllByRecursion (λ s. elim s [ step.Receives bytes made end ↦ end ≡ None | _ ↦ Unit {0} ]) steps
 
--- a client brought three letters or more, and memory for all that came was there
-abbrev pub AreOfClient : List (Step ConversationEnding) → Type 0
-AreOfClient steps =
-    (3 ≤ length (bytes_received steps)) × (is_peers (bytes_received steps) ≡ false) × TakesAll steps
+-- a client brought three letters or more to this door, and memory for all that came was there
+abbrev pub AreOfClient : Door → List (Step ConversationEnding) → Type 0
+AreOfClient door steps =
+    (3 ≤ length (bytes_received steps)) × (is_peers door (bytes_received steps) ≡ false)
+    × TakesAll steps
 
 -- for these bytes, that came behind those that wait, this was made: one stretch of the answer to
 -- them, over an archive, by what the clock gave
@@ -56,7 +59,8 @@ pub record AnswersStretch {A C L : Type 0} (state : A → Store) (gave : C → L
 abbrev pub ClientAloneIsAnswered : {R W A C L : Type 0} → Input R → Output W → (A → Store)
     → (C → List ℤ → C → Type 0) → LogCalls L → Type 0
 ClientAloneIsAnswered {R} {W} {A} {C} {L} input output state gave log =
-    (v w : World A C L) (old new : Slot OtherEnd R W ConversationEnding)
-    (steps : List (Step ConversationEnding)) → old.handler ≡ Unknown [] → AreOfClient steps
+    (v w : World A C L) (old new : Slot OtherEnd R W ConversationEnding) (door : Door)
+    (steps : List (Step ConversationEnding)) → old.handler ≡ Unknown door []
+    → AreOfClient door steps
     → AreOwnSteps input output (still_behavior state gave log) v old steps w new
     → AnswersStretch state gave v new_link (bytes_received steps) (bytes_made steps) w new.handler

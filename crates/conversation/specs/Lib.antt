@@ -1,3 +1,4 @@
+pub mod Doors
 pub mod OtherEnds
 pub mod Receiving
 pub mod Answering
@@ -8,3 +9,4 @@ pub mod Conversing
 pub mod Growing
 pub mod Adding
 pub mod Alone
+pub mod ClientsDoors

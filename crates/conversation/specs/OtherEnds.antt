@@ -1,6 +1,5 @@
 -- Who is at the other end of a connection, by what came.
-use Rattle.std.specs.Prelude.{◌≡◌, ℕ, nat_lt, Bool, false, ◌||◌, List, ◌++◌, length, codes, Option, None, Some, Result, if◌then◌else◌}
-use Rattle.exchange.specs.Frames.{begins}
+use Rattle.std.specs.Prelude.{◌≡◌, ℕ, nat_lt, Bool, false, List, ◌++◌, length, Option, None, Some, Result, if◌then◌else◌}
 use Rattle.exchange.specs.Dialogs.{DialogState}
 use Rattle.counted_io.specs.declared.fault.ServeFault.{ServeFault}
 use Rattle.ua_session.specs.Sessions.{has_user}
@@ -8,17 +7,15 @@ use Rattle.ua_connection.specs.Client.{new_client}
 use Rattle.ua_peers.specs.Peers.{responding}
 use Rattle.ua_peers.specs.Talking.{IsReady}
 use Rattle.conversation.specs.declared.ended.Ended.{Ended}
+use Rattle.conversation.specs.declared.door.Door.{Door}
 use Rattle.conversation.specs.declared.other_end.PeerDialog.{PeerDialog}
 use Rattle.conversation.specs.declared.other_end.OtherEnd.{OtherEnd}
 use Rattle.conversation.specs.declared.other_end.OtherEnd.TheVariants.{Unknown, Client, Peer, Over}
+use Rattle.conversation.specs.Doors.{is_peers}
 
 -- how a connection ended, or the fault that ended it
 abbrev pub ConversationEnding : Type 0
 ConversationEnding = Result Ended ServeFault
-
--- a peer's connection begins with the letters of a frame that asks or brings
-abbrev pub is_peers : List ℕ → Bool
-is_peers came = begins came (codes "RXV") || begins came (codes "RXD")
 
 -- a dialog that stands so, of which these bytes weren't taken yet; it is heard once a frame was
 abbrev pub peer_at : DialogState → List ℕ → PeerDialog
@@ -28,17 +25,18 @@ peer_at dialog waiting = record {
   is_heard = nat_lt 0 dialog.taken;
 }
 
--- who is at the other end where these are the first bytes: three of them tell
-abbrev pub known_by : List ℕ → OtherEnd
-known_by came =
-    if nat_lt (length came) 3 then Unknown came
-    else if is_peers came then Peer (peer_at responding came)
+-- who is at the other end of a connection at this door where these are the first bytes: three of
+-- them tell
+abbrev pub known_by : Door → List ℕ → OtherEnd
+known_by door came =
+    if nat_lt (length came) 3 then Unknown door came
+    else if is_peers door came then Peer (peer_at responding came)
     else Client (record { client = new_client; waiting = came })
 
 -- the other end, once it brought these bytes more
 abbrev pub with_bytes : OtherEnd → List ℕ → OtherEnd
 with_bytes other bytes = elim other [
-  | Unknown letters ↦ known_by (letters ++ bytes)
+  | Unknown door letters ↦ known_by door (letters ++ bytes)
   | Client link ↦ Client (record link { waiting = link.waiting ++ bytes })
   | Peer peer ↦ Peer (record peer {
     frames = record peer.frames { waiting = peer.frames.waiting ++ bytes };

@@ -187,7 +187,7 @@ pub(crate) fn answer_first<A: Archive, C: Clock, L>(
             let progress = answer_peer(world, peer, out);
             leave_at_end(other, progress)
         }
-        OtherEnd::Unknown(_) | OtherEnd::Over => Progress::NeedsMore,
+        OtherEnd::Unknown { .. } | OtherEnd::Over => Progress::NeedsMore,
     }
 }
 
@@ -198,6 +198,6 @@ pub(crate) fn is_established(other: &OtherEnd) -> bool
     match other {
         OtherEnd::Client(connection) => connection.has_user(),
         OtherEnd::Peer(peer) => peer.is_heard,
-        OtherEnd::Unknown(_) | OtherEnd::Over => false,
+        OtherEnd::Unknown { .. } | OtherEnd::Over => false,
     }
 }

@@ -3,6 +3,7 @@
 use crate::answering::{answer_first, is_established};
 use crate::calling::start_call;
 use crate::closing::{call_outcome, tell_call, tell_end};
+use crate::door::Door;
 use crate::ended::Ended;
 use crate::log::Log;
 use crate::other_end::{Letters, OtherEnd, PeerDialog};
@@ -20,7 +21,7 @@ use ua_peers::SyncFault;
 /// What is said on one connection, a client's or a peer's, over a server that others share.
 ///
 /// It reads and writes nothing: `receive` takes bytes that came, and `answer` answers what stands first in them. The first
-/// three letters tell whose connection it is.
+/// three letters tell whose connection it is, where its door takes both.
 #[derive(Drop)]
 pub struct Conversation<A, C, L> {
     other: OtherEnd,
@@ -53,9 +54,12 @@ impl<A: Archive, C: Clock, L: Log> Handler for Conversation<A, C, L> {
     ghost moves_add_up = { moves_over A.state C.gave (log_calls L.told L.told_failed L.told_call) };
 
     /// Nothing came yet, and nobody is known. It takes no memory.
-    fn begin(alloc: Global, _listener: usize) -> Self {
+    fn begin(alloc: Global, listener: usize) -> Self {
         Conversation {
-            other: OtherEnd::Unknown(Letters::new(alloc)),
+            other: OtherEnd::Unknown {
+                door: Door::of_listener(listener),
+                letters: Letters::new(alloc),
+            },
             alloc,
             world: PhantomData,
         }

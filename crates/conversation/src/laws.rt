@@ -1,7 +1,11 @@
 //! What holds of every connection.
 
+ghost use Rattle.std.specs.Prelude.{◌≡◌, []};
 ghost use Rattle.conversation.specs.Alone.{ClientAloneIsAnswered};
+ghost use Rattle.conversation.specs.ClientsDoors.{IsAtClientsDoor, NoPeerComes, NoPeerIsAnswered};
 ghost use Rattle.conversation.specs.Closing.{log_calls};
+ghost use Rattle.conversation.specs.declared.door.Door.TheVariants.{Clients};
+ghost use Rattle.conversation.specs.declared.other_end.OtherEnd.TheVariants.{Unknown};
 
 use crate::log::Log;
 use archive::Archive;
@@ -19,5 +23,14 @@ pub fn a_client_alone_is_answered<
     L: Log,
 >()
     ensures { ClientAloneIsAnswered R.input W.output A.state C.gave
+        (log_calls L.told L.told_failed L.told_call) }
+{}
+
+/// At the door of clients nobody is a peer: neither who comes there, whatever bytes are brought, nor who is answered. So no
+/// record is learned there, and none is given as a peer's: what is answered is answered as to a client.
+pub fn a_clients_door_takes_no_peer<A: Archive, C: Clock, L: Log>()
+    ensures begins { IsAtClientsDoor (Unknown Clients []) }
+    ensures receives { NoPeerComes }
+    ensures answers { NoPeerIsAnswered A.state C.gave
         (log_calls L.told L.told_failed L.told_call) }
 {}

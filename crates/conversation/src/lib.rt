@@ -5,6 +5,7 @@ mod answering;
 mod calling;
 mod closing;
 mod conversation;
+mod door;
 mod ended;
 mod laws;
 mod log;
@@ -13,7 +14,8 @@ mod receiving;
 mod world;
 
 pub use conversation::Conversation;
+pub use door::Door;
 pub use ended::Ended;
-pub use laws::a_client_alone_is_answered;
+pub use laws::{a_client_alone_is_answered, a_clients_door_takes_no_peer};
 pub use log::Log;
 pub use world::World;

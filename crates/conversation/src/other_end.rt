@@ -1,5 +1,6 @@
 //! Who is at the other end of a connection.
 
+use crate::door::Door;
 use exchange::{Dialog, Frames};
 use std::alloc::Global;
 use std::marker::Model;
@@ -64,8 +65,8 @@ pub(crate) struct PeerDialog {
 /// Who is at the other end of a connection.
 #[derive(Drop)]
 pub(crate) enum OtherEnd {
-    /// Fewer than three letters came.
-    Unknown(Letters),
+    /// Fewer than three letters came, to this door.
+    Unknown { door: Door, letters: Letters },
     /// A client.
     Client(Connection),
     /// A peer.

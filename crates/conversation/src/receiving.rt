@@ -3,12 +3,13 @@
 ghost use Rattle.std.specs.Prelude.{◌≡◌, ◌++◌, List, ℕ, true, false, IfSome};
 ghost use Rattle.ua_connection.specs.Client.{new_client};
 ghost use Rattle.ua_peers.specs.Peers.{responding};
-ghost use Rattle.conversation.specs.OtherEnds.{is_peers, peer_at, known_by, with_bytes};
+ghost use Rattle.conversation.specs.OtherEnds.{peer_at, known_by, with_bytes};
 ghost use Rattle.conversation.specs.Receiving.{is_peer, TellsStarved};
 ghost use Rattle.conversation.specs.declared.other_end.PeerDialog.{PeerDialog};
 ghost use Rattle.conversation.specs.declared.other_end.OtherEnd.{OtherEnd};
 ghost use Rattle.conversation.specs.declared.other_end.OtherEnd.TheVariants.{Unknown, Client, Peer};
 
+use crate::door::Door;
 use crate::ended::Ended;
 use crate::other_end::{Letters, OtherEnd, PeerDialog};
 use counted_io::ServeFault;
@@ -19,20 +20,13 @@ use ua_connection::{Connection, Served};
 use ua_peers::PeerEnded;
 use uacp::put_error;
 
-/// Whether a connection that begins with these bytes is a peer's.
-fn is_peers(came: &[u8]) -> bool
-    ensures { result ≡ is_peers came.now }
-{
-    came.starts_with(b"RXV") || came.starts_with(b"RXD")
-}
-
-/// Somebody of whom these letters came. None where memory for them is wanting.
-fn unknown_by(alloc: Global, came: &[u8]) -> Option<OtherEnd>
-    ensures { IfSome result (λ other. other ≡ Unknown came.now) }
+/// Somebody of whom these letters came to this door. None where memory for them is wanting.
+fn unknown_by(alloc: Global, door: Door, came: &[u8]) -> Option<OtherEnd>
+    ensures { IfSome result (λ other. other ≡ Unknown door came.now) }
 {
     let mut letters = Letters::new(alloc);
     if letters.feed(came) {
-        Some(OtherEnd::Unknown(letters))
+        Some(OtherEnd::Unknown { door, letters })
     } else {
         None
     }
@@ -65,13 +59,14 @@ fn peer_by(alloc: Global, came: &[u8]) -> Option<OtherEnd>
     }
 }
 
-/// Who is at the other end where these are the first bytes. None where memory for them is wanting.
-fn known_by(alloc: Global, came: &[u8]) -> Option<OtherEnd>
-    ensures { IfSome result (λ other. other ≡ known_by came.now) }
+/// Who is at the other end of a connection at this door where these are the first bytes. None where memory for them is
+/// wanting.
+fn known_by(alloc: Global, door: Door, came: &[u8]) -> Option<OtherEnd>
+    ensures { IfSome result (λ other. other ≡ known_by door came.now) }
 {
     if came.len() < 3 {
-        unknown_by(alloc, came)
-    } else if is_peers(came) {
+        unknown_by(alloc, door, came)
+    } else if door.is_peers(came) {
         peer_by(alloc, came)
     } else {
         client_by(alloc, came)
@@ -79,11 +74,11 @@ fn known_by(alloc: Global, came: &[u8]) -> Option<OtherEnd>
 }
 
 /// Who is at the other end, once these letters are followed by these bytes. None where memory for them is wanting.
-fn known_behind(alloc: Global, letters: &mut Letters, bytes: &[u8]) -> Option<OtherEnd>
-    ensures { IfSome result (λ other. other ≡ known_by (letters.old ++ bytes.now)) }
+fn known_behind(alloc: Global, door: Door, letters: &mut Letters, bytes: &[u8]) -> Option<OtherEnd>
+    ensures { IfSome result (λ other. other ≡ known_by door (letters.old ++ bytes.now)) }
 {
     if letters.feed(bytes) {
-        known_by(alloc, letters.as_slice())
+        known_by(alloc, door, letters.as_slice())
     } else {
         None
     }
@@ -95,7 +90,7 @@ pub(crate) fn take_bytes(alloc: Global, other: &mut OtherEnd, bytes: &[u8]) -> b
     ensures starved { result ≡ false → is_peer other.new ≡ is_peer other.old }
 {
     match other {
-        OtherEnd::Unknown(letters) => match known_behind(alloc, letters, bytes) {
+        OtherEnd::Unknown { door, letters } => match known_behind(alloc, *door, letters, bytes) {
             Some(known) => {
                 *other = known;
                 true
@@ -144,6 +139,8 @@ pub(crate) fn tell_starved(other: &OtherEnd, out: &mut Vec<u8>) -> Result<Ended,
 {
     match other {
         OtherEnd::Peer(_) => tell_starved_peer(out),
-        OtherEnd::Unknown(_) | OtherEnd::Client(_) | OtherEnd::Over => tell_starved_client(out),
+        OtherEnd::Unknown { .. } | OtherEnd::Client(_) | OtherEnd::Over => {
+            tell_starved_client(out)
+        }
     }
 }

@@ -1,6 +1,7 @@
-//! Clients and peers at once, each of whom is told what it would be told alone.
+//! Clients and peers at once, each of whom is told what it would be told alone at its door.
 
 use crate::scripts::{Caller, heard_by};
+use conversation::Door;
 use server_rows::streams::{ACK, ANSWER, BEGIN, BEGUN, HELLO, OPEN, OPENED, REQUEST, bytes_of};
 use std::alloc::Global;
 use std::test::Fail;
@@ -24,27 +25,46 @@ const SHORT_HELLO: &str = "48454C46 1F000000";
 
 const REFUSED: &str = "45525246 10000000 00000780 FFFFFFFF";
 
-/// A second Hello is none.
-const SECOND_HELLO: &str = "45525246 10000000 00007E80 FFFFFFFF";
+/// What a client is told whose letters are none: those of a second Hello are, and those of a frame where clients alone
+/// are taken.
+const NO_LETTERS: &str = "45525246 10000000 00007E80 FFFFFFFF";
 
-/// What callers write, and what each of them is told.
-static CALLERS: [(&[&str], &[&str]); 7] = [
-    (&[HELLO, OPEN, REQUEST], &[ACK, OPENED, ANSWER]),
-    (&[ASKED, ASKED, END], &[NOTHING, NOTHING]),
-    (&[SHORT_HELLO, HELLO], &[REFUSED]),
-    (&[ASKED, NO_FRAME, ASKED], &[NOTHING, ILL]),
+/// What a web browser writes.
+const PAGE: &str = "474554202F000000";
+
+/// Who is taken where callers come to, what they write, and what each of them is told.
+static CALLERS: [(Door, &[&str], &[&str]); 17] = [
+    (Door::Both, &[HELLO, OPEN, REQUEST], &[ACK, OPENED, ANSWER]),
+    (Door::Both, &[ASKED, ASKED, END], &[NOTHING, NOTHING]),
+    (Door::Both, &[SHORT_HELLO, HELLO], &[REFUSED]),
+    (Door::Both, &[ASKED, NO_FRAME, ASKED], &[NOTHING, ILL]),
     (
+        Door::Both,
         &[HELLO, OPEN, REQUEST, HELLO],
-        &[ACK, OPENED, ANSWER, SECOND_HELLO],
+        &[ACK, OPENED, ANSWER, NO_LETTERS],
     ),
-    (&["5258"], &[]),
-    (&[HELLO], &[ACK]),
+    (Door::Both, &["5258"], &[]),
+    (Door::Both, &[HELLO], &[ACK]),
+    (
+        Door::Clients,
+        &[HELLO, OPEN, REQUEST],
+        &[ACK, OPENED, ANSWER],
+    ),
+    (Door::Clients, &[ASKED, ASKED, END], &[NO_LETTERS]),
+    (Door::Clients, &[NOTHING], &[NO_LETTERS]),
+    (Door::Clients, &[PAGE], &[NO_LETTERS]),
+    (Door::Clients, &["5258"], &[]),
+    (Door::Peers, &[ASKED, ASKED, END], &[NOTHING, NOTHING]),
+    (Door::Peers, &[ASKED, NO_FRAME, ASKED], &[NOTHING, ILL]),
+    (Door::Peers, &[HELLO, OPEN, REQUEST], &[ILL]),
+    (Door::Peers, &[PAGE], &[ILL]),
+    (Door::Peers, &["4845"], &[]),
 ];
 
 /// What each of them writes, and behind them one that begins a session.
 fn written(alloc: Global) -> Result<Vec<Vec<u8>>, Fail> {
     let mut all = Vec::new(alloc);
-    for (text, _) in &CALLERS {
+    for (_, text, _) in &CALLERS {
         all.push(bytes_of(alloc, text)?)?;
     }
     all.push(bytes_of(alloc, &[HELLO, OPEN, BEGIN[0], BEGIN[1]])?)?;
@@ -54,11 +74,19 @@ fn written(alloc: Global) -> Result<Vec<Vec<u8>>, Fail> {
 /// What each of these is told.
 fn told(alloc: Global) -> Result<Vec<Vec<u8>>, Fail> {
     let mut all = Vec::new(alloc);
-    for (_, text) in &CALLERS {
+    for (_, _, text) in &CALLERS {
         all.push(bytes_of(alloc, text)?)?;
     }
     all.push(bytes_of(alloc, &[ACK, OPENED, BEGUN[0], BEGUN[1]])?)?;
     Ok(all)
+}
+
+/// Who is taken where the caller of a number comes to.
+fn door_of(number: usize) -> Door {
+    match CALLERS.get(number) {
+        Some((door, _, _)) => *door,
+        None => Door::Both,
+    }
 }
 
 /// Whether the caller of a number read this, and its connection was closed.
@@ -77,6 +105,7 @@ fn are_told(alloc: Global, each: usize, pace: usize) -> Result<bool, Fail> {
     let mut callers = Vec::new(alloc);
     for (number, text) in texts.iter().enumerate() {
         callers.push(Caller {
+            door: door_of(number),
             text: text.as_slice(),
             each,
             pace: number.saturating_mul(pace).saturating_add(1),

@@ -1,7 +1,7 @@
 //! Connections that a script gives over one server: what callers write, in which pieces, and what each of them reads.
 
 use archive::ListArchive;
-use conversation::{Conversation, Ended, World};
+use conversation::{Conversation, Door, Ended, World};
 use counted_io::ServeFault;
 use historian::Server;
 use multiplex::{
@@ -14,9 +14,10 @@ use std::alloc::Global;
 use std::test::Fail;
 use ua_connection::ConstantClock;
 
-/// Who calls, and what it writes.
+/// Who calls, where, and what it writes.
 #[derive(Clone, Copy)]
 pub struct Caller<'a> {
+    pub door: Door,
     pub text: &'a [u8],
     /// A read or a write moves so many bytes at most.
     pub each: usize,
@@ -121,7 +122,7 @@ impl<'a> Source for Script<'a> {
                 let number = self.next;
                 self.next = self.next.saturating_add(1);
                 Arrival::Connection {
-                    listener: 0,
+                    listener: caller.door.listener(),
                     reader: Mouth {
                         caller: *caller,
                         taken: 0,
@@ -160,8 +161,8 @@ impl<'a> Source for Script<'a> {
 /// One connection of the plant.
 type Talk = Conversation<ListArchive, ConstantClock, Faults>;
 
-/// What each of these callers reads of a plant that holds nothing, with its number, in the order of their ends. Ten of them
-/// are served at a time.
+/// What each of these callers reads of a plant that holds nothing, with its number, in the order of their ends.
+/// Twenty of them are served at a time.
 pub fn heard_by(alloc: Global, callers: &[Caller<'_>]) -> Result<Vec<(usize, Vec<u8>)>, Fail> {
     let settings = plant(alloc)?;
     let archive = archive_of(alloc, &settings);
@@ -182,12 +183,12 @@ pub fn heard_by(alloc: Global, callers: &[Caller<'_>]) -> Result<Vec<(usize, Vec
     let mut slots: Vec<Option<Slot<Talk, Mouth<'_>, Ear, Result<Ended, ServeFault>>>> = Vec::new(
         alloc,
     );
-    for _ in 0..10 {
+    for _ in 0..20 {
         slots.push(None)?;
     }
     let limits = Limits {
         connections: Some(callers.len() as u64),
-        accept_slots: 10,
+        accept_slots: 20,
         waiting_bytes: 1_000_000,
         rounds: 1_000_000,
     };

@@ -11,7 +11,6 @@ use Rattle.ua_services.specs.Updates.{Details, UpdateData, DeleteRawModified, De
 use Rattle.ua_services.specs.declared.updates.HistoryUpdateResult.{HistoryUpdateResult}
 use Rattle.ua_session.specs.Sessions.{SessionsState, user_at}
 use Rattle.ua_session.specs.declared.fault.SessionFault.{SessionFault}
-use Rattle.ua_space.specs.declared.layout.Layout.{Layout}
 use Rattle.records.specs.Contents.{Content, IsWithin}
 use Rattle.archive.specs.Fault.{status_told}
 use Rattle.archive.specs.Store.{StepResult, Done, NoMemory, RecordStands, StoreFailed}
@@ -26,7 +25,8 @@ use Rattle.hist_update.proofs.Answered.{came_to, all_within, all_stand, all_add}
 use Rattle.historian.specs.Answers as answer
 use Rattle.historian.specs.Answers.{Response}
 use Rattle.historian.specs.Reading as reading
-use Rattle.historian.specs.Updating.{node_asked, type_asked, asked_for, update_of, update_item, update_history}
+use Rattle.historian.specs.UserSpaces.{UserSpace, space_for}
+use Rattle.historian.specs.Updating.{node_asked, type_granted, asked_for, update_of, update_item, update_history}
 use Rattle.historian.proofs.UpdatingParts.{update_by, updated_unless}
 use Rattle.historian.specs.Requests as request
 use Rattle.historian.specs.Services.{ServerConfig, answered, answered_request, in_session}
@@ -133,9 +133,9 @@ leaves_update may own asks type Other R =
     let kept : Updated = (refused_update BAD_HISTORY_OPERATION_UNSUPPORTED, R) in
     leaves_give may kept
 
-leaves_item : (may : Bool) (own : ℕ) (space : Layout) (user : List ℕ) (now : Ticks)
+leaves_item : (may : Bool) (own : ℕ) (space : UserSpace) (user : List ℕ) (now : Ticks)
     (details : Details) (R : Content) → Leaves may (update_item own space user now details R)
-leaves_item may own space user now details R = by (type_asked space (node_asked details))
+leaves_item may own space user now details R = by (type_granted space (node_asked details))
   where
     by : (type : Result ValueType Status)
         → Leaves may (update_by own (asked_for user now) details R type)
@@ -241,13 +241,13 @@ does_update may own user now type (DeleteAtTime d) node R e =
 does_update may own user now type Other node R e = absurd (none-some node e)
 
 -- whatever they are
-record Holds (may : Bool) (marks : List StepResult) (own : ℕ) (space : Layout) (user : List ℕ)
+record Holds (may : Bool) (marks : List StepResult) (own : ℕ) (space : UserSpace) (user : List ℕ)
     (now : Ticks) (R : Content) (details : Details) (u : Updated) : Type 0 where
   held : IsHeldFor own space user now R details u.0 u.1
   within : IsWithin R u.1
   adds : MayStandBehindBreak may marks → AddsFrom may own space user now R details u.0 u.1
 
-none_held : (may : Bool) (marks : List StepResult) (own : ℕ) (space : Layout) (user : List ℕ)
+none_held : (may : Bool) (marks : List StepResult) (own : ℕ) (space : UserSpace) (user : List ℕ)
     (now : Ticks) (R : Content) (details : Details) (code : Status)
     → Holds may marks own space user now R details (refused_update code, R)
 none_held may marks own space user now R details code =
@@ -258,10 +258,10 @@ none_held may marks own space user now R details code =
       adds = λ allowed. inr (refl, refl);
     }
 
-module _ (may : Bool) (own : ℕ) (space : Layout) (user : List ℕ) (now : Ticks) where
+module _ (may : Bool) (own : ℕ) (space : UserSpace) (user : List ℕ) (now : Ticks) where
   holds_typed : (details : Details) (node : NodeId) (type : ValueType) (R : Content)
       (reason : Option Status) (marks : List StepResult) → node_asked details ≡ Some node
-      → type_asked space (Some node) ≡ Ok type
+      → type_granted space (Some node) ≡ Ok type
       → Holds may marks own space user now R details
       (updated_unless own (asked_for user now) type details R reason marks).0
   holds_typed details node type R (Some code) marks asked typed =
@@ -278,7 +278,7 @@ module _ (may : Bool) (own : ℕ) (space : Layout) (user : List ℕ) (now : Tick
       }
 
   holds_by : (details : Details) (R : Content) (marks : List StepResult) (asked : Option NodeId)
-      (type : Result ValueType Status) → node_asked details ≡ asked → type_asked space asked ≡ type
+      (type : Result ValueType Status) → node_asked details ≡ asked → type_granted space asked ≡ type
       → Holds may marks own space user now R details
       (update_by own (asked_for user now) details R type marks).0
   holds_by details R marks asked (Err code) e f =
@@ -297,7 +297,7 @@ module _ (may : Bool) (own : ℕ) (space : Layout) (user : List ℕ) (now : Tick
       → Holds may marks own space user now R details
       (update_item own space user now details R marks).0
   holds_item details R marks = holds_by details R marks (node_asked details)
-      (type_asked space (node_asked details)) refl refl
+      (type_granted space (node_asked details)) refl refl
 
   -- ---- lists of details
 
@@ -425,8 +425,8 @@ AllHeld may config now token ds sessions R results S =
     × ((i : ℕ) (d : Details) (result : HistoryUpdateResult) → slice_get ds i ≡ Some d
     → slice_get results i ≡ Some result
     → (T : Content) × IsWithin R T
-    × IsHeldFor config.own config.settings.space user now T d result S)
-    × AddsAll may config.own config.settings.space user now ds results R S
+    × IsHeldFor config.own (space_for config.settings user) user now T d result S)
+    × AddsAll may config.own (space_for config.settings user) user now ds results R S
 
 session_held : (may : Bool) (config : ServerConfig) (now : Ticks) (token : NodeId)
     (ds : List Details)
@@ -434,20 +434,20 @@ session_held : (may : Bool) (config : ServerConfig) (now : Ticks) (token : NodeI
     (results : List HistoryUpdateResult) (user : Result (List ℕ) SessionFault)
     → user_at sessions token ≡ user
     → (in_session sessions user (λ user.
-    update_history config.own config.settings.space user now ds R)
+    update_history config.own (space_for config.settings user) user now ds R)
     R marks).0.0.0 ≡ Ok (answer.Updated results)
     → MayStandBehindBreak may marks
     → AllHeld may config now token ds sessions R results
     (in_session sessions user (λ user.
-    update_history config.own config.settings.space user now ds R) R
+    update_history config.own (space_for config.settings user) user now ds R) R
     marks).0.1
 session_held may config now token ds sessions R marks results (Err fault) e f allowed = absurd (cc)
 session_held may config now token ds sessions R marks results (Ok user) e f allowed = (
   user,
   e,
-  history_held may config.own config.settings.space user now ds R
+  history_held may config.own (space_for config.settings user) user now ds R
       (list_refusal 100 (length ds)) marks results f,
-  history_added may config.own config.settings.space user now ds R
+  history_added may config.own (space_for config.settings user) user now ds R
       (list_refusal 100 (length ds)) marks results f allowed,
 )
 

@@ -41,6 +41,7 @@ ghost use Rattle.headline.specs.Answers.{HistoryQuery, replica_answer, results_o
 ghost use Rattle.headline.specs.Messages.{IsServerOf, HaveSameNodes, AsksHistory, response_of, AreAlike, AreFree};
 ghost use Rattle.headline.specs.Joins.{IsLeastAbove};
 ghost use Rattle.headline.specs.Told.{IsHeldFor, AddsAll};
+ghost use Rattle.historian.specs.UserSpaces.{space_for};
 ghost use Rattle.headline.specs.Machines.{IsMachine, AreNew, Simulates, ExtendsTo, Serves, MachinesSync, Restarts};
 ghost use Rattle.headline.specs.Readings.{IsReading, Reaches, at_one_time, IsOfRaw, ShowsModification, ShowsAt, ShowWhole, HavePages};
 
@@ -303,7 +304,7 @@ pub fn machines_simulate_an_execution<A: Archive>()
 {}
 
 /// What a client is told is Good is held: where the message of an activated session is a HistoryUpdate and is answered by results, each operation whose code is
-/// Good has its record in what is held behind it, asked for by the session's user: a new one, whose tick is above all that were held before the details it is of,
+/// Good was granted to the session's user, who may write, and has its record in what is held behind it: a new one, whose tick is above all that were held before the details it is of,
 /// and of the message's moment or a later one. The operations are those that the details ask where something is held that has all that was held before the
 /// message, for the details before them were done. And nothing else is added: what is held behind the message is what was held before it and these records,
 /// one for each such operation, in order; but where an operation broke the store its record may stand too, if `may` says that one may.
@@ -319,8 +320,8 @@ pub fn good_answers_are_stored()
         × ((i : ℕ) (d : Details) (result : HistoryUpdateResult) → slice_get details i ≡ Some d
         → slice_get results i ≡ Some result
         → (S : Content) × IsWithin R S
-        × IsHeldFor config.own config.settings.space user now S d result
+        × IsHeldFor config.own (space_for config.settings user) user now S d result
         (answered config now message sessions R marks).0.1)
-        × AddsAll may config.own config.settings.space user now details results R
+        × AddsAll may config.own (space_for config.settings user) user now details results R
         (answered config now message sessions R marks).0.1 }
 {}

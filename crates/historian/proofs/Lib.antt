@@ -4,6 +4,7 @@ pub mod Values
 pub mod Items
 pub mod Variables
 pub mod Updates
+pub mod Readers
 pub mod EndpointsParts
 pub mod ReadingParts
 pub mod ServicesParts

@@ -20,6 +20,7 @@ use Rattle.hist_read.specs.declared.query.Query.{Query}
 use Rattle.historian.specs.Answers.{Values, Histories}
 use Rattle.records.specs.declared.shown.Held.{Held}
 use Rattle.hist_read.specs.Showing.{at_time}
+use Rattle.historian.specs.UserSpaces.{UserSpace}
 use Rattle.historian.specs.Reading.{Served, item_at, answer_items, latest, read_history_of, read_item, released, valued}
 
 abbrev pub histories_by : List ℕ → Layout → Bool → List HistoryReadFields → Content
@@ -43,7 +44,7 @@ history_by id query release item R result =
           and_then (read_node id item.0 query item.1.1.1 R) (λ p. give (released release p.0, p.1))
     ])
 
-abbrev pub read_by : Layout → Ticks → Option TimestampsToReturn → List ReadFields → Content → Served
+abbrev pub read_by : UserSpace → Ticks → Option TimestampsToReturn → List ReadFields → Content → Served
 read_by space now given nodes R = elim given [
   | None ↦
       give (Err BAD_TIMESTAMPS_TO_RETURN_INVALID, R)
@@ -63,7 +64,7 @@ value_of now item R v = elim v [
       latest item.0 R
 ]
 
-abbrev pub item_value : Ticks → Layout → ReadFields → Content → Result DataValue Status
+abbrev pub item_value : Ticks → UserSpace → ReadFields → Content → Result DataValue Status
 item_value now space item R = item_at space item >>= λ v.
     elim v [ Value value ↦ Ok (valued now item.1.0 value) | Archived ↦ latest item.0 R ]
 

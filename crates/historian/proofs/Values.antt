@@ -13,8 +13,7 @@ use Rattle.ua_services.specs.Attributes.{ReadFields}
 use Rattle.ua_services.specs.declared.attributes.TimestampsToReturn.{TimestampsToReturn}
 use Rattle.ua_space.specs.declared.attributes.Answered.{Answered}
 use Rattle.ua_space.specs.declared.attributes.Answered.TheVariants.{Value, Archived}
-use Rattle.ua_space.specs.declared.layout.Layout.{Layout}
-use Rattle.ua_space.specs.Attributes.{attribute_at}
+use Rattle.historian.specs.UserSpaces.{UserSpace, seen_attribute}
 use Rattle.records.specs.Contents.{Content, vec, cut}
 use Rattle.records.specs.declared.shown.Held.{Held}
 use Rattle.records.proofs.CutLemmas.{cut_whole}
@@ -29,7 +28,7 @@ use Rattle.archive.proofs.Acting.{left-before, there-behind, moves-none-by, move
 use Rattle.archive.proofs.Calls.{passes-leaves, in_use, asks-then}
 use Rattle.hist_read.specs.Asking.{first_time}
 use Rattle.hist_read.specs.Reads.{greatest_time}
-use Rattle.historian.specs.Reading.{latest, value_rules, item_at, unless_met, item_told, value_step}
+use Rattle.historian.specs.Reading.{latest, value_rules, FindsItem, item_at, unless_met, item_told, value_step}
 use Rattle.historian.proofs.ReadingParts.{stored, item_value, value_of, telling}
 
 -- ---- a listing over all that is held
@@ -147,7 +146,7 @@ telling-starved (Ok Archived) later = refl
 telling-starved (Err status) later = refl
 
 -- nothing came in the way of an item, and the archive isn't asked
-item-here : (s : Store) (now : Ticks) (space : Layout) (item : ReadFields)
+item-here : (s : Store) (now : Ticks) (space : UserSpace) (item : ReadFields)
     (answered : Result Answered Status) (x : Result DataValue Status)
     → item_at space item ≡ answered → ((R : Content) → x ≡ (answered >>= value_of now item R))
     → Refines s s (Done ∷ []) (value_step (telling (item_at space item))
@@ -158,7 +157,7 @@ item-here s now space item answered x there is =
     is R ∙ sym (ap (λ (r : Result Answered Status). r >>= value_of now item R) there))
 
 -- memory for it is wanting
-item-starved : (s : Store) (now : Ticks) (space : Layout) (item : ReadFields)
+item-starved : (s : Store) (now : Ticks) (space : UserSpace) (item : ReadFields)
     (x : Result DataValue Status) → x ≡ Err BAD_OUT_OF_MEMORY
     → Refines s s (NoMemory ∷ []) (value_step (telling (item_at space item))
     (item_value now space item)) x
@@ -166,23 +165,23 @@ item-starved s now space item x is =
     value-here s (telling (item_at space item)) (item_value now space item) NoMemory
     (Some BAD_OUT_OF_MEMORY) x refl (telling-starved (item_at space item)) (λ R. is)
 
-item-at : (space : Layout) (item : ReadFields) (answered : Result Answered Status)
-    → attribute_at space item.0 item.1.0 ≡ answered
+item-at : (space : UserSpace) (item : ReadFields) (answered : Result Answered Status)
+    → seen_attribute space item.0 item.1.0 ≡ answered
     → item_at space item ≡ (answered >>= λ answered.
     checked (value_rules item.1.1.0 item.1.1.1) >>= λ _. Ok answered)
 item-at space item answered at = ap (λ (r : Result Answered Status). r >>= λ answered.
     checked (value_rules item.1.1.0 item.1.1.1) >>= λ _. Ok answered) at
 
 -- an item whose node or attribute isn't there, or memory for it is wanting
-pub item-refused : (s : Store) (now : Ticks) (space : Layout) (item : ReadFields) (status : Status)
+pub item-refused : (s : Store) (now : Ticks) (space : UserSpace) (item : ReadFields) (status : Status)
     (x : Result DataValue Status) → IsOrStarved BAD_OUT_OF_MEMORY
-    (attribute_at space item.0 item.1.0) (Err status) → x ≡ Err status
+    (seen_attribute space item.0 item.1.0) (Err status) → x ≡ Err status
     → (mark : StepResult) × Refines s s (mark ∷ [])
     (value_step (telling (item_at space item)) (item_value now space item)) x
 item-refused s now space item status x told told_so =
-    by (attribute_at space item.0 item.1.0) refl told
+    by (seen_attribute space item.0 item.1.0) refl told
   where
-    by : (r : Result Answered Status) → attribute_at space item.0 item.1.0 ≡ r
+    by : (r : Result Answered Status) → seen_attribute space item.0 item.1.0 ≡ r
         → IsOrStarved BAD_OUT_OF_MEMORY r (Err status)
         → (mark : StepResult) × Refines s s (mark ∷ [])
         (value_step (telling (item_at space item)) (item_value now space item)) x
@@ -196,10 +195,10 @@ item-refused s now space item status x told told_so =
         )
 
 -- the attribute is there
-pub item-there : (space : Layout) (item : ReadFields) (answered : Answered)
-    → IsOrStarved BAD_OUT_OF_MEMORY (attribute_at space item.0 item.1.0) (Ok answered)
-    → attribute_at space item.0 item.1.0 ≡ Ok answered
-item-there space item answered told = by (attribute_at space item.0 item.1.0) told
+pub item-there : (space : UserSpace) (item : ReadFields) (answered : Answered)
+    → IsOrStarved BAD_OUT_OF_MEMORY (seen_attribute space item.0 item.1.0) (Ok answered)
+    → seen_attribute space item.0 item.1.0 ≡ Ok answered
+item-there space item answered told = by (seen_attribute space item.0 item.1.0) told
   where
     by : (r : Result Answered Status) → IsOrStarved BAD_OUT_OF_MEMORY r (Ok answered)
         → r ≡ Ok answered
@@ -207,8 +206,8 @@ item-there space item answered told = by (attribute_at space item.0 item.1.0) to
     by (Err why) same = absurd cc
 
 -- the attribute, its range and its encoding are given
-pub item-judged : (space : Layout) (item : ReadFields) (answered : Answered)
-    (judged : Result (Unit {0}) Status) → attribute_at space item.0 item.1.0 ≡ Ok answered
+pub item-judged : (space : UserSpace) (item : ReadFields) (answered : Answered)
+    (judged : Result (Unit {0}) Status) → seen_attribute space item.0 item.1.0 ≡ Ok answered
     → checked (value_rules item.1.1.0 item.1.1.1) ≡ judged
     → item_at space item ≡ (judged >>= λ _. Ok answered)
 item-judged space item answered judged at is =
@@ -216,9 +215,9 @@ item-judged space item answered judged at is =
     ∙ ap (λ (r : Result (Unit {0}) Status). r >>= λ _. Ok answered) is
 
 -- a range or an encoding of it isn't given
-pub item-unfit : (s : Store) (now : Ticks) (space : Layout) (item : ReadFields)
+pub item-unfit : (s : Store) (now : Ticks) (space : UserSpace) (item : ReadFields)
     (answered : Answered) (status : Status) (x : Result DataValue Status)
-    → attribute_at space item.0 item.1.0 ≡ Ok answered
+    → seen_attribute space item.0 item.1.0 ≡ Ok answered
     → checked (value_rules item.1.1.0 item.1.1.1) ≡ Err status → x ≡ Err status
     → Refines s s (Done ∷ []) (value_step (telling (item_at space item))
     (item_value now space item)) x
@@ -227,9 +226,9 @@ item-unfit s now space item answered status x at judged is =
     (Err status) at judged) (λ R. is)
 
 -- the value of the attribute
-pub item-valued : (s : Store) (now : Ticks) (space : Layout) (item : ReadFields)
+pub item-valued : (s : Store) (now : Ticks) (space : UserSpace) (item : ReadFields)
     (answered : Answered) (x : Result DataValue Status)
-    → attribute_at space item.0 item.1.0 ≡ Ok answered
+    → seen_attribute space item.0 item.1.0 ≡ Ok answered
     → checked (value_rules item.1.1.0 item.1.1.1) ≡ Ok tt
     → ((R : Content) → x ≡ value_of now item R answered)
     → (mark : StepResult) × Refines s s (mark ∷ [])
@@ -241,9 +240,9 @@ item-valued s now space item answered x at judged is = (
 )
 
 -- the archive gives it
-pub item-archived : (a b : Store) (now : Ticks) (space : Layout) (item : ReadFields)
+pub item-archived : (a b : Store) (now : Ticks) (space : UserSpace) (item : ReadFields)
     (mark : StepResult) (x : Result DataValue Status)
-    → attribute_at space item.0 item.1.0 ≡ Ok Archived
+    → seen_attribute space item.0 item.1.0 ≡ Ok Archived
     → checked (value_rules item.1.1.0 item.1.1.1) ≡ Ok tt
     → Refines a b (mark ∷ []) (value_step (step status_told) (latest item.0)) x
     → Refines a b (mark ∷ []) (value_step (telling (item_at space item))
@@ -254,6 +253,51 @@ item-archived a b now space item mark x at judged acts =
     (λ R marks. ap (λ (r : Result Answered Status).
     value_step (telling r) (λ S. r >>= value_of now item S) R marks)
     (sym (item-judged space item Archived (Ok tt) at judged))) acts
+
+-- what was found of an item whose value isn't given
+pub found-refused : (s : Store) (now : Ticks) (space : UserSpace) (item : ReadFields)
+    (status : Status) → FindsItem space item (Err status)
+    → (mark : StepResult) × Refines s s (mark ∷ [])
+    (value_step (telling (item_at space item)) (item_value now space item)) (Err status)
+found-refused s now space item status (Err why, told, e) =
+    let same : status ≡ why = cc in
+    item-refused s now space item why (Err status) told (ap Err same)
+found-refused s now space item status (Ok answered, told, e) =
+    by (checked (value_rules item.1.1.0 item.1.1.1)) refl e
+  where
+    by : (judged : Result (Unit {0}) Status)
+        → checked (value_rules item.1.1.0 item.1.1.1) ≡ judged
+        → (let refused : Result Answered Status = Err status in refused)
+        ≡ (judged >>= λ _. Ok answered)
+        → (mark : StepResult) × Refines s s (mark ∷ [])
+        (value_step (telling (item_at space item)) (item_value now space item)) (Err status)
+    by (Err other) judged so = (
+      Done,
+      item-unfit s now space item answered other (Err status)
+          (item-there space item answered told) judged (let same : status ≡ other = cc in
+          ap Err same),
+    )
+    by (Ok done) judged so = absurd cc
+
+-- what was found of one whose value is given
+pub found-there : (space : UserSpace) (item : ReadFields) (answered : Answered)
+    → FindsItem space item (Ok answered)
+    → (seen_attribute space item.0 item.1.0 ≡ Ok answered)
+    × (checked (value_rules item.1.1.0 item.1.1.1) ≡ Ok tt)
+found-there space item answered (Err why, told, e) = absurd cc
+found-there space item answered (Ok other, told, e) =
+    by (checked (value_rules item.1.1.0 item.1.1.1)) refl e
+  where
+    by : (judged : Result (Unit {0}) Status)
+        → checked (value_rules item.1.1.0 item.1.1.1) ≡ judged
+        → (let found : Result Answered Status = Ok answered in found)
+        ≡ (judged >>= λ _. Ok other)
+        → (seen_attribute space item.0 item.1.0 ≡ Ok answered)
+        × (checked (value_rules item.1.1.0 item.1.1.1) ≡ Ok tt)
+    by (Err status) judged so = absurd cc
+    by (Ok done) judged so =
+        let same : answered ≡ other = cc in
+        (item-there space item other told ∙ ap Ok (sym same), judged)
 
 -- ---- what is told of them
 

@@ -43,12 +43,12 @@ abbrev pub carriage_of : SettingsValues → List TokenFields × (Option (List �
 carriage_of settings = (tokens_of settings.users, (Some transport_profile, 0))
 
 -- how the endpoint is reached: without security
-abbrev pub access_of : SettingsValues → AccessFields
-access_of settings = (mode_number mode.None, (Some policy_none, carriage_of settings))
+abbrev pub security_of : SettingsValues → AccessFields
+security_of settings = (mode_number mode.None, (Some policy_none, carriage_of settings))
 
 -- the one endpoint (Part 4, 7.14)
 abbrev pub endpoint_of : SettingsValues → EndpointFields
-endpoint_of settings = (Some settings.url, (application_of settings, access_of settings))
+endpoint_of settings = (Some settings.url, (application_of settings, security_of settings))
 
 -- the transport profile that is served, with no name as an empty one
 abbrev pub is_transport : Option (List ℕ) → Bool

@@ -2,6 +2,7 @@ pub mod Endpoints
 pub mod Answers
 pub mod Requests
 pub mod Browsing
+pub mod UserSpaces
 pub mod Reading
 pub mod Updating
 pub mod Services

@@ -1,12 +1,12 @@
 -- Reads of attributes (Part 4, 5.11.2) and of history (Part 4, 5.11.3).
-use Rattle.std.specs.Prelude.{◌==◌, ◌&&◌, ◌||◌, not, nat_eq, nat_le, ℕ, Bool, true, false, if◌then◌else◌, List, [], ◌∷◌, length, codes, Option, Some, None, is_some, unwrap_or, Result, Ok, Err}
+use Rattle.std.specs.Prelude.{◌≡◌, ◌==◌, ◌&&◌, ◌||◌, not, nat_eq, nat_le, ℕ, Bool, true, false, if◌then◌else◌, List, [], ◌∷◌, length, codes, Option, Some, None, is_some, unwrap_or, Result, Ok, Err}
 use Rattle.std.specs.Cmp.Lexicographic.{pointwise}
 use Rattle.ua_binary.specs.declared.codes.Status.{Status}
-use Rattle.ua_binary.specs.declared.codes.TheConstants.Status.{GOOD, BAD_NODE_ID_UNKNOWN, BAD_INDEX_RANGE_INVALID, BAD_DATA_ENCODING_UNSUPPORTED, BAD_WAITING_FOR_INITIAL_DATA, BAD_TIMESTAMPS_TO_RETURN_INVALID, BAD_HISTORY_OPERATION_UNSUPPORTED}
+use Rattle.ua_binary.specs.declared.codes.TheConstants.Status.{GOOD, BAD_NODE_ID_UNKNOWN, BAD_INDEX_RANGE_INVALID, BAD_DATA_ENCODING_UNSUPPORTED, BAD_WAITING_FOR_INITIAL_DATA, BAD_TIMESTAMPS_TO_RETURN_INVALID, BAD_HISTORY_OPERATION_UNSUPPORTED, BAD_OUT_OF_MEMORY}
 use Rattle.ua_binary.specs.declared.values.NodeId.{NodeId}
 use Rattle.ua_binary.specs.declared.values.QualifiedName.{QualifiedName}
 use Rattle.ua_binary.specs.declared.values.Ticks.{Ticks}
-use Rattle.ua_binary.specs.Format.{◌>>=◌}
+use Rattle.ua_binary.specs.Format.{◌>>=◌, IsOrStarved}
 use Rattle.ua_binary.specs.Rules.{checked}
 use Rattle.ua_variant.specs.declared.data.DataValue.{DataValue}
 use Rattle.ua_variant.specs.declared.value.Variant.{Variant}
@@ -21,7 +21,6 @@ use Rattle.ua_services.specs.declared.history.HistoryData.TheVariants.{Nothing}
 use Rattle.ua_space.specs.declared.attributes.Answered.{Answered}
 use Rattle.ua_space.specs.declared.attributes.Answered.TheVariants.{Value, Archived}
 use Rattle.ua_space.specs.declared.layout.Layout.{Layout}
-use Rattle.ua_space.specs.Attributes.{attribute_at}
 use Rattle.ua_space.specs.Space.{node_at, value_type_at}
 use Rattle.records.specs.Contents.{Content}
 use Rattle.records.specs.Spelling.{empty}
@@ -35,6 +34,7 @@ use Rattle.hist_read.specs.Showing.{at_time, with_status, with_stamps}
 use Rattle.hist_read.specs.Node.{read_node, refused_read}
 use Rattle.hist_read.specs.declared.query.Query.{Query}
 use Rattle.historian.specs.Answers.{Answer, Response, Values, Histories}
+use Rattle.historian.specs.UserSpaces.{UserSpace, seen_attribute}
 use Rattle.hist_update.specs.Codes.{list_refusal}
 
 -- ---- lists of items
@@ -89,10 +89,18 @@ latest node R =
     [ [] ↦ Err BAD_WAITING_FOR_INITIAL_DATA | h ∷ held ↦ Ok (at_time h.time h.value) ]
 
 -- what gives the value of an item: by node and attribute, then index range, then data encoding
-abbrev pub item_at : Layout → ReadFields → Result Answered Status
-item_at space (node, (attribute, (range, encoding))) =
-    attribute_at space node attribute >>= λ answered. checked (value_rules range encoding)
+abbrev pub item_at : UserSpace → ReadFields → Result Answered Status
+item_at seen (node, (attribute, (range, encoding))) =
+    seen_attribute seen node attribute >>= λ answered. checked (value_rules range encoding)
     >>= λ _. Ok answered
+
+-- what gives the value of an item was found so: by its attribute, or want of memory for that, and then
+-- by its range and encoding
+abbrev pub FindsItem : UserSpace → ReadFields → Result Answered Status → Type 0
+FindsItem seen (node, (attribute, (range, encoding))) found =
+    (read : Result Answered Status)
+    × IsOrStarved BAD_OUT_OF_MEMORY (seen_attribute seen node attribute) read
+    × (found ≡ (read >>= λ answered. checked (value_rules range encoding) >>= λ _. Ok answered))
 
 -- what came in the way of an item is told in the place of its value
 abbrev pub unless_met : Option Status → Result DataValue Status → Result DataValue Status
@@ -117,24 +125,24 @@ abbrev pub attribute_of : ReadFields → ℕ
 attribute_of (node, (attribute, more)) = attribute
 
 -- what an item gives: an attribute's value now, or the latest value that is archived
-abbrev pub value_of_item : Layout → Ticks → ReadFields → Content → Result DataValue Status
-value_of_item space now item R =
-    item_at space item >>= λ v.
+abbrev pub value_of_item : UserSpace → Ticks → ReadFields → Content → Result DataValue Status
+value_of_item seen now item R =
+    item_at seen item >>= λ v.
     elim v [ Value value ↦ Ok (valued now (attribute_of item) value) | Archived ↦ latest item.0 R ]
 
 -- each item is one step
-abbrev pub read_item : Layout → Ticks → TimestampsToReturn → ReadFields → Content
+abbrev pub read_item : UserSpace → Ticks → TimestampsToReturn → ReadFields → Content
     → Fallible (DataValue × Content)
-read_item space now stamps item R =
-    and_then (elim (item_at space item) [ Ok Archived ↦ step status_told | _ ↦ memory ]) (λ reason.
-    give (item_told stamps now (unless_met reason (value_of_item space now item R)), R))
+read_item seen now stamps item R =
+    and_then (elim (item_at seen item) [ Ok Archived ↦ step status_told | _ ↦ memory ]) (λ reason.
+    give (item_told stamps now (unless_met reason (value_of_item seen now item R)), R))
 
 -- 1,000 items at most
-abbrev pub read : Layout → Ticks → ReadAsked → Content → Served
-read space now asked R = unless_refused (list_refusal 1000 (length asked.1)) R (
+abbrev pub read : UserSpace → Ticks → ReadAsked → Content → Served
+read seen now asked R = unless_refused (list_refusal 1000 (length asked.1)) R (
     elim asked.0 [
       | None ↦ give (Err BAD_TIMESTAMPS_TO_RETURN_INVALID, R)
-      | Some stamps ↦ answer_items Values (read_item space now stamps) asked.1 R
+      | Some stamps ↦ answer_items Values (read_item seen now stamps) asked.1 R
     ])
 
 -- ---- HistoryRead

@@ -1,14 +1,20 @@
 -- What a message is answered over what the archive holds (Part 4, 5.5 to 5.7; 7.33 to 7.35): the
 -- answer of its service, or the code that refuses it, and the sessions and the content that this
 -- leaves.
-use Rattle.std.specs.Prelude.{ℕ, List, [], ◌∷◌, Option, Result, Ok, Err, ok_or, if◌then◌else◌}
+use Rattle.std.specs.Prelude.{◌≡◌, ℕ, List, [], ◌∷◌, Option, Result, Ok, Err, IfOk, ok_or, if◌then◌else◌}
 use Rattle.ua_binary.specs.declared.codes.Status.{Status}
 use Rattle.ua_binary.specs.declared.codes.TheConstants.Status.{BAD_OUT_OF_MEMORY, BAD_DECODING_ERROR}
 use Rattle.ua_binary.specs.declared.values.NodeId.{NodeId}
 use Rattle.ua_binary.specs.declared.values.Ticks.{Ticks}
 use Rattle.ua_session.specs.declared.fault.SessionFault.{SessionFault}
 use Rattle.ua_session.specs.Fault.{session_fault_status}
+use Rattle.ua_session.specs.declared.identity.Access.TheVariants as may
+use Rattle.ua_session.specs.Users.{Claim, access_of}
 use Rattle.ua_session.specs.Sessions.{SessionsState, create_answer, activate_answer, close_answer, user_at, with_new, with_user, without_session}
+use Rattle.ua_services.specs.Attributes.{ReadAsked}
+use Rattle.ua_services.specs.Browsing.{BrowseFields}
+use Rattle.ua_services.specs.History.{HistoryAsked}
+use Rattle.ua_services.specs.Updates.{Details}
 use Rattle.ua_settings.specs.Settings.{SettingsValues}
 use Rattle.records.specs.Contents.{Content}
 use Rattle.archive.specs.Store.{Store, StepResult, Done, NoMemory}
@@ -17,8 +23,9 @@ use Rattle.historian.specs.Answers.{Answer, Endpoints, Created, Activated, Close
 use Rattle.historian.specs.Requests.{Call, GetEndpoints, CreateSession, ActivateSession, CloseSession, Browse, Read, HistoryRead, HistoryUpdate, Request, request_in}
 use Rattle.historian.specs.Endpoints.{endpoint_of, takes_transport}
 use Rattle.historian.specs.Browsing.{browse}
-use Rattle.historian.specs.Reading.{read, read_history}
+use Rattle.historian.specs.Reading.{Served, read, read_history}
 use Rattle.historian.specs.Updating.{update_history}
+use Rattle.historian.specs.UserSpaces.{space_for}
 
 -- a server: its settings, and the number and the id of its replica of the archive
 pub record ServerConfig : Type 0 where
@@ -76,31 +83,68 @@ abbrev pub close_outcome : NodeId → SessionsState → Answer × SessionsState
 close_outcome token sessions =
     (Closed, record sessions { alive = without_session token sessions.alive })
 
+-- the endpoints that take these transport profiles are told
+abbrev pub endpoints_for : ServerConfig → List (Option (List ℕ)) → SessionsState → Content
+    → Fallible MessageOutcome
+endpoints_for config profiles sessions R = give ((Ok (offered config profiles), sessions), R)
+
+-- a session is made, with this timeout, which takes memory
+abbrev pub create_for : ServerConfig → List ℕ → SessionsState → Content → Fallible MessageOutcome
+create_for config timeout sessions R =
+    step
+    (λ mark. (called sessions (created config timeout sessions) (create_answer sessions) mark, R))
+
+-- a session is activated as whom this identity is allowed, which takes memory
+abbrev pub activate_for : ServerConfig → NodeId → Claim → SessionsState → Content
+    → Fallible MessageOutcome
+activate_for config token claim sessions R =
+    let answer = activate_answer sessions token config.settings.users claim in
+    step (λ mark. (called sessions (activated token sessions) answer mark, R))
+
+-- a session is closed
+abbrev pub close_for : NodeId → SessionsState → Content → Fallible MessageOutcome
+close_for token sessions R =
+    give (called sessions (λ _. close_outcome token sessions) (close_answer sessions token) Done, R)
+
+-- a service for the user who activated the session of this token
+abbrev pub for_user : NodeId → (Content → (user : List ℕ) → Served) → SessionsState → Content
+    → Fallible MessageOutcome
+for_user token service sessions R = in_session sessions (user_at sessions token) (service R) R
+
+-- a Browse of this user, to whom the nodes are what they are to all
+abbrev pub browse_for : ServerConfig → List BrowseFields → Content → (user : List ℕ) → Served
+browse_for config nodes R user = give (browse config.settings.space nodes, R)
+
+-- a Read of this user
+abbrev pub read_for : ServerConfig → Ticks → ReadAsked → Content → (user : List ℕ) → Served
+read_for config now asked R user = read (space_for config.settings user) now asked R
+
+-- a HistoryRead of this user, to whom the histories are what they are to all
+abbrev pub history_for : ServerConfig → HistoryAsked → Content → (user : List ℕ) → Served
+history_for config asked R user = read_history config.id config.settings.space asked R
+
+-- a HistoryUpdate of this user
+abbrev pub update_for : ServerConfig → Ticks → List Details → Content → (user : List ℕ) → Served
+update_for config now details R user =
+    update_history config.own (space_for config.settings user) user now details R
+
 -- What a service answers, and what it leaves: a session more, a session's user, a session less,
 -- which takes no memory; the last four want a session that was activated.
 abbrev pub served : ServerConfig → Ticks → NodeId → Call → SessionsState → Content
     → Fallible MessageOutcome
-served config now token (GetEndpoints profiles) sessions R =
-    give ((Ok (offered config profiles), sessions), R)
-served config now token (CreateSession timeout) sessions R =
-    step
-    (λ mark. (called sessions (created config timeout sessions) (create_answer sessions) mark, R))
-served config now token (ActivateSession claim) sessions R =
-    let answer = activate_answer sessions token config.settings.users claim in
-    step (λ mark. (called sessions (activated token sessions) answer mark, R))
-served config now token CloseSession sessions R =
-    give (called sessions (λ _. close_outcome token sessions) (close_answer sessions token) Done, R)
-served config now token (Browse nodes) sessions R =
-    in_session sessions (user_at sessions token)
-    (λ user. give (browse config.settings.space nodes, R)) R
-served config now token (Read asked) sessions R =
-    in_session sessions (user_at sessions token) (λ user. read config.settings.space now asked R) R
-served config now token (HistoryRead asked) sessions R =
-    in_session sessions (user_at sessions token)
-    (λ user. read_history config.id config.settings.space asked R) R
-served config now token (HistoryUpdate details) sessions R =
-    in_session sessions (user_at sessions token)
-    (λ user. update_history config.own config.settings.space user now details R) R
+served config now token (GetEndpoints profiles) = endpoints_for config profiles
+served config now token (CreateSession timeout) = create_for config timeout
+served config now token (ActivateSession claim) = activate_for config token claim
+served config now token CloseSession = close_for token
+served config now token (Browse nodes) = for_user token (browse_for config nodes)
+served config now token (Read asked) = for_user token (read_for config now asked)
+served config now token (HistoryRead asked) = for_user token (history_for config asked)
+served config now token (HistoryUpdate details) = for_user token (update_for config now details)
+
+-- who activated the session of this token, if somebody did, may only read
+abbrev pub OnlyReads : SettingsValues → SessionsState → NodeId → Type 0
+OnlyReads settings sessions token =
+    IfOk (user_at sessions token) (λ user. access_of settings.users user ≡ may.Read)
 
 -- ---- messages
 

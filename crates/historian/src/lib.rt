@@ -6,6 +6,7 @@ mod answer;
 mod browsing;
 mod endpoints;
 mod histories;
+mod laws;
 mod message;
 mod reading;
 mod requests;
@@ -14,7 +15,9 @@ mod server;
 mod service;
 mod sessions;
 mod updating;
+mod user_space;
 
+pub use laws::readers_change_nothing;
 pub use message::answer_message;
 pub use responses::put_service_fault;
 pub use server::Server;

@@ -10,6 +10,7 @@ ghost use Rattle.ua_binary.specs.Format.{Puts};
 ghost use Rattle.ua_binary.specs.declared.codes.Status.{Status};
 ghost use Rattle.ua_binary.specs.Rules.{checked};
 ghost use Rattle.ua_variant.specs.Variant.{IsShortVariant};
+ghost use Rattle.ua_space.specs.Attributes.{IsShortAnswered};
 ghost use Rattle.ua_variant.specs.DataValue.{IsDataValue, IsShortData, data_value};
 ghost use Rattle.ua_variant.specs.declared.data.DataValue.{DataValue as Data};
 ghost use Rattle.ua_services.specs.Attributes.{read_fields};
@@ -22,10 +23,11 @@ ghost use Rattle.hist_read.specs.Asking.{first_time};
 ghost use Rattle.hist_read.specs.Finding.{Finds};
 ghost use Rattle.hist_read.specs.Reads.{greatest_time};
 ghost use Rattle.historian.specs.declared.service.Service.TheVariants as service;
-ghost use Rattle.historian.specs.Reading.{is_null_or_empty, is_default, value_rules, valued, latest, item_told, value_step, read_item, read};
+ghost use Rattle.historian.specs.Reading.{is_null_or_empty, is_default, value_rules, valued, latest, item_told, value_step, FindsItem, read_item, read};
 ghost use Rattle.historian.specs.Requests.{call_in};
 ghost use Rattle.historian.specs.Services.{ServerConfig, site_of, answered_call};
 ghost use Rattle.historian.specs.Telling.{ComesWritten, Responds};
+ghost use Rattle.historian.specs.UserSpaces.{seen_by};
 
 use crate::browsing::list_refusal;
 use crate::requests::read_request;
@@ -38,7 +40,7 @@ use records::{Held, Moment};
 use std::alloc::Global;
 use ua_binary::{BinaryFault, NodeId, NodeIdRef, QualifiedRef, Status, Ticks, put_count, put_i32};
 use ua_services::{ReadValueId, TimestampsToReturn};
-use ua_session::Sessions;
+use ua_session::{Access, Sessions};
 use ua_space::{Answered, Space};
 use ua_variant::{DataValue, Variant, put_data_value, put_value_at};
 
@@ -59,6 +61,14 @@ const LAST: Moment = Moment {
     ticks: i64::MAX,
     pico: 9999,
 };
+
+/// On which terms items are read: what the user may do, which moments are wanted, and the moment of the read.
+#[derive(Clone, Copy)]
+struct ReadTerms {
+    access: Access,
+    stamps: TimestampsToReturn,
+    now: Ticks,
+}
 
 /// Whether a range of an array stands for the whole.
 fn is_whole(range: Option<&str>) -> bool
@@ -260,35 +270,49 @@ fn put_archived<A: Archive>(
     }
 }
 
-/// Appends what is told of an item: its value, or why it is refused: `BAD_NODE_ID_UNKNOWN`, `BAD_ATTRIBUTE_ID_INVALID`,
-/// `BAD_INDEX_RANGE_INVALID`, `BAD_DATA_ENCODING_UNSUPPORTED`, in this order, and then as of an archived variable; or what
-/// came in the way.
+/// What gives the value of an item to a user who may do this: `BAD_NODE_ID_UNKNOWN`, `BAD_ATTRIBUTE_ID_INVALID`,
+/// `BAD_INDEX_RANGE_INVALID`, `BAD_DATA_ENCODING_UNSUPPORTED`, in this order; or `BAD_OUT_OF_MEMORY` for the attribute.
+fn find_item(space: &Space, access: Access, item: &ReadValueId<'_>) -> Result<Answered, Status>
+    ensures found { FindsItem (seen_by space.now access) (read_fields item.now) result }
+    ensures short { IfOk result IsShortAnswered }
+{
+    let answered = match space.read_attribute_for(access, item.node_id, item.attribute_id) {
+        Ok(answered) => answered,
+        Err(status) => return Err(status),
+    };
+    match judge_value(item.index_range, item.data_encoding) {
+        Ok(()) => Ok(answered),
+        Err(status) => Err(status),
+    }
+}
+
+/// Appends what is told of an item: its value, or why it is refused, as `find_item` has it, and then as of an archived variable;
+/// or what came in the way.
 fn put_item<A: Archive>(
     alloc: Global,
     space: &Space,
     archive: &mut A,
-    stamps: TimestampsToReturn,
-    now: Ticks,
+    terms: ReadTerms,
     item: &ReadValueId<'_>,
     out: &mut Vec<u8>,
 ) -> Result<(), BinaryFault>
     ensures { (mark : StepResult) × (value : Data)
         × Refines (A.state archive.old) (A.state archive.new) (mark ∷ [])
-        (read_item space.now now stamps (read_fields item.now)) value
+        (read_item (seen_by space.now terms.access) terms.now terms.stamps
+        (read_fields item.now)) value
         × Puts BinaryFault.OutOfMemory result out.old.items out.new.items (data_value.canon value)
         × IfOk result (λ _. IsDataValue value) }
 {
-    let answered = space.read_attribute(item.node_id, item.attribute_id);
-    match &answered {
+    let found = find_item(space, terms.access, item);
+    match &found {
         Err(status) => put_refused(*status, out),
-        Ok(answered) => match judge_value(item.index_range, item.data_encoding) {
-            Err(status) => put_refused(status, out),
-            Ok(()) => match answered {
-                Answered::Value(value) => put_valued(stamps, now, item.attribute_id, value, out),
-                Answered::Archived => {
-                    put_archived(alloc, archive, stamps, now, item.node_id, out)
-                }
-            },
+        Ok(answered) => match answered {
+            Answered::Value(value) => {
+                put_valued(terms.stamps, terms.now, item.attribute_id, value, out)
+            }
+            Answered::Archived => {
+                put_archived(alloc, archive, terms.stamps, terms.now, item.node_id, out)
+            }
         },
     }
 }
@@ -298,15 +322,15 @@ fn put_items<A: Archive>(
     alloc: Global,
     space: &Space,
     archive: &mut A,
-    stamps: TimestampsToReturn,
-    now: Ticks,
+    terms: ReadTerms,
     items: &[ReadValueId<'_>],
     out: &mut Vec<u8>,
 ) -> Result<(), BinaryFault>
     ensures told { (used : List StepResult) × (values : List Data)
         × (length values ≡ length items.now)
         × Refines (A.state archive.old) (A.state archive.new) used
-        (each (read_item space.now now stamps) (map read_fields items.now)) values
+        (each (read_item (seen_by space.now terms.access) terms.now terms.stamps)
+        (map read_fields items.now)) values
         × OnOk result
         ((out.new.items ≡ out.old.items ++ flat_map data_value.canon values)
         × AllByRecursion IsDataValue values) }
@@ -314,15 +338,17 @@ fn put_items<A: Archive>(
 {
     let mut put = Ok(());
     for item in items {
-        let one = put_item(alloc, space, archive, stamps, now, item, out);
+        let one = put_item(alloc, space, archive, terms, item, out);
         put = put.and(one);
     }
     put
 }
 
-/// Writes the response of a Read of these items, or tells why it is refused as a whole, or that memory was wanting.
+/// Writes the response of a Read of these items for a user who may do this, or tells why it is refused as a whole, or that
+/// memory was wanting.
 fn put_read<A: Archive>(
     server: &mut Server<A>,
+    access: Access,
     now: Ticks,
     handle: u32,
     timestamps: Option<TimestampsToReturn>,
@@ -332,8 +358,8 @@ fn put_read<A: Archive>(
     requires { body.old.items ≡ [] }
     ensures comes { ComesWritten (A.state server.old.replica.archive)
         (A.state server.new.replica.archive)
-        (read server.old.settings.space now (timestamps, map read_fields nodes.now)) now handle
-        result body.new.items }
+        (read (seen_by server.old.settings.space access) now
+        (timestamps, map read_fields nodes.now)) now handle result body.new.items }
     ensures settings { server.new.settings ≡ server.old.settings }
 {
     if let Some(status) = list_refusal(MOST_READ, nodes.len()) {
@@ -344,12 +370,16 @@ fn put_read<A: Archive>(
     };
     put_head(body, READ_RESPONSE, now, handle, Status::GOOD)?;
     put_count(body, nodes.len())?;
+    let terms = ReadTerms {
+        access,
+        stamps,
+        now,
+    };
     put_items(
         server.alloc,
         server.settings.space(),
         &mut server.replica.archive,
-        stamps,
-        now,
+        terms,
         nodes,
         body,
     )?;
@@ -379,6 +409,15 @@ pub(crate) fn read<A: Archive>(
     ensures settings { server.new.settings ≡ server.old.settings }
 {
     let asked = read_request(server.alloc, request.body)?;
-    sessions.user_of(request.token)?;
-    put_read(server, now, handle, asked.timestamps, &asked.nodes, body)
+    let user = sessions.user_of(request.token)?;
+    let access = server.settings.users().access_of(user);
+    put_read(
+        server,
+        access,
+        now,
+        handle,
+        asked.timestamps,
+        &asked.nodes,
+        body,
+    )
 }

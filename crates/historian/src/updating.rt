@@ -11,23 +11,24 @@ ghost use Rattle.hist_update.specs.Outcome.{IsRequest};
 ghost use Rattle.archive.specs.Growth.{id_length};
 ghost use Rattle.hist_update.specs.Updates.{refused_update};
 ghost use Rattle.historian.specs.declared.service.Service.TheVariants as service;
-ghost use Rattle.historian.specs.Updating.{node_asked, type_asked, update_of, asked_for, update_item, update_history};
+ghost use Rattle.historian.specs.Updating.{node_asked, type_granted, update_of, asked_for, update_item, update_history};
 ghost use Rattle.historian.specs.Requests.{call_in};
 ghost use Rattle.historian.specs.Services.{site_of, answered_call};
 ghost use Rattle.historian.specs.Telling.{IsEncodable, Comes, Performs};
+ghost use Rattle.historian.specs.UserSpaces.{space_for, user_space_of};
 
 use crate::answer::Answer;
 use crate::browsing::list_refusal;
 use crate::requests::history_update_request;
 use crate::server::Server;
 use crate::service::ServiceRequest;
+use crate::user_space::UserSpace;
 use archive::Archive;
 use hist_update::{Request, delete_at, delete_raw, update_data};
 use std::alloc::{AllocError, Global};
 use ua_binary::{Listing, NodeIdRef, Status, Text, Ticks};
 use ua_services::{HistoryUpdateDetails, HistoryUpdateResult};
-use ua_session::Sessions;
-use ua_space::Space;
+use ua_session::{Access, Sessions};
 use ua_variant::ValueType;
 
 /// The most details of a HistoryUpdate.
@@ -56,15 +57,18 @@ fn node_asked<'a>(details: &HistoryUpdateDetails<'a>) -> Option<NodeIdRef<'a>>
     }
 }
 
-/// The type of an archived variable. Its id has at most 256 bytes.
-fn type_of(space: &Space, node: NodeIdRef<'_>) -> Result<ValueType, Status>
-    ensures told { result ≡ type_asked space.now (Some (node_of node.entry)) }
+/// The type of an archived variable whose history the user may update. Its id has at most 256 bytes.
+fn type_of(seen: UserSpace<'_>, node: NodeIdRef<'_>) -> Result<ValueType, Status>
+    ensures told { result ≡ type_granted (user_space_of seen.entry) (Some (node_of node.entry)) }
     ensures short { IfOk result (λ _. id_length (node_of node.entry) ≤ 256) }
 {
-    match space.variable(node) {
-        Some(variable) => Ok(variable.value_type),
+    match seen.space.variable(node) {
+        Some(variable) => match seen.access {
+            Access::Read => Err(Status::BAD_USER_ACCESS_DENIED),
+            Access::Write => Ok(variable.value_type),
+        },
         None => {
-            if space.has_node(node) {
+            if seen.space.has_node(node) {
                 Err(Status::BAD_HISTORY_OPERATION_UNSUPPORTED)
             } else {
                 Err(Status::BAD_NODE_ID_UNKNOWN)
@@ -133,7 +137,7 @@ fn update_of<A: Archive>(
 /// What one of the details is answered.
 fn update_item<A: Archive>(
     alloc: Global,
-    space: &Space,
+    seen: UserSpace<'_>,
     archive: &mut A,
     user: &str,
     now: Ticks,
@@ -143,14 +147,14 @@ fn update_item<A: Archive>(
     requires values { HasShortValues (details_of details.now) }
     ensures acts { (used : List StepResult)
         × Refines (A.state archive.old) (A.state archive.new) used
-        (update_item (A.state archive.old).own space.now user.now now
+        (update_item (A.state archive.old).own (user_space_of seen.entry) user.now now
         (details_of details.now)) result }
     ensures short { IsShortUpdate result }
 {
     let Some(node) = node_asked(details) else {
         return refused(alloc, Status::BAD_HISTORY_OPERATION_UNSUPPORTED);
     };
-    let value_type = match type_of(space, node) {
+    let value_type = match type_of(seen, node) {
         Ok(value_type) => value_type,
         Err(status) => return refused(alloc, status),
     };
@@ -163,7 +167,7 @@ fn update_item<A: Archive>(
 /// What details are answered, in order, each over what those before it left.
 fn update_items<A: Archive>(
     alloc: Global,
-    space: &Space,
+    seen: UserSpace<'_>,
     archive: &mut A,
     user: &str,
     now: Ticks,
@@ -176,13 +180,13 @@ fn update_items<A: Archive>(
     requires room { length items.now ≤ vec_capacity results.old }
     ensures acts { (used : List StepResult)
         × Refines (A.state archive.old) (A.state archive.new) used
-        (each (update_item (A.state archive.old).own space.now user.now now)
+        (each (update_item (A.state archive.old).own (user_space_of seen.entry) user.now now)
         (map details_of items.now)) results.new.items }
     ensures count { length results.new.items ≡ length items.now }
     ensures short { All IsShortUpdate results.new.items }
 {
     for details in items {
-        let result = update_item(alloc, space, archive, user, now, details);
+        let result = update_item(alloc, seen, archive, user, now, details);
         results.push(result).unwrap();
     }
 }
@@ -198,8 +202,9 @@ fn update_all<A: Archive>(
     requires values { AllByRecursion HasShortValues (map details_of details.now) }
     ensures comes { Comes (A.state server.old.replica.archive)
         (A.state server.new.replica.archive)
-        (update_history (A.state server.old.replica.archive).own server.old.settings.space
-        user.now now (map details_of details.now)) result }
+        (update_history (A.state server.old.replica.archive).own
+        (space_for server.old.settings user.now) user.now now (map details_of details.now))
+        result }
     ensures settings { server.new.settings ≡ server.old.settings }
     ensures short { IfOk result IsEncodable }
 {
@@ -209,9 +214,13 @@ fn update_all<A: Archive>(
     let Ok(mut results) = Vec::with_capacity(server.alloc, details.len()) else {
         return Err(Status::BAD_OUT_OF_MEMORY);
     };
+    let seen = UserSpace {
+        space: server.settings.space(),
+        access: server.settings.users().access_of(user),
+    };
     update_items(
         server.alloc,
-        server.settings.space(),
+        seen,
         &mut server.replica.archive,
         user,
         now,
@@ -224,8 +233,8 @@ fn update_all<A: Archive>(
 /// HistoryUpdate (Part 4, 5.11.5), in a session that was activated, whose user is the one that the records name: 1 to 100
 /// details, in order. `BAD_NOTHING_TO_DO` for none, `BAD_TOO_MANY_OPERATIONS` for more. Each of the details has a status of
 /// its own: `BAD_HISTORY_OPERATION_UNSUPPORTED` for another type of details, `BAD_NODE_ID_UNKNOWN`,
-/// `BAD_HISTORY_OPERATION_UNSUPPORTED` where the node isn't archived, `BAD_OUT_OF_MEMORY`, and then those of `update_data`,
-/// `delete_raw` and `delete_at`.
+/// `BAD_HISTORY_OPERATION_UNSUPPORTED` where the node isn't archived, `BAD_USER_ACCESS_DENIED` for a user who may only read,
+/// `BAD_OUT_OF_MEMORY`, and then those of `update_data`, `delete_raw` and `delete_at`.
 pub(crate) fn update_history<A: Archive>(
     server: &mut Server<A>,
     sessions: &Sessions,

@@ -9,10 +9,9 @@ use stamp::ReplicaNo;
 use std::alloc::Global;
 use std::net::SocketAddr;
 use ua_server::{
-    Asked, ConstantClock, Counted, Host, Line, LineFault, ProgramFault, ServeFault, read_line,
-    report, run,
+    Asked, ConstantClock, Counted, Door, Host, Line, LineFault, Listening, ProgramFault,
+    ServeFault, read_line, report, run,
 };
-use ua_settings::Peers;
 use uuid::Uuid;
 
 /// Command lines, and what they are.
@@ -204,7 +203,7 @@ fn reads_lines(rt: HostRuntime) {
 }
 
 /// Command lines, the input, the room of the output, what it has then, what is said, and the exit status.
-static RUNS: [(&[&str], &[u8], usize, &str, &str, u8); 34] = [
+static RUNS: [(&[&str], &[u8], usize, &str, &str, u8); 46] = [
     (&["uahist", "--version"], b"", 1000, "uahist 0.1.0\n", "", 0),
     (
         &["uahist", "--version"],
@@ -505,10 +504,113 @@ static RUNS: [(&[&str], &[u8], usize, &str, &str, u8); 34] = [
         "uahist: connection ended (1)\nuahist: connection ended (2)\n",
         0,
     ),
+    (
+        &["uahist", "answer", "--settings", "door", "--hex"],
+        b"525856461B00000002000000000000000000000000000000000200",
+        1000,
+        "455252461000000000007E80FFFFFFFF\n",
+        "",
+        0,
+    ),
+    (
+        &["uahist", "answer", "--settings", "door"],
+        b"RXDF\x1f\0\0\0",
+        1000,
+        "ERRF\x10\0\0\0",
+        "",
+        0,
+    ),
+    (
+        &["uahist", "answer", "--settings", "bad door", "--hex"],
+        b"474554202F000000",
+        1000,
+        "455252461000000000007E80FFFFFFFF\n",
+        "",
+        0,
+    ),
+    (
+        &[
+            "uahist",
+            "serve",
+            "--settings",
+            "door",
+            "--connections",
+            "3",
+        ],
+        b"",
+        1000,
+        "",
+        "uahist: connection ended (1)\nuahist: connection ended (2)\n",
+        0,
+    ),
+    (
+        &["uahist", "serve", "--settings", "bad door"],
+        b"",
+        1000,
+        "",
+        "uahist: door's address refused\n",
+        1,
+    ),
+    (
+        &["uahist", "serve", "--settings", "busy door"],
+        b"",
+        1000,
+        "",
+        "uahist: door's address refused\n",
+        1,
+    ),
+    (
+        &["uahist", "serve", "--settings", "busy, with a door"],
+        b"",
+        1000,
+        "",
+        "uahist: address refused\n",
+        1,
+    ),
+    (
+        &["uahist", "serve", "--settings", "bad peer"],
+        b"",
+        1000,
+        "",
+        "uahist: peer's address refused (2)\n",
+        1,
+    ),
+    (
+        &["uahist", "serve", "--settings", "bad peers"],
+        b"",
+        1000,
+        "",
+        "uahist: peer's address refused (1)\n",
+        1,
+    ),
+    (
+        &["uahist", "serve", "--settings", "bad door and peer"],
+        b"",
+        1000,
+        "",
+        "uahist: door's address refused\n",
+        1,
+    ),
+    (
+        &["uahist", "serve", "--settings", "busy door, bad peer"],
+        b"",
+        1000,
+        "",
+        "uahist: peer's address refused (1)\n",
+        1,
+    ),
+    (
+        &["uahist", "serve", "--settings", "all bad"],
+        b"",
+        1000,
+        "",
+        "uahist: address refused\n",
+        1,
+    ),
 ];
 
 /// Settings files that are kept in memory: their names, and their texts.
-static FILES: [(&str, &str); 7] = [
+static FILES: [(&str, &str); 16] = [
     (
         "kept",
         "[archive]\nid = '00000000000000000000000000000000'\nreplica = 1\nstore = 'own.db'\n[server]\nlisten = ''\nurl = ''\napplication = ''\nnamespace = ''\nanonymous = true\n",
@@ -536,6 +638,42 @@ static FILES: [(&str, &str); 7] = [
     (
         "cut",
         "[archive]\nid = '00000000000000000000000000000000'\nreplica = 1\n[server]\nlisten = ''\nurl =\n",
+    ),
+    (
+        "door",
+        "[archive]\nid = '00000000000000000000000000000000'\nreplica = 1\n[server]\nlisten = '127.0.0.1:4840'\nurl = ''\napplication = ''\nnamespace = ''\nanonymous = true\n[door]\nlisten = '127.0.0.1:4841'\n",
+    ),
+    (
+        "bad door",
+        "[archive]\nid = '00000000000000000000000000000000'\nreplica = 1\n[server]\nlisten = '127.0.0.1:4840'\nurl = ''\napplication = ''\nnamespace = ''\nanonymous = true\n[door]\nlisten = 'peers'\n",
+    ),
+    (
+        "busy door",
+        "[archive]\nid = '00000000000000000000000000000000'\nreplica = 1\n[server]\nlisten = '127.0.0.1:4840'\nurl = ''\napplication = ''\nnamespace = ''\nanonymous = true\n[door]\nlisten = '127.0.0.1:4840'\n",
+    ),
+    (
+        "busy, with a door",
+        "[archive]\nid = '00000000000000000000000000000000'\nreplica = 1\n[server]\nlisten = '127.0.0.1:4841'\nurl = ''\napplication = ''\nnamespace = ''\nanonymous = true\n[door]\nlisten = '127.0.0.1:4842'\n",
+    ),
+    (
+        "bad peer",
+        "[archive]\nid = '00000000000000000000000000000000'\nreplica = 1\n[server]\nlisten = '127.0.0.1:4840'\nurl = ''\napplication = ''\nnamespace = ''\nanonymous = true\n[[peer]]\naddress = '127.0.0.1:4842'\nevery = 60\n[[peer]]\naddress = 'plant'\nevery = 60\n",
+    ),
+    (
+        "bad peers",
+        "[archive]\nid = '00000000000000000000000000000000'\nreplica = 1\n[server]\nlisten = '127.0.0.1:4840'\nurl = ''\napplication = ''\nnamespace = ''\nanonymous = true\n[[peer]]\naddress = ''\nevery = 60\n[[peer]]\naddress = ''\nevery = 60\n",
+    ),
+    (
+        "bad door and peer",
+        "[archive]\nid = '00000000000000000000000000000000'\nreplica = 1\n[server]\nlisten = '127.0.0.1:4840'\nurl = ''\napplication = ''\nnamespace = ''\nanonymous = true\n[door]\nlisten = ''\n[[peer]]\naddress = ''\nevery = 60\n",
+    ),
+    (
+        "busy door, bad peer",
+        "[archive]\nid = '00000000000000000000000000000000'\nreplica = 1\n[server]\nlisten = '127.0.0.1:4840'\nurl = ''\napplication = ''\nnamespace = ''\nanonymous = true\n[door]\nlisten = '127.0.0.1:4840'\n[[peer]]\naddress = ''\nevery = 60\n",
+    ),
+    (
+        "all bad",
+        "[archive]\nid = '00000000000000000000000000000000'\nreplica = 1\n[server]\nlisten = ''\nurl = ''\napplication = ''\nnamespace = ''\nanonymous = true\n[door]\nlisten = ''\n[[peer]]\naddress = ''\nevery = 60\n",
     ),
 ];
 
@@ -570,10 +708,21 @@ static REFUSING_PEER: [Option<Client<'static>>; 1] = [Some(Client {
     room: 1000,
 })];
 
-/// A machine in memory, with the files above, that can be listened at on port 4840, and whom the callers reach there. Each path but
-/// one opens an archive that holds nothing.
+/// A machine in memory, with the files above, that can be listened at on port 4840, and whom the callers reach there; a
+/// door of peers can be listened at on any other port. Each path but one opens an archive that holds nothing.
 #[derive(Drop)]
 struct Machine(Global);
+
+impl Machine {
+    /// The callers, where this address can be listened at; else its door.
+    fn callers_at(&self, address: SocketAddr, door: Door) -> Result<Clients<'static>, Door> {
+        if address.port() == 4840 {
+            Ok(Clients::new(self.0, &CALLERS))
+        } else {
+            Err(door)
+        }
+    }
+}
 
 impl Host for Machine {
     type Archive = ListArchive;
@@ -611,11 +760,14 @@ impl Host for Machine {
         drop(archive);
     }
 
-    fn listen(&mut self, address: SocketAddr, _peers: &Peers) -> Option<Clients<'static>> {
-        if address.port() == 4840 {
-            Some(Clients::new(self.0, &CALLERS))
+    fn listen(&mut self, listening: &Listening) -> Result<Clients<'static>, Door> {
+        let Some(peers) = listening.peers else {
+            return self.callers_at(listening.clients, Door::Both);
+        };
+        if peers.port() == listening.clients.port() {
+            Err(Door::Peers)
         } else {
-            None
+            self.callers_at(listening.clients, Door::Clients)
         }
     }
 
@@ -700,6 +852,11 @@ fn tells_each_fault(rt: HostRuntime) {
         (
             ProgramFault::Connection(ServeFault::OutOfMemory),
             "uahist: connection ended (4)\n",
+            1,
+        ),
+        (
+            ProgramFault::PeerAddress(u64::MAX),
+            "uahist: peer's address refused (18446744073709551615)\n",
             1,
         ),
         (

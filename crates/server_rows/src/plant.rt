@@ -61,6 +61,7 @@ pub fn plant_of(alloc: Global, number: u8) -> Option<Settings> {
         connections: 64,
         waiting: 256,
         peers: Peers::new(alloc),
+        door: None,
     }))
 }
 

@@ -2,4 +2,6 @@
 #![tactic(auto)]
 
 #[cfg(test)]
+mod readers;
+#[cfg(test)]
 mod services;

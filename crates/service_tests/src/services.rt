@@ -7,6 +7,7 @@ use std::alloc::{AllocError, Global};
 use std::test::Fail;
 use ua_binary::Ticks;
 use ua_session::Sessions;
+use ua_settings::Settings;
 
 /// 1970-01-01, the moment of every request here.
 const NOW: i64 = 116_444_736_000_000_000;
@@ -16,23 +17,27 @@ const HEADER: &str = "0000000000000000 02000000 00000000 FFFFFFFF 00000000 00000
 
 /// A client between requests, and the server that it asks.
 #[derive(Drop)]
-struct Client {
+pub struct Client {
     server: Server<ListArchive>,
     sessions: Sessions,
 }
 
 impl Client {
     fn new(alloc: Global) -> Result<Client, Fail> {
-        let settings = plant(alloc)?;
+        Ok(Client::of(alloc, plant(alloc)?))
+    }
+
+    /// One of a server of these settings, which holds nothing.
+    pub fn of(alloc: Global, settings: Settings) -> Client {
         let archive = archive_of(alloc, &settings);
-        Ok(Client {
+        Client {
             server: Server::new(alloc, settings, archive),
             sessions: Sessions::new(alloc),
-        })
+        }
     }
 
     /// The response to a request, both in hex digits without spaces: a type id, a token, and what stands behind the header.
-    fn ask(
+    pub fn ask(
         &mut self,
         alloc: Global,
         type_id: &str,
@@ -81,11 +86,11 @@ fn is_response(
 }
 
 /// The token of the first session.
-const TOKEN: &str = "01010300";
+pub const TOKEN: &str = "01010300";
 
 /// A request, by its type id, its token and what stands behind its header, and its response, by its type id, its status
 /// and what stands behind its head.
-type Row = (
+pub type Row = (
     &'static str,
     &'static str,
     &'static str,
@@ -95,7 +100,7 @@ type Row = (
 );
 
 /// Whether a row is answered so.
-fn is_answered(alloc: Global, client: &mut Client, row: &Row) -> Result<bool, Fail> {
+pub fn is_answered(alloc: Global, client: &mut Client, row: &Row) -> Result<bool, Fail> {
     let (type_id, token, body, told, status, rest) = *row;
     let found = client.ask(alloc, type_id, token, body)?;
     Ok(is_response(alloc, &found, told, status, rest)?)
@@ -106,10 +111,10 @@ const CREATE: &str =
     "FFFFFFFF FFFFFFFF 00 00000000 FFFFFFFF FFFFFFFF FFFFFFFF FFFFFFFF FFFFFFFF FFFFFFFF FFFFFFFF FFFFFFFF 0000000000000000 00000000";
 
 /// Activates as nobody.
-const ACTIVATE: &str = "FFFFFFFF FFFFFFFF FFFFFFFF FFFFFFFF 000000 FFFFFFFF FFFFFFFF";
+pub const ACTIVATE: &str = "FFFFFFFF FFFFFFFF FFFFFFFF FFFFFFFF 000000 FFFFFFFF FFFFFFFF";
 
 /// Makes a session, whose token is `ns=1;i=3`.
-fn create_session(alloc: Global, client: &mut Client) -> Result<bool, Fail> {
+pub fn create_session(alloc: Global, client: &mut Client) -> Result<bool, Fail> {
     let created = client.ask(alloc, "0100CD01", "0000", CREATE)?;
     Ok(
         created.as_bytes().starts_with(
@@ -119,7 +124,7 @@ fn create_session(alloc: Global, client: &mut Client) -> Result<bool, Fail> {
 }
 
 /// Whether one more session is made.
-fn is_session_made(alloc: Global, client: &mut Client) -> Result<bool, Fail> {
+pub fn is_session_made(alloc: Global, client: &mut Client) -> Result<bool, Fail> {
     let told = client.ask(alloc, "0100CD01", "0000", CREATE)?;
     Ok(told.as_bytes().starts_with(b"0100D001"))
 }

@@ -32,6 +32,8 @@ impl Status {
     pub const BAD_NOTHING_TO_DO: Status = Status(0x800F_0000);
     /// Bad_TooManyOperations.
     pub const BAD_TOO_MANY_OPERATIONS: Status = Status(0x8010_0000);
+    /// Bad_UserAccessDenied.
+    pub const BAD_USER_ACCESS_DENIED: Status = Status(0x801F_0000);
     /// Bad_IdentityTokenInvalid.
     pub const BAD_IDENTITY_TOKEN_INVALID: Status = Status(0x8020_0000);
     /// Bad_IdentityTokenRejected.

@@ -3,6 +3,8 @@ pub mod Networks
 pub mod DumpLemmas
 pub mod Opened
 pub mod Firsts
+pub mod Called
+pub mod Refused
 pub mod Updated
 pub mod ProgramParts
 pub mod TellingParts

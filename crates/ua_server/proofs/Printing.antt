@@ -5,7 +5,7 @@ use Rattle.std.specs.Prelude.{Option, Result}
 use Rattle.ua_server.specs.declared.hexed.HexFault.{HexFault}
 use Rattle.ua_server.specs.declared.hexed.HexFault.TheVariants as hexed
 use Rattle.ua_server.specs.declared.program.ProgramFault.{ProgramFault}
-use Rattle.ua_server.specs.declared.program.ProgramFault.TheVariants.{Line, File, Settings, BadHex, Address, Connection}
+use Rattle.ua_server.specs.declared.program.ProgramFault.TheVariants.{Line, File, Settings, BadHex, Address, DoorAddress, PeerAddress, Connection}
 use Rattle.ua_server.specs.declared.program.ProgramFault.TheVariants as program
 use Rattle.ua_peers.specs.declared.calling.Synced.{Synced}
 use Rattle.ua_peers.specs.declared.calling.SyncFault.{SyncFault}
@@ -20,8 +20,9 @@ use Rattle.command_line.specs.Line.{IsLine, MayAskForText}
 use Rattle.ua_settings.specs.Settings.{SettingsValues}
 use Rattle.archive.specs.Store.{Store}
 use Rattle.ua_server.specs.Host.{Machine, KnownMachine}
-use Rattle.ua_server.specs.Network.{Readings}
-use Rattle.ua_server.specs.Program.{SettingsAt, OpensBy, CallsPeer, Calling, Scene, PrintsSynced, Shows, Findings, IsMistaken, DoesCommand, DoesLine, Runs, settings_path}
+use Rattle.conversation.specs.declared.door.Door.TheVariants.{Both, Clients, Peers}
+use Rattle.ua_server.specs.Network.{Readings, Serving}
+use Rattle.ua_server.specs.Program.{SettingsAt, FindsNoPlace, OpensBy, CallsPeer, Calling, Scene, PrintsSynced, Shows, Findings, IsMistaken, DoesCommand, DoesLine, Runs, settings_path}
 use Rattle.ua_server.specs.Telling.{Known, dump_fault, fault_of}
 use Rattle.ua_server.proofs.ProgramParts.{IsUnbegun}
 
@@ -78,6 +79,18 @@ called-line known text old new line
     (inr (address, spells, (reader, writer, between, called, synced, prints, over))) =
     synced-line old.written new.written synced line prints
 
+-- that nothing is listened at isn't told as a refused line
+unheard-line : {C E : Type 0} (known : KnownMachine) (settings : SettingsValues)
+    (old new : Serving known.Host known.Archive C E) (line : LineFault)
+    → FindsNoPlace known settings (Line line) old new → ⊥
+unheard-line known settings old new line (inl (none, same), stays) = none
+unheard-line known settings old new line (inr (listening, is, Both, listens, e), stays) =
+    absurd cc
+unheard-line known settings old new line (inr (listening, is, Clients, listens, e), stays) =
+    absurd cc
+unheard-line known settings old new line (inr (listening, is, Peers, listens, e), stays) =
+    absurd cc
+
 -- no command ends as a refused line
 never-line : {C E : Type 0} (known : KnownMachine) (gave : Readings C) (told : Known E)
     (line : CommandLine) (settings : SettingsValues) (first last : known.Archive)
@@ -85,7 +98,10 @@ never-line : {C E : Type 0} (known : KnownMachine) (gave : Readings C) (told : K
     → DoesCommand known gave told line settings first last old new (Err (Line fault)) → ⊥
 never-line known gave told (Answer path hex now) settings first last old new fault
     (same, (used, given, answered, answers, is)) = answered-line answered fault is
-never-line known gave told (Serve path count) settings first last old new fault (same, so) = so
+never-line known gave told (Serve path count) settings first last old new fault (same, so) =
+    unheard-line known settings
+    (record { host = old.host; archive = first; clock = old.clock; errors = old.errors })
+    (record { host = new.host; archive = last; clock = new.clock; errors = new.errors }) fault so
 never-line known gave told (Dump path) settings first last old new fault
     (same, (dumped, dumps, is)) = dumped-line dumped fault is
 never-line known gave told (Sync path peer) settings first last old new fault (same, so) =
@@ -135,6 +151,10 @@ line-done found known gave told line old new (Err BadHex) free is so =
     inl (free, (line, is, so))
 line-done found known gave told line old new (Err Address) free is so =
     inl (free, (line, is, so))
+line-done found known gave told line old new (Err DoorAddress) free is so =
+    inl (free, (line, is, so))
+line-done found known gave told line old new (Err (PeerAddress number)) free is so =
+    inl (free, (line, is, so))
 line-done found known gave told line old new (Err (Connection fault)) free is so =
     inl (free, (line, is, so))
 line-done found known gave told line old new (Err (program.Call fault)) free is so =
@@ -158,6 +178,9 @@ text-shown found known gave told old new (Err (program.Store fault)) may so = le
     absurd cc
 text-shown found known gave told old new (Err BadHex) may so = let is = so.1.0 in absurd cc
 text-shown found known gave told old new (Err Address) may so = let is = so.1.0 in absurd cc
+text-shown found known gave told old new (Err DoorAddress) may so = let is = so.1.0 in absurd cc
+text-shown found known gave told old new (Err (PeerAddress number)) may so =
+    let is = so.1.0 in absurd cc
 text-shown found known gave told old new (Err (Connection fault)) may so = inr (may, so)
 text-shown found known gave told old new (Err (program.Call fault)) may so = let is = so.1.0 in
     absurd cc

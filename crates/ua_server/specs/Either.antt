@@ -3,7 +3,7 @@ use Rattle.std.specs.Prelude.{◌≡◌, ℕ, ◌<◌, ◌≤◌, ◌||◌, Bool
 use Rattle.std.specs.Result.{result_map_both}
 use Rattle.std.specs.Io.KnownBytes.{Consumes, IsAtEnd}
 use Rattle.archive.specs.Store.{Store, KeepsContent, CountsFaults}
-use Rattle.conversation.specs.OtherEnds.{is_peers}
+use Rattle.conversation.specs.Doors.{door_of, is_peers}
 use Rattle.ua_settings.specs.Settings.{SettingsValues}
 use Rattle.counted_io.specs.declared.fault.ServeFault.{ServeFault}
 use Rattle.counted_io.specs.declared.fault.ServeFault.TheVariants.{Read}
@@ -68,12 +68,14 @@ ServesClient settings old new first unread left before after used ending =
     (served : ClientEnding) × (ending ≡ result_map_both end_of_client (λ fault. fault) served)
     × ServesBehind settings old new first unread left before after used served
 
--- as its first letters say, a peer or a client was served
+-- as its first letters say, a peer or a client was served; a client alone where the settings have a
+-- door for peers
 abbrev pub GoesAs : SettingsValues → (old new : Store) → List ℕ
     → (unread left before after : Option (List ℕ)) → Environment → ConnectionEnding → Type 0
 GoesAs settings old new first unread left before after used ending =
-    ((is_peers first ≡ true) × ServesPeer old new first unread left before after used ending)
-    ⊎ ((is_peers first ≡ false)
+    ((is_peers (door_of settings) first ≡ true)
+    × ServesPeer old new first unread left before after used ending)
+    ⊎ ((is_peers (door_of settings) first ≡ false)
     × ServesClient settings old new first unread left before after used ending)
 
 -- A connection broke off; or three bytes were read, or all where there are fewer, and it went as

@@ -4,7 +4,8 @@ use Rattle.std.specs.declared.net.socket_addr.SocketAddr.{SocketAddr}
 use Rattle.counted_io.specs.Tally.{Tally}
 use Rattle.archive.specs.declared.fault.StoreFault.{StoreFault}
 use Rattle.archive.specs.Store.{Store}
-use Rattle.ua_settings.specs.declared.peers.PeerCall.{PeerCall}
+use Rattle.conversation.specs.declared.door.Door.{Door}
+use Rattle.ua_server.specs.declared.listening.Listening.{Listening}
 use Rattle.multiplex.specs.Effects.{Effects}
 use Rattle.multiplex.specs.Input.{Input}
 use Rattle.multiplex.specs.Output.{Output}
@@ -17,9 +18,9 @@ pub record Machine (H A L R W : Type 0) : Type 1 where
   pub opens : H → List ℕ → List ℕ → ℕ → Result A StoreFault → H → Type 0
   -- an archive was closed
   pub closes : H → A → H → Type 0
-  -- what gives the connections to an address, and calls these peers; None where it can't be
-  -- listened at, or a peer's address is none
-  pub listens : H → SocketAddr → List PeerCall → Option L → H → Type 0
+  -- what gives the connections that come to these addresses, and calls these peers; Err with the
+  -- door whose address can't be listened at
+  pub listens : H → Listening → Result L Door → H → Type 0
   -- a connection with the peer at an address; None where it can't be had
   pub calls : H → SocketAddr → Option (R × W) → H → Type 0
   -- a connection with a peer was given back, with its failed calls counted
@@ -31,7 +32,7 @@ unknown_machine = record {
   reads = λ old path text new. Unit {0};
   opens = λ old path id replica opening new. Unit {0};
   closes = λ old archive new. Unit {0};
-  listens = λ old address peers listener new. Unit {0};
+  listens = λ old listening listener new. Unit {0};
   calls = λ old address came new. Unit {0};
   parts = λ old reader writer new. Unit {0};
 }

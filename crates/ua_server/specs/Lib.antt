@@ -2,6 +2,7 @@ pub mod Telling
 pub mod Either
 pub mod Hexed
 pub mod Single
+pub mod Listening
 pub mod Host
 pub mod Network
 pub mod Dumping

@@ -16,7 +16,7 @@ use Rattle.conversation.specs.Closing.{log_calls}
 use Rattle.conversation.specs.Conversing.{behavior_over}
 use Rattle.ua_server.specs.declared.log.ErrorLog.{ErrorLog}
 use Rattle.ua_server.specs.declared.program.ProgramFault.{ProgramFault}
-use Rattle.ua_server.specs.declared.program.ProgramFault.TheVariants.{Address, Connection}
+use Rattle.ua_server.specs.declared.program.ProgramFault.TheVariants.{Address, DoorAddress, PeerAddress, Connection}
 use Rattle.ua_server.specs.Host.{KnownMachine}
 use Rattle.ua_server.specs.Telling.{Known, fresh_log, LogsFault, LogsFailed, LogsCall}
 
@@ -90,6 +90,13 @@ pub record ServesMany {C E : Type 0} (known : KnownMachine) (gave : Readings C) 
   pub served : HasServed known.effects known.input known.output (conversations known.held gave told)
       (limits_of settings count) first last done
 
--- nothing could be had at the address, or memory was wanting before
+-- nothing could be had at an address of the settings, or memory was wanting before
 abbrev pub IsServingFault : ProgramFault → Type 0
-IsServingFault fault = (fault ≡ Address) ⊎ (fault ≡ Connection OutOfMemory)
+IsServingFault fault =
+    elim fault [
+      | Address ↦ Unit {0}
+      | DoorAddress ↦ Unit {0}
+      | PeerAddress number ↦ Unit {0}
+      | Connection OutOfMemory ↦ Unit {0}
+      | _ ↦ ⊥
+    ]

@@ -33,6 +33,9 @@ use Rattle.ua_peers.specs.declared.calling.SyncFault.{SyncFault}
 use Rattle.ua_peers.specs.declared.calling.SyncFault.TheVariants as sync
 use Rattle.std.specs.Net.Grammar.{IsSocketText}
 use Rattle.ua_server.specs.Network.{Counts, Serving, ServesMany, Readings}
+use Rattle.conversation.specs.declared.door.Door.{Door}
+use Rattle.ua_server.specs.declared.listening.Listening.{Listening}
+use Rattle.ua_server.specs.Listening.{IsListening, HasNoAddress, door_fault}
 use Rattle.ua_server.specs.Host.{Machine, KnownMachine}
 use Rattle.clap.specs.Words.{Row, Text, subcommand_of}
 use Rattle.clap.specs.Takes.{takes}
@@ -110,32 +113,40 @@ IsUnreachable had text old new =
     (((address : SocketAddr) → IsSocketText text address → ⊥) × (new ≡ old))
     ⊎ ((address : SocketAddr) × IsSocketText text address × had address None new)
 
--- connections were served that came to the address of the settings
+-- connections were served that came to the addresses of the settings
 abbrev pub ListensAt : {C E : Type 0} → (known : KnownMachine) → Readings C → Known E
     → SettingsValues → ℕ → (old new : Serving known.Host known.Archive C E) → Type 0
 ListensAt known gave told settings count old new =
-    (address : SocketAddr) × IsSocketText settings.listen address
-    × ((source : known.Source)
-    × known.machine.listens old.host address settings.peers (Some source) new.host
+    (listening : Listening) × IsListening settings listening
+    × ((source : known.Source) × known.machine.listens old.host listening (Ok source) new.host
     × ServesMany known gave told settings count source old new)
 
--- nothing is had at the address of the settings, and the archive, the clock and standard error stay
-abbrev pub FindsNoPlace : {C E : Type 0} → (known : KnownMachine) → SettingsValues
-    → (old new : Serving known.Host known.Archive C E) → Type 0
-FindsNoPlace known settings old new =
-    IsUnreachable (λ address. known.machine.listens old.host address settings.peers)
-    settings.listen old.host new.host × (new ≡ record old { host = new.host })
+-- an address of the settings can't be listened at, as this fault tells
+abbrev pub IsRefusedPlace : (known : KnownMachine) → SettingsValues → ProgramFault
+    → (old new : known.Host) → Type 0
+IsRefusedPlace known settings fault old new =
+    (listening : Listening) × IsListening settings listening × (door : Door)
+    × known.machine.listens old listening (Err door) new × (fault ≡ door_fault door)
 
--- connections were served that came to the address of the settings; or nothing is had there, or
--- memory was wanting before; no other fault ends it
+-- an address of the settings is none, and nothing was asked for, or it can't be listened at, as
+-- this fault tells; the archive, the clock and standard error stay
+abbrev pub FindsNoPlace : {C E : Type 0} → (known : KnownMachine) → SettingsValues → ProgramFault
+    → (old new : Serving known.Host known.Archive C E) → Type 0
+FindsNoPlace known settings fault old new =
+    ((HasNoAddress settings fault × (new.host ≡ old.host))
+    ⊎ IsRefusedPlace known settings fault old.host new.host)
+    × (new ≡ record old { host = new.host })
+
+-- connections were served that came to the addresses of the settings; or memory was wanting before,
+-- or nothing is had at one of them; no other fault ends it
 abbrev pub Listens : {C E : Type 0} → (known : KnownMachine) → Readings C → Known E
     → SettingsValues → ℕ → (old new : Serving known.Host known.Archive C E)
     → Result (Unit {0}) ProgramFault → Type 0
 Listens known gave told settings count old new (Ok done) =
     ListensAt known gave told settings count old new
-Listens known gave told settings count old new (Err Address) = FindsNoPlace known settings old new
 Listens known gave told settings count old new (Err (Connection OutOfMemory)) = new ≡ old
-Listens known gave told settings count old new (Err fault) = ⊥
+Listens known gave told settings count old new (Err fault) =
+    FindsNoPlace known settings fault old new
 
 -- of a dialog that came to its end the line was printed, a first part of it where the writer
 -- failed, nothing where memory for it was wanting; of another one nothing was printed, and its

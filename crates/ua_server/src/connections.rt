@@ -1,23 +1,26 @@
 //! Connections over a network, many at once, of clients and of peers.
 
-ghost use Rattle.std.specs.Prelude.{◌≡◌, ◌*◌, length, pos, Some, IfOk, IfErr};
-ghost use Rattle.std.specs.Net.Grammar.{IsSocketText};
-ghost use Rattle.std.specs.declared.net.socket_addr.SocketAddr.{SocketAddr};
+ghost use Rattle.std.specs.Prelude.{◌≡◌, ◌⊎◌, ◌*◌, length, pos, Ok, Err, IfOk, IfErr};
+ghost use Rattle.conversation.specs.declared.door.Door.{Door as Kind};
+ghost use Rattle.counted_io.specs.declared.fault.ServeFault.TheVariants.{OutOfMemory};
 ghost use Rattle.multiplex.specs.Serving.{AreAllFree};
 ghost use Rattle.ua_server.specs.Telling.{fresh_log};
 ghost use Rattle.ua_server.specs.Network.{limits_of, serving_of, IsServingFault};
 ghost use Rattle.ua_server.specs.Host.{known_machine};
-ghost use Rattle.ua_server.specs.Program.{IsUnreachable, Listens};
+ghost use Rattle.ua_server.specs.Program.{Listens};
+ghost use Rattle.ua_server.specs.Listening.{IsListening, HasNoAddress, door_fault};
+ghost use Rattle.ua_server.specs.declared.listening.Listening.{Listening};
+ghost use Rattle.ua_server.specs.declared.program.ProgramFault.TheVariants.{Connection};
 
 use crate::host::Host;
+use crate::listening::listening_of;
 use crate::log::ErrorLog;
 use crate::program::ProgramFault;
-use conversation::{Conversation, World};
+use conversation::{Conversation, Door, World};
 use counted_io::ServeFault;
 use multiplex::{Limits, serve};
 use std::alloc::{AllocError, Global};
 use std::io::Write;
-use std::net::SocketAddr;
 use ua_connection::Clock;
 use ua_settings::Settings;
 
@@ -47,22 +50,38 @@ fn free_slots<X: Drop>(alloc: Global, count: usize) -> Result<Vec<Option<X>>, Al
     Ok(slots)
 }
 
-/// What gives the connections to the address of these settings, and calls their peers.
-fn listen_at<H: Host>(settings: &Settings, host: &mut H) -> Result<H::Source, ProgramFault>
-    ensures ok { IfOk result
-        (λ source. (address : SocketAddr) × IsSocketText settings.now.listen address
-        × H.means.listens host.old address settings.now.peers (Some source) host.new) }
-    ensures refused { IfErr result
-        (λ fault. (fault ≡ ProgramFault.Address)
-        × IsUnreachable (λ address. H.means.listens host.old address settings.now.peers)
-        settings.now.listen host.old host.new) }
+/// What is told where a door's address can't be listened at.
+fn door_fault(door: Door) -> ProgramFault
+    ensures { result ≡ door_fault door }
 {
-    let Ok(address) = settings.listen().parse::<SocketAddr>() else {
-        return Err(ProgramFault::Address);
+    match door {
+        Door::Both | Door::Clients => ProgramFault::Address,
+        Door::Peers => ProgramFault::DoorAddress,
+    }
+}
+
+/// What gives the connections that come to the addresses of these settings, and calls their peers.
+fn listen_at<H: Host>(
+    alloc: Global,
+    settings: &Settings,
+    host: &mut H,
+) -> Result<H::Source, ProgramFault>
+    ensures ok { IfOk result
+        (λ source. (listening : Listening) × IsListening settings.now listening
+        × H.means.listens host.old listening (Ok source) host.new) }
+    ensures refused { IfErr result
+        (λ fault. ((fault ≡ Connection OutOfMemory) × (host.new ≡ host.old))
+        ⊎ (HasNoAddress settings.now fault × (host.new ≡ host.old))
+        ⊎ ((listening : Listening) × IsListening settings.now listening × (door : Kind)
+        × H.means.listens host.old listening (Err door) host.new × (fault ≡ door_fault door))) }
+{
+    let listening = match listening_of(alloc, settings) {
+        Ok(listening) => listening,
+        Err(fault) => return Err(fault),
     };
-    match host.listen(address, settings.peers()) {
-        Some(source) => Ok(source),
-        None => Err(ProgramFault::Address),
+    match host.listen(&listening) {
+        Ok(source) => Ok(source),
+        Err(door) => Err(door_fault(door)),
     }
 }
 
@@ -87,7 +106,7 @@ pub(crate) fn serve_at<H: Host, C: Clock, E: Write>(
     let Ok(mut slots) = free_slots(alloc, limits.accept_slots.saturating_add(callees)) else {
         return Err(ProgramFault::Connection(ServeFault::OutOfMemory));
     };
-    let mut source = listen_at(&world.server.settings, host)?;
+    let mut source = listen_at(alloc, &world.server.settings, host)?;
     serve::<H::Source, Conversation<H::Archive, C, ErrorLog<E>>>(
         alloc,
         &mut source,

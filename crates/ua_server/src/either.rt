@@ -9,9 +9,9 @@ ghost use Rattle.ua_connection.specs.Passing.{LineEvent, Passes};
 ghost use Rattle.ua_connection.specs.Serving.{ServesBehind, ServesPromptly};
 ghost use Rattle.ua_peers.specs.Peers.{MeetsBehind, responding};
 ghost use Rattle.ua_server.specs.Either.{end_of_client, end_of_peer, ServesEither};
-ghost use Rattle.conversation.specs.OtherEnds.{is_peers};
 
 use archive::Archive;
+use conversation::Door;
 use counted_io::{Counted, ServeFault};
 use exchange::Replica;
 use historian::Server;
@@ -82,13 +82,6 @@ fn read_first<R: Read>(reader: &mut Counted<R>, first: &mut [u8]) -> Result<usiz
         }
     }
     Ok(read)
-}
-
-/// Whether a connection that begins with these bytes is a peer's.
-fn is_peers(first: &[u8]) -> bool
-    ensures { result ≡ is_peers first.now }
-{
-    first.starts_with(b"RXV") || first.starts_with(b"RXD")
 }
 
 /// Answers the dialog of a peer of which these first bytes were read before.
@@ -171,7 +164,7 @@ fn serve_client<R: Read, W: Write, C: Clock, A: Archive>(
 }
 
 /// Answers a connection: a peer's dialog over the server's replica, as `serve_peer` does, where its first three letters are
-/// `RXV` or `RXD`; any other as a client's, over the replica's archive.
+/// `RXV` or `RXD`, and the settings have no door for peers; any other as a client's, over the replica's archive.
 ///
 /// It waits for three bytes, or the end of the input. Where a read fails before, nothing is written and the archive is as it
 /// was. The clock is read for a client alone.
@@ -202,7 +195,7 @@ pub fn serve<R: Read, W: Write, C: Clock, A: Archive>(
         Err(fault) => return Err(fault),
     };
     let first = &letters[..n];
-    if is_peers(first) {
+    if Door::of_settings(&server.settings).is_peers(first) {
         serve_a_peer(server.alloc, &mut server.replica, first, reader, writer)
     } else {
         serve_client(reader, writer, first, server, clock)

@@ -4,13 +4,14 @@ ghost use Rattle.std.specs.Prelude.{Option, IfOk, option_map, string_bytes};
 ghost use Rattle.archive.specs.Beginning.{HoldsNothing};
 ghost use Rattle.ua_server.specs.Host.{Machine};
 
+use crate::listening::Listening;
 use archive::{Archive, StoreFault};
+use conversation::Door;
 use counted_io::Counted;
 use multiplex::Source;
 use stamp::ReplicaNo;
 use std::io::{Read, Write};
 use std::net::SocketAddr;
-use ua_settings::Peers;
 use uuid::Uuid;
 
 /// What a run asks of the machine that it runs on.
@@ -51,10 +52,10 @@ pub trait Host {
     fn close(&mut self, archive: Self::Archive)
         ensures { means.closes self.old archive self.new };
 
-    /// What gives the connections to an address, and begins the calls of these peers when they are due; none where it can't be
-    /// listened at, or the address of one of the peers is none.
-    fn listen(&mut self, address: SocketAddr, peers: &Peers) -> Option<Self::Source>
-        ensures { means.listens self.old address peers.now result self.new };
+    /// What gives the connections that come to these addresses, and begins the calls when they are due; or the door whose
+    /// address can't be listened at. The listener of each address has the number of its door (`Door::listener`).
+    fn listen(&mut self, listening: &Listening) -> Result<Self::Source, Door>
+        ensures { means.listens self.old listening.now result self.new };
 
     /// A connection with the peer at the address; none where it can't be had.
     fn call(&mut self, address: SocketAddr) -> Option<(Self::Reader, Self::Writer)>

@@ -8,12 +8,15 @@ mod files;
 mod hexed;
 mod host;
 mod laws;
+mod listening;
 mod log;
 mod program;
 mod single;
 
 pub use command_line::{Asked, Line, LineFault, read_line};
-pub use conversation::{Conversation, Ended, Log, World, a_client_alone_is_answered};
+pub use conversation::{
+    Conversation, Door, Ended, Log, World, a_client_alone_is_answered, a_clients_door_takes_no_peer,
+};
 pub use counted_io::{Counted, ServeFault};
 pub use dumps::{DumpFault, dump};
 pub use either::{Served, serve};
@@ -21,6 +24,7 @@ pub use hexed::{HexFault, answer_hex};
 pub use historian::Server;
 pub use host::Host;
 pub use laws::connections_are_updates;
+pub use listening::{Callee, Listening};
 pub use multiplex::{Limits, Slot, each_connection_is_alone};
 pub use program::{ProgramFault, Ran, report, run};
 pub use single::answer_at;

@@ -141,9 +141,9 @@ fn fault_text(fault: SyncFault) -> InlineText<100>
     ensures { inline_text result ≡ fault_text (sync_fault fault) }
 {
     match fault {
-        SyncFault::Connection(fault) => numbered("connection ended", u32::from(fault.number())),
-        SyncFault::Exchange(fault) => numbered("exchange ended", u32::from(fault.number())),
-        SyncFault::Peer(number) => numbered("exchange ended", number),
+        SyncFault::Connection(fault) => numbered("connection ended", u64::from(fault.number())),
+        SyncFault::Exchange(fault) => numbered("exchange ended", u64::from(fault.number())),
+        SyncFault::Peer(number) => numbered("exchange ended", u64::from(number)),
     }
 }
 

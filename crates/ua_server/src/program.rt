@@ -51,8 +51,12 @@ pub enum ProgramFault {
     Store(StoreFault),
     /// The input isn't hex.
     BadHex,
-    /// The settings' address, or the peer's, is none, or can't be listened at or called.
+    /// The settings' address, or that of the peer to be called, is none, or can't be listened at or called.
     Address,
+    /// The address of the settings' door is none, or can't be listened at.
+    DoorAddress,
+    /// The address of the peer of this number in the settings, from 1, is none.
+    PeerAddress(u64),
     /// A connection met a fault.
     Connection(ServeFault),
     /// The connection with a peer that was called met a fault.
@@ -78,27 +82,31 @@ impl ProgramFault {
             ProgramFault::Store(_) => "store refused",
             ProgramFault::BadHex => "bad hex",
             ProgramFault::Address => "address refused",
+            ProgramFault::DoorAddress => "door's address refused",
+            ProgramFault::PeerAddress(_) => "peer's address refused",
             ProgramFault::Connection(_) | ProgramFault::Call(_) => "connection ended",
             ProgramFault::Exchange(_) | ProgramFault::Peer(_) => "exchange ended",
         }
     }
 
     /// Its number, if it has one.
-    pub fn number(&self) -> Option<u32>
+    pub fn number(&self) -> Option<u64>
         ensures { result ≡ number_told self.now }
     {
         match self {
-            ProgramFault::Settings(fault, _) => Some(u32::from(fault.number())),
-            ProgramFault::Store(fault) => Some(u32::from(fault.number())),
+            ProgramFault::Settings(fault, _) => Some(u64::from(fault.number())),
+            ProgramFault::Store(fault) => Some(u64::from(fault.number())),
             ProgramFault::Connection(fault) | ProgramFault::Call(fault) => {
-                Some(u32::from(fault.number()))
+                Some(u64::from(fault.number()))
             }
-            ProgramFault::Exchange(fault) => Some(u32::from(fault.number())),
-            ProgramFault::Peer(number) => Some(*number),
+            ProgramFault::Exchange(fault) => Some(u64::from(fault.number())),
+            ProgramFault::Peer(number) => Some(u64::from(*number)),
+            ProgramFault::PeerAddress(number) => Some(*number),
             ProgramFault::Line(_)
             | ProgramFault::File
             | ProgramFault::BadHex
-            | ProgramFault::Address => None,
+            | ProgramFault::Address
+            | ProgramFault::DoorAddress => None,
         }
     }
 
@@ -115,6 +123,8 @@ impl ProgramFault {
             | ProgramFault::Store(_)
             | ProgramFault::BadHex
             | ProgramFault::Address
+            | ProgramFault::DoorAddress
+            | ProgramFault::PeerAddress(_)
             | ProgramFault::Connection(_)
             | ProgramFault::Call(_)
             | ProgramFault::Exchange(_)
@@ -463,7 +473,8 @@ fn print_text<W: Write>(text: &[u8], output: &mut Counted<W>) -> Result<(), Prog
 ///
 /// Errors: `Line` where the words are no command, `File` and `Settings` where the settings file can't be read or is refused,
 /// `Store` where the settings' store can't be opened, or can't be read for a dump, `Address` where the settings' address, or
-/// that of the peer to be called, is none, or can't be listened at or called, `BadHex` where the input is to be hex and
+/// that of the peer to be called, is none, or can't be listened at or called, `DoorAddress` and `PeerAddress` the same of the
+/// settings' door and of a peer that the server is to call, `BadHex` where the input is to be hex and
 /// isn't, `Connection` where the connection of standard input met a fault, or a dump's writer did, or that of the line of a
 /// call of a peer, and of such a call
 /// `Call` where its connection met a fault, `Exchange` where the exchange met one here, and `Peer` where the peer ended it
@@ -542,6 +553,8 @@ pub fn report<W: Write>(ending: Result<(), ProgramFault>, errors: &mut Counted<W
         | ProgramFault::BadHex => 2,
         ProgramFault::Store(_) => 3,
         ProgramFault::Address
+        | ProgramFault::DoorAddress
+        | ProgramFault::PeerAddress(_)
         | ProgramFault::Connection(_)
         | ProgramFault::Call(_)
         | ProgramFault::Exchange(_)
@@ -587,7 +600,7 @@ fn tell_text<W: Write>(fault: &ProgramFault, errors: &mut Counted<W>) -> Result<
 const MOST_WORDS: usize = 40;
 
 /// Words, and a number in brackets behind them.
-pub(crate) fn numbered(words: &str, number: u32) -> InlineText<100>
+pub(crate) fn numbered(words: &str, number: u64) -> InlineText<100>
     requires { length words.now ≤ 40 }
     ensures { inline_text result ≡ numbered words.now number }
 {

@@ -8,19 +8,35 @@ use Rattle.std.specs.Str.{is_utf8}
 use Rattle.ua_session.specs.declared.fault.SessionFault.{SessionFault}
 use Rattle.ua_session.specs.declared.fault.SessionFault.TheVariants.{IdentityInvalid, IdentityRejected}
 use Rattle.ua_session.specs.declared.identity.User.{User}
+use Rattle.ua_session.specs.declared.identity.Access.{Access}
+use Rattle.ua_session.specs.declared.identity.Access.TheVariants.{Read}
 use Rattle.ua_session.specs.declared.identity.Identity.{Identity}
 use Rattle.ua_session.specs.declared.identity.Identity.TheVariants as lent
 
--- whether a user without a name is allowed, and the users with one, in the order in which they were
--- added
+-- whether a user without a name is allowed, and what such a one may do, and the users with a name,
+-- in the order in which they were added
 pub record Allowed : Type 0 where
   pub anonymous : Bool
+  pub anonymous_access : Access
   pub named : List User
 
 -- with one user more, the last
-abbrev pub with_added : Allowed → List ℕ → List ℕ → Allowed
-with_added allowed name password =
-    record allowed { named = allowed.named ++ record { name = name; password = password } ∷ [] }
+abbrev pub with_added : Allowed → List ℕ → List ℕ → Access → Allowed
+with_added allowed name password access =
+    record allowed {
+      named =
+          allowed.named ++ record { name = name; password = password; access = access } ∷ [];
+    }
+
+-- what the user may do who was let in by this name: of equal names the first one counts, and a name
+-- that nobody has reads alone
+abbrev pub access_of : Allowed → List ℕ → Access
+access_of allowed name =
+    if pointwise nat_eq name (codes "anonymous") then allowed.anonymous_access
+    else elim (find (λ user. pointwise nat_eq user.name name) allowed.named) [
+      | None ↦ Read
+      | Some user ↦ user.access
+    ]
 
 -- An identity without where it lies in memory: no name, or a name with a password and the algorithm
 -- that encrypted it, or something else.

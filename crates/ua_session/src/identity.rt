@@ -36,11 +36,21 @@ impl fmt::Debug for Identity<'_> {
     }
 }
 
-/// A user with a name and a password.
+/// What a user may do with histories.
+#[derive(Clone, Copy, Debug, PartialEq, Eq)]
+pub enum Access {
+    /// Read them.
+    Read,
+    /// Read and update them.
+    Write,
+}
+
+/// A user with a name and a password, who may do this.
 #[derive(Drop)]
 pub(crate) struct User {
     pub name: Text,
     pub password: Bytes,
+    pub access: Access,
 }
 
 /// Without the password.

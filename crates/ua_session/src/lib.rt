@@ -10,7 +10,7 @@ mod sessions;
 mod users;
 
 pub use fault::SessionFault;
-pub use identity::Identity;
+pub use identity::{Access, Identity};
 pub use laws::{
     calls_are_answered_by_what_happened, identities_are_judged_by_the_first_of_equal_names,
     sessions_are_bounded, tokens_are_given_once, user_is_that_of_the_last_activation,

@@ -5,9 +5,10 @@ ghost use Rattle.std.specs.Prelude.{◌≡◌, ◌≤◌, ◌<◌, [], length, n
 ghost use Rattle.std.specs.List.{AllByRecursion};
 ghost use Rattle.std.specs.Option.{option_copied};
 ghost use Rattle.ua_session.specs.Users.{user_name_of, judgement_of_name, HasShortName, IsUserName};
+ghost use Rattle.ua_session.specs.declared.identity.Access.TheVariants.{Write};
 
 use crate::fault::SessionFault;
-use crate::identity::{Identity, User};
+use crate::identity::{Access, Identity, User};
 use std::alloc::Global;
 use std::marker::Model;
 use ua_binary::{Bytes, Text};
@@ -20,6 +21,7 @@ const ANONYMOUS: &str = "anonymous";
 pub struct Users {
     alloc: Global,
     anonymous: bool,
+    anonymous_access: Access,
     named: Vec<User>,
 }
 
@@ -29,23 +31,37 @@ impl Model for Users {
 
     ghost Value = { Allowed };
 
-    ghost view = { λ u. record { anonymous = u.anonymous; named = u.named.items } };
+    ghost view = { λ u.
+        record {
+          anonymous = u.anonymous;
+          anonymous_access = u.anonymous_access;
+          named = u.named.items;
+        } };
 
     ghost invariant = { λ u. AllByRecursion HasShortName u.named.items };
 }
 
 impl Users {
-    ghost use Rattle.ua_session.specs.Users.{claim_of, judgement, with_added};
+    ghost use Rattle.ua_session.specs.Users.{claim_of, judgement, with_added, access_of};
 
-    /// No user with a name yet; a user without one is allowed or not. It takes no memory.
+    /// No user with a name yet; a user without one is allowed or not, and may update histories. It takes no memory.
     pub fn new(alloc: Global, anonymous: bool) -> Self
-        ensures { result ≡ record { anonymous = anonymous; named = [] } }
+        ensures { result
+            ≡ record { anonymous = anonymous; anonymous_access = Write; named = [] } }
     {
         Users {
             alloc,
             anonymous,
+            anonymous_access: Access::Write,
             named: Vec::new(alloc),
         }
+    }
+
+    /// What a user without a name may do from now on.
+    pub fn set_anonymous_access(&mut self, access: Access)
+        ensures { self.new ≡ record self.old { anonymous_access = access } }
+    {
+        self.anonymous_access = access;
     }
 
     /// Whether a user without a name is allowed.
@@ -62,18 +78,52 @@ impl Users {
         !self.named.is_empty()
     }
 
-    /// Adds a user, whose name has 1 to 256 bytes. Of two equal names the first one counts. The one error
-    /// is `OutOfMemory`, which changes nothing.
+    /// Adds a user who may update histories, whose name has 1 to 256 bytes. Of two equal names the first one counts. The one
+    /// error is `OutOfMemory`, which changes nothing.
     pub fn add(&mut self, name: &str, password: &[u8]) -> Result<(), SessionFault>
         requires some { 0 < length name.now }
         requires short { length name.now ≤ 256 }
-        ensures ok { OnOk result (self.new ≡ with_added self.old name.now password.now) }
+        ensures ok { OnOk result
+            (self.new ≡ with_added self.old name.now password.now Write) }
+        ensures err { IfErr result (λ fault. (fault ≡ SessionFault.OutOfMemory) × (self.new ≡ self.old)) }
+    {
+        self.add_with(name, password, Access::Write)
+    }
+
+    /// Adds a user as `add` does, who may do this.
+    pub fn add_with(
+        &mut self,
+        name: &str,
+        password: &[u8],
+        access: Access,
+    ) -> Result<(), SessionFault>
+        requires some { 0 < length name.now }
+        requires short { length name.now ≤ 256 }
+        ensures ok { OnOk result (self.new ≡ with_added self.old name.now password.now access) }
         ensures err { IfErr result (λ fault. (fault ≡ SessionFault.OutOfMemory) × (self.new ≡ self.old)) }
     {
         let name = Text::from_str(self.alloc, name)?;
         let password = Bytes::from_slice(self.alloc, password)?;
-        self.named.push(User { name, password })?;
+        self.named.push(User {
+            name,
+            password,
+            access,
+        })?;
         Ok(())
+    }
+
+    /// What the user of this name may do, who was allowed as one of these: `anonymous` has no name of its own. It takes no
+    /// memory.
+    pub fn access_of(&self, name: &str) -> Access
+        ensures { result ≡ access_of self.now name.now }
+    {
+        if name == ANONYMOUS {
+            return self.anonymous_access;
+        }
+        match find_user(&self.named, name) {
+            Some(user) => user.access,
+            None => Access::Read,
+        }
     }
 
     /// As whom an identity is allowed: `anonymous`, or the first user of that name where the password is

@@ -5,8 +5,9 @@ use Rattle.std.specs.Result.{result_map_both}
 use Rattle.std.proofs.lemmas.Bool.{and_parts, leb-true, false≢true}
 use Rattle.std.specs.List.{list_any, AllByRecursion}
 use Rattle.std.specs.Cmp.Lexicographic.{pointwise}
-use Rattle.toml.specs.Data.{Members}
+use Rattle.toml.specs.Data.{Members, no_members}
 use Rattle.ua_session.specs.Users.{Allowed}
+use Rattle.ua_session.specs.declared.identity.Access.{Access}
 use Rattle.ua_session.specs.declared.identity.User.{User as SessionUser}
 use Rattle.ua_binary.specs.Format.{IsOrStarved}
 use Rattle.ua_space.specs.declared.fault.BuildFault.{BuildFault}
@@ -24,9 +25,9 @@ use Rattle.ua_settings.specs.declared.fault.SettingsFault.TheVariants.{OutOfMemo
 use Rattle.ua_settings.specs.declared.keys.Section.TheVariants.{User, Folder, Variable, Peer}
 use Rattle.ua_settings.specs.File.{tables, text_at, is_name, names_in}
 use Rattle.ua_settings.specs.Judging.{is_short}
-use Rattle.ua_settings.specs.Reading.{folder_in, variable_in, peer_in, table_at, truth_at, values_of_tables, space_fault, space_in, IsSpaceOrStarved, IsAcceptedOrStarved}
+use Rattle.ua_settings.specs.Reading.{folder_in, variable_in, user_in, peer_in, table_at, truth_at, access_at, values_of_tables, space_fault, space_in, IsSpaceOrStarved, IsAcceptedOrStarved}
 use Rattle.ua_settings.specs.declared.peers.PeerCall.{PeerCall}
-use Rattle.ua_settings.proofs.ReadingParts.{user_in, users_in}
+use Rattle.ua_settings.proofs.ReadingParts.{users_in, door_in}
 use Rattle.ua_settings.specs.Settings.{SettingsValues}
 use Rattle.ua_settings.specs.Sound.{IsSound, IsSoundFolder, IsSoundVariable}
 use Rattle.ua_settings.proofs.Mapped.{any_of_mapped}
@@ -190,14 +191,17 @@ space_built document plan result namespace folders variables is =
 -- ---- the settings of a sound document
 
 values_same : (document archive server : Members) (users : Allowed) (peers : List PeerCall)
-    (space : Layout)
+    (door : Option (List ℕ)) (space : Layout)
     → archive ≡ table_at (codes "archive") document → server ≡ table_at (codes "server") document
     → users ≡ users_in document → peers ≡ map peer_in (tables document Peer)
-    → (record (values_of_tables archive server [] [] space) { users = users; peers = peers })
+    → door ≡ door_in document
+    → (record (values_of_tables archive server no_members [] [] space)
+    { users = users; peers = peers; door = door })
     ≡ values_of_tables (table_at (codes "archive") document) (table_at (codes "server") document)
-    (tables document User) (tables document Peer) space
-values_same document archive server users peers space a s u p =
-    λ i. record (values_of_tables (a i) (s i) [] [] space) { users = u i; peers = p i }
+    (table_at (codes "door") document) (tables document User) (tables document Peer) space
+values_same document archive server users peers door space a s u p d =
+    λ i. record (values_of_tables (a i) (s i) no_members [] [] space)
+    { users = u i; peers = p i; door = d i }
 
 given : (values : Layout → SettingsValues) (space : Layout) (made : Result Layout BuildFault)
     → Ok space ≡ result_map_both (λ space. space) Space made
@@ -211,21 +215,22 @@ has_space document space (inl starved) = absurd (false≢true (sym (ap is_ok sta
 has_space document space (inr is) = is
 
 pub accepted : (document archive server : Members) (users : Allowed) (peers : List PeerCall)
-    (space : Layout) (result : Result SettingsValues SettingsFault)
+    (door : Option (List ℕ)) (space : Layout) (result : Result SettingsValues SettingsFault)
     → archive ≡ table_at (codes "archive") document → server ≡ table_at (codes "server") document
     → users ≡ users_in document → peers ≡ map peer_in (tables document Peer)
-    → IsSpaceOrStarved document (Ok space)
+    → door ≡ door_in document → IsSpaceOrStarved document (Ok space)
     → IfOk result (λ settings. settings
-    ≡ record (values_of_tables archive server [] [] space) { users = users; peers = peers })
+    ≡ record (values_of_tables archive server no_members [] [] space)
+    { users = users; peers = peers; door = door })
     → IfErr result (λ fault. fault ≡ OutOfMemory)
     → IsAcceptedOrStarved document result
-accepted document archive server users peers space (Ok settings) a s u p is_space ok err =
-    inr (ap Ok (ok ∙ values_same document archive server users peers space a s u p)
+accepted document archive server users peers door space (Ok settings) a s u p d is_space ok err =
+    inr (ap Ok (ok ∙ values_same document archive server users peers door space a s u p d)
     ∙ given (values_of_tables (table_at (codes "archive") document)
-    (table_at (codes "server") document) (tables document User) (tables document Peer)) space
-    (space_in document)
+    (table_at (codes "server") document) (table_at (codes "door") document)
+    (tables document User) (tables document Peer)) space (space_in document)
     (has_space document space is_space))
-accepted document archive server users peers space (Err fault) a s u p is_space ok err =
+accepted document archive server users peers door space (Err fault) a s u p d is_space ok err =
     inl (ap Err err)
 
 -- nodes that make no space, or want of memory, are what the settings are refused by
@@ -239,19 +244,19 @@ unspaced document fault (inr is) = inr (by (space_in document) is)
         ≡ result_map_both (λ space. space) Space made
         → (let result : Result SettingsValues SettingsFault = Err fault in result)
         ≡ result_map_both (values_of_tables (table_at (codes "archive") document)
-        (table_at (codes "server") document) (tables document User) (tables document Peer))
-        Space made
+        (table_at (codes "server") document) (table_at (codes "door") document)
+        (tables document User) (tables document Peer)) Space made
     by (Ok space) e = absurd cc
     by (Err cause) e = let is : fault ≡ Space cause = cc in ap Err is
 
-pub users_same : (document server : Members) (anonymous : Bool) (named : List SessionUser)
-    → server ≡ table_at (codes "server") document
-    → anonymous ≡ truth_at (codes "anonymous") server → named ≡ map user_in (tables document User)
-    → record { anonymous = anonymous; named = named } ≡ users_in document
-users_same document server anonymous named s a n =
-    ap (λ b. record { anonymous = b; named = named }) (a ∙ ap (truth_at (codes "anonymous")) s)
-    ∙ ap (λ l. record {
-      anonymous =
-          truth_at (codes "anonymous") (table_at (codes "server") document);
-      named = l;
-    }) n
+pub users_same : (document server : Members) (anonymous : Bool) (access : Access)
+    (named : List SessionUser) → server ≡ table_at (codes "server") document
+    → anonymous ≡ truth_at (codes "anonymous") server
+    → access ≡ access_at (codes "anonymous_access") server
+    → named ≡ map user_in (tables document User)
+    → record { anonymous = anonymous; anonymous_access = access; named = named }
+    ≡ users_in document
+users_same document server anonymous access named s a may n =
+    let allowed = a ∙ ap (truth_at (codes "anonymous")) s in
+    let does = may ∙ ap (access_at (codes "anonymous_access")) s in
+    λ i. record { anonymous = allowed i; anonymous_access = does i; named = n i }

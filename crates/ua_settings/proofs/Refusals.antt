@@ -4,7 +4,7 @@ use Rattle.std.specs.Option.{option_or}
 use Rattle.std.specs.List.{list_any}
 use Rattle.toml.specs.Data.{Members}
 use Rattle.ua_settings.specs.declared.keys.Section.{Section}
-use Rattle.ua_settings.specs.declared.keys.Section.TheVariants.{Document, Archive, Server, User, Folder, Variable, Peer}
+use Rattle.ua_settings.specs.declared.keys.Section.TheVariants.{Document, Archive, Server, User, Folder, Variable, Peer, Door}
 use Rattle.ua_settings.specs.declared.keys.Wrong.{Wrong}
 use Rattle.ua_settings.specs.declared.keys.Wrong.TheVariants.{Unknown, Missing, Bad}
 use Rattle.ua_settings.specs.File.{Names, names_in, tables, keys_in, rules, is_wrong, first_refusal}
@@ -93,9 +93,9 @@ unfolding wrong_at
 refused_so document =
     first_kind (λ wrong. list_any (λ section.
     list_any (is_wrong (names_in document) wrong section) (tables document section))
-    (Document ∷ Archive ∷ Server ∷ User ∷ Folder ∷ Variable ∷ Peer ∷ []))
+    (Document ∷ Archive ∷ Server ∷ User ∷ Folder ∷ Variable ∷ Peer ∷ Door ∷ []))
     (wrong_at document) (λ wrong. in_sections document wrong
-    (Document ∷ Archive ∷ Server ∷ User ∷ Folder ∷ Variable ∷ Peer ∷ []))
+    (Document ∷ Archive ∷ Server ∷ User ∷ Folder ∷ Variable ∷ Peer ∷ Door ∷ []))
     (Unknown ∷ Missing ∷ Bad ∷ [])
 
 -- what was found tells how the document is wrong

@@ -6,7 +6,7 @@ use Rattle.std.specs.List.{list_any, AllByRecursion}
 use Rattle.std.specs.Cmp.Lexicographic.{pointwise}
 use Rattle.toml.specs.Data.{Data, Members, no_members, get_member, as_str, as_integer, as_table}
 use Rattle.ua_settings.specs.declared.keys.Section.{Section}
-use Rattle.ua_settings.specs.declared.keys.Section.TheVariants.{Document, Archive, Server, User, Folder, Variable, Peer}
+use Rattle.ua_settings.specs.declared.keys.Section.TheVariants.{Document, Archive, Server, User, Folder, Variable, Peer, Door}
 use Rattle.ua_settings.specs.declared.keys.Wrong.{Wrong}
 use Rattle.ua_settings.specs.declared.keys.Wrong.TheVariants.{Unknown, Missing, Bad}
 use Rattle.ua_settings.specs.File.{Names, rules, is_name, is_up_to, text_at, tables, names_in}
@@ -61,6 +61,7 @@ each_section document wrong none section =
     let five = none_both (wrong_in document wrong Folder) _ four.1 in
     let six = none_both (wrong_in document wrong Variable) _ five.1 in
     let seven = none_both (wrong_in document wrong Peer) _ six.1 in
+    let eight = none_both (wrong_in document wrong Door) _ seven.1 in
     elim section as (λ s. wrong_in document wrong s ≡ None) [
       | Document ↦ one.0
       | Archive ↦ two.0
@@ -70,6 +71,7 @@ each_section document wrong none section =
           five.0
       | Variable ↦ six.0
       | Peer ↦ seven.0
+      | Door ↦ eight.0
     ]
 
 -- ---- a table in which nothing is wrong

@@ -1,15 +1,15 @@
 -- What a settings file says (TOML 1.1): its tables, their keys, what each key must hold, and how a
 -- file is wrong.
-use Rattle.std.specs.Prelude.{◌==◌, ◌&&◌, ℕ, pos, negsuc, Bool, true, false, not, List, [], ◌∷◌, length, map, find, codes, nat_eq, nat_le, Option, None, Some, is_some, is_none, option_and_then, unwrap_or, ℤ}
+use Rattle.std.specs.Prelude.{◌==◌, ◌&&◌, ◌||◌, ℕ, pos, negsuc, Bool, true, false, not, List, [], ◌∷◌, length, map, find, codes, nat_eq, nat_le, Option, None, Some, is_some, is_none, option_and_then, unwrap_or, ℤ}
 use Rattle.std.specs.Option.{option_map_or, option_to_list}
 use Rattle.std.specs.List.{list_all, list_any, count_by, filter_map}
 use Rattle.std.specs.Cmp.Lexicographic.{pointwise}
 use Rattle.toml.specs.Data.{Data, Items, no_items, item, Members, no_members, member, get_member, as_str, as_integer, as_bool, as_array, as_table}
 use Rattle.uuid.specs.Text.{parsed}
 use Rattle.ua_settings.specs.declared.keys.Section.{Section}
-use Rattle.ua_settings.specs.declared.keys.Section.TheVariants.{Document, Archive, Server, User, Folder, Variable, Peer}
+use Rattle.ua_settings.specs.declared.keys.Section.TheVariants.{Document, Archive, Server, User, Folder, Variable, Peer, Door}
 use Rattle.ua_settings.specs.declared.keys.Holds.{Holds}
-use Rattle.ua_settings.specs.declared.keys.Holds.TheVariants.{Text, Id, Replica, UpTo, Truth, NodeName, UserName, FolderId, OneTable, Tables}
+use Rattle.ua_settings.specs.declared.keys.Holds.TheVariants.{Text, Id, Replica, UpTo, Truth, NodeName, UserName, FolderId, Access, OneTable, Tables}
 use Rattle.ua_settings.specs.declared.keys.Wrong.{Wrong}
 use Rattle.ua_settings.specs.declared.keys.Wrong.TheVariants.{Unknown, Missing, Bad}
 
@@ -32,7 +32,8 @@ abbrev pub document_keys : List Rule
 document_keys =
     required (codes "archive") OneTable ∷ required (codes "server") OneTable
     ∷ optional (codes "user") Tables ∷ optional (codes "folder") Tables
-    ∷ optional (codes "variable") Tables ∷ optional (codes "peer") Tables ∷ []
+    ∷ optional (codes "variable") Tables ∷ optional (codes "peer") Tables
+    ∷ optional (codes "door") OneTable ∷ []
 
 -- those of the table `archive`
 abbrev pub archive_keys : List Rule
@@ -46,7 +47,13 @@ server_keys =
     required (codes "listen") Text ∷ required (codes "url") Text
     ∷ required (codes "application") Text ∷ required (codes "namespace") Text
     ∷ required (codes "anonymous") Truth ∷ optional (codes "connections") (UpTo 1000)
-    ∷ optional (codes "waiting") (UpTo 65536) ∷ []
+    ∷ optional (codes "waiting") (UpTo 65536) ∷ optional (codes "anonymous_access") Access ∷ []
+
+-- those of a table of a user
+abbrev pub user_keys : List Rule
+user_keys =
+    required (codes "name") UserName ∷ required (codes "password") Text
+    ∷ optional (codes "access") Access ∷ []
 
 -- those of a table of a variable
 abbrev pub variable_keys : List Rule
@@ -59,10 +66,11 @@ abbrev pub rules : Section → List Rule
 rules Document = document_keys
 rules Archive = archive_keys
 rules Server = server_keys
-rules User = required (codes "name") UserName ∷ required (codes "password") Text ∷ []
+rules User = user_keys
 rules Folder = required (codes "id") Text ∷ required (codes "name") Text ∷ []
 rules Variable = variable_keys
 rules Peer = required (codes "address") Text ∷ required (codes "every") (UpTo 86400) ∷ []
+rules Door = required (codes "listen") Text ∷ []
 
 -- ---- the tables of a document
 
@@ -93,6 +101,8 @@ tables document User = many_tables (get_member (codes "user") document)
 tables document Folder = many_tables (get_member (codes "folder") document)
 tables document Variable = many_tables (get_member (codes "variable") document)
 tables document Peer = many_tables (get_member (codes "peer") document)
+tables document Door =
+    option_to_list (option_and_then as_table (get_member (codes "door") document))
 
 -- the text at a key, empty where there is none
 abbrev pub text_at : List ℕ → Members → List ℕ
@@ -135,6 +145,10 @@ is_user_name names name =
 abbrev pub is_folder : Names → List ℕ → Bool
 is_folder names id = list_any (λ folder. pointwise nat_eq folder id) names.folders
 
+-- what a user may do, as it is spelled
+abbrev pub is_access : List ℕ → Bool
+is_access text = pointwise nat_eq text (codes "read") || pointwise nat_eq text (codes "write")
+
 -- all are tables
 abbrev pub are_tables : Items → Bool
 are_tables items = list_all (λ item. is_some (as_table item)) (items_in items)
@@ -149,6 +163,7 @@ fits names Truth value = is_some (as_bool value)
 fits names NodeName value = option_map_or is_name (as_str value) false
 fits names UserName value = option_map_or (is_user_name names) (as_str value) false
 fits names FolderId value = option_map_or (is_folder names) (as_str value) false
+fits names Access value = option_map_or is_access (as_str value) false
 fits names OneTable value = is_some (as_table value)
 fits names Tables value = option_map_or are_tables (as_array value) false
 
@@ -179,5 +194,5 @@ abbrev pub first_refusal : Members → Option Wrong
 first_refusal document = find (λ wrong.
     list_any
     (λ section. list_any (is_wrong (names_in document) wrong section) (tables document section))
-    (Document ∷ Archive ∷ Server ∷ User ∷ Folder ∷ Variable ∷ Peer ∷ [])) (Unknown ∷ Missing ∷ Bad
-    ∷ [])
+    (Document ∷ Archive ∷ Server ∷ User ∷ Folder ∷ Variable ∷ Peer ∷ Door ∷ []))
+    (Unknown ∷ Missing ∷ Bad ∷ [])

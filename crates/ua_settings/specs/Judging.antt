@@ -6,7 +6,7 @@ use Rattle.std.specs.Cmp.Lexicographic.{pointwise}
 use Rattle.toml.specs.Data.{Members, get_member}
 use Rattle.uuid.specs.Text.{parsed}
 use Rattle.ua_settings.specs.declared.keys.Section.{Section}
-use Rattle.ua_settings.specs.declared.keys.Section.TheVariants.{Document, Archive, Server, User, Folder, Variable, Peer}
+use Rattle.ua_settings.specs.declared.keys.Section.TheVariants.{Document, Archive, Server, User, Folder, Variable, Peer, Door}
 use Rattle.ua_settings.specs.declared.keys.Wrong.{Wrong}
 use Rattle.ua_settings.specs.declared.keys.Wrong.TheVariants.{Unknown, Missing, Bad}
 use Rattle.ua_settings.specs.File.{Names, Rule, fits, is_name, keys_in, names_in, rules, tables}
@@ -78,7 +78,7 @@ first_some f (a ∷ more) = option_or (f a) (first_some f more)
 unfoldable pub wrong_at : Members → Wrong → Option Spot
 wrong_at document wrong =
     first_some (λ section. wrong_from (names_in document) wrong section 1 (tables document section))
-    (Document ∷ Archive ∷ Server ∷ User ∷ Folder ∷ Variable ∷ Peer ∷ [])
+    (Document ∷ Archive ∷ Server ∷ User ∷ Folder ∷ Variable ∷ Peer ∷ Door ∷ [])
 
 -- the first way in which a document is wrong, unknown keys before missing ones and these before bad
 -- ones, and where

@@ -1,5 +1,6 @@
 -- What settings a file gives.
-use Rattle.std.specs.Prelude.{◌≡◌, ◌⊎◌, ℕ, pos, negsuc, Bool, false, List, [], map, codes, Option, None, Some, option_and_then, unwrap_or, Result, Err}
+use Rattle.std.specs.Prelude.{◌≡◌, ◌⊎◌, ℕ, pos, negsuc, Bool, false, List, [], map, codes, nat_eq, Option, None, Some, option_and_then, unwrap_or, Result, Err, if◌then◌else◌}
+use Rattle.std.specs.Cmp.Lexicographic.{pointwise}
 use Rattle.std.specs.Result.{result_map_both}
 use Rattle.toml.specs.Data.{Members, no_members, get_member, as_str, as_integer, as_bool, as_table}
 use Rattle.uuid.specs.Text.{parsed}
@@ -15,6 +16,8 @@ use Rattle.ua_settings.specs.declared.keys.Wrong.TheVariants.{Unknown, Missing, 
 use Rattle.ua_settings.specs.File.{tables, text_at, first_refusal}
 use Rattle.ua_settings.specs.Settings.{SettingsValues}
 use Rattle.ua_session.specs.Users.{Allowed}
+use Rattle.ua_session.specs.declared.identity.Access.{Access}
+use Rattle.ua_session.specs.declared.identity.Access.TheVariants.{Read, Write}
 use Rattle.ua_settings.specs.declared.peers.PeerCall.{PeerCall}
 use Rattle.ua_session.specs.declared.identity.User.{User as NamedUser}
 
@@ -53,26 +56,39 @@ variable_in variable =
       folder = option_and_then as_str (get_member (codes "folder") variable);
     }
 
+-- what a user may do, by the text at a key: read and update histories where none is there
+abbrev pub access_at : List ℕ → Members → Access
+access_at key members =
+    if pointwise nat_eq (text_at key members) (codes "read") then Read else Write
+
 -- a user that a table gives
 abbrev pub user_in : Members → NamedUser
 user_in user =
-    record { name = text_at (codes "name") user; password = text_at (codes "password") user }
+    record {
+      name = text_at (codes "name") user;
+      password = text_at (codes "password") user;
+      access = access_at (codes "access") user;
+    }
 
 -- the users that the tables give
 abbrev pub users_in : Members → List Members → Allowed
 users_in server users =
-    record { anonymous = truth_at (codes "anonymous") server; named = map user_in users }
+    record {
+      anonymous = truth_at (codes "anonymous") server;
+      anonymous_access = access_at (codes "anonymous_access") server;
+      named = map user_in users;
+    }
 
 -- a peer that a table gives
 abbrev pub peer_in : Members → PeerCall
 peer_in peer =
     record { address = text_at (codes "address") peer; every = number_at (codes "every") peer }
 
--- what the tables `archive`, `server` and those of users and peers give, with these nodes; 64
--- connections at a time, and 256 MiB, where the tables don't say
-abbrev pub values_of_tables : (archive server : Members) → (users peers : List Members) → Layout
-    → SettingsValues
-values_of_tables archive server users peers space = record {
+-- what the tables `archive`, `server`, `door` and those of users and peers give, with these nodes;
+-- 64 connections at a time, and 256 MiB, where the tables don't say
+abbrev pub values_of_tables : (archive server door : Members) → (users peers : List Members)
+    → Layout → SettingsValues
+values_of_tables archive server door users peers space = record {
   archive = unwrap_or (parsed (text_at (codes "id") archive)) [];
   replica = number_at (codes "replica") archive;
   store = option_and_then as_str (get_member (codes "store") archive);
@@ -84,6 +100,7 @@ values_of_tables archive server users peers space = record {
   connections = number_or 64 (codes "connections") server;
   waiting = number_or 256 (codes "waiting") server;
   peers = map peer_in peers;
+  door = option_and_then as_str (get_member (codes "listen") door);
 }
 
 -- ---- what a file gives
@@ -99,7 +116,8 @@ abbrev pub settings_in : Members → Result SettingsValues SettingsFault
 settings_in document =
     result_map_both
     (values_of_tables (table_at (codes "archive") document) (table_at (codes "server") document)
-    (tables document User) (tables document Peer)) Space (space_in document)
+    (table_at (codes "door") document) (tables document User) (tables document Peer)) Space
+    (space_in document)
 
 -- the settings that a text gives, by the document that it is, or the first fault
 abbrev pub read_in : Option Members → Result SettingsValues SettingsFault

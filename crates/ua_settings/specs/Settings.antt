@@ -1,11 +1,12 @@
 -- What a server is set to.
 use Rattle.std.specs.Prelude.{◌≤◌, List, [], ℕ, length, replicate, codes, true, None}
+use Rattle.ua_session.specs.declared.identity.Access.TheVariants.{Write}
 use Rattle.ua_settings.specs.declared.settings.Parts.{Parts}
 
 -- the archive's id, the number of this replica of it, and the file of its store, none for memory;
 -- where the server listens, the URL of its endpoint, the URI of the application; who may use it;
--- its nodes; how many connections it serves at a time, and how many MiB may wait to be written; and
--- the peers that it calls
+-- its nodes; how many connections it serves at a time, and how many MiB may wait to be written; the
+-- peers that it calls, and where peers come to it, if not to the address where clients do
 abbrev pub SettingsValues : Type 0
 SettingsValues = Parts
 
@@ -19,11 +20,12 @@ bare = record {
   listen = codes "127.0.0.1:4840";
   url = codes "opc.tcp://localhost:4840";
   application = codes "urn:uahist";
-  users = record { anonymous = true; named = [] };
+  users = record { anonymous = true; anonymous_access = Write; named = [] };
   space = record { namespace = codes "urn:uahist:archive"; folders = []; variables = [] };
   connections = 64;
   waiting = 256;
   peers = [];
+  door = None;
 }
 
 -- a text of settings has at most 65,536 bytes

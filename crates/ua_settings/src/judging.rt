@@ -26,7 +26,7 @@ const MOST_TEXT: usize = 65_536;
 const MOST_NAME: usize = 256;
 
 /// The kinds of tables, in the order in which a document is judged.
-const SECTIONS: [Section; 7] = [
+const SECTIONS: [Section; 8] = [
     Section::Document,
     Section::Archive,
     Section::Server,
@@ -34,6 +34,7 @@ const SECTIONS: [Section; 7] = [
     Section::Folder,
     Section::Variable,
     Section::Peer,
+    Section::Door,
 ];
 
 /// What may be wrong, in the order in which it is judged.
@@ -101,6 +102,7 @@ fn fits_text(known: &Known<'_>, holds: Holds, text: &str) -> bool
         Holds::NodeName => is_name(text),
         Holds::UserName => is_user_name(known, text),
         Holds::FolderId => is_among(text, known.folders.as_slice()),
+        Holds::Access => text == "read" || text == "write",
         Holds::Replica | Holds::UpTo(_) | Holds::Truth | Holds::OneTable | Holds::Tables => false,
     }
 }
@@ -149,11 +151,15 @@ fn fits(known: &Known<'_>, holds: Holds, value: &Value) -> bool
             Some(values) => are_tables(values.as_slice()),
             None => false,
         },
-        Holds::Text | Holds::Id | Holds::NodeName | Holds::UserName | Holds::FolderId =>
-            match value.as_str() {
-                Some(text) => fits_text(known, holds, text),
-                None => false,
-            },
+        Holds::Text
+        | Holds::Id
+        | Holds::NodeName
+        | Holds::UserName
+        | Holds::FolderId
+        | Holds::Access => match value.as_str() {
+            Some(text) => fits_text(known, holds, text),
+            None => false,
+        },
     }
 }
 

@@ -18,6 +18,7 @@ pub enum Section {
     Folder,
     Variable,
     Peer,
+    Door,
 }
 
 /// What a key must hold.
@@ -39,6 +40,8 @@ pub(crate) enum Holds {
     UserName,
     /// The id of a folder.
     FolderId,
+    /// `read` or `write`.
+    Access,
     OneTable,
     /// An array of tables.
     Tables,
@@ -109,13 +112,14 @@ macro_rules! key {
     };
 }
 
-static DOCUMENT: [Key; 6] = [
+static DOCUMENT: [Key; 7] = [
     key!("archive", OneTable),
     key!("server", OneTable),
     key!("user", Tables, optional),
     key!("folder", Tables, optional),
     key!("variable", Tables, optional),
     key!("peer", Tables, optional),
+    key!("door", OneTable, optional),
 ];
 
 static ARCHIVE: [Key; 3] = [
@@ -124,7 +128,7 @@ static ARCHIVE: [Key; 3] = [
     key!("store", Text, optional),
 ];
 
-static SERVER: [Key; 7] = [
+static SERVER: [Key; 8] = [
     key!("listen", Text),
     key!("url", Text),
     key!("application", Text),
@@ -132,9 +136,14 @@ static SERVER: [Key; 7] = [
     key!("anonymous", Truth),
     key!("connections", up to 1000, optional),
     key!("waiting", up to 65536, optional),
+    key!("anonymous_access", Access, optional),
 ];
 
-static USER: [Key; 2] = [key!("name", UserName), key!("password", Text)];
+static USER: [Key; 3] = [
+    key!("name", UserName),
+    key!("password", Text),
+    key!("access", Access, optional),
+];
 
 static FOLDER: [Key; 2] = [key!("id", Text), key!("name", Text)];
 
@@ -148,6 +157,8 @@ static VARIABLE: [Key; 5] = [
 
 static PEER: [Key; 2] = [key!("address", Text), key!("every", up to 86400)];
 
+static DOOR: [Key; 1] = [key!("listen", Text)];
+
 /// The keys of a kind of table.
 pub(crate) fn keys_of(section: Section) -> &'static [Key]
     ensures { map rule_of result.now ≡ rules section }
@@ -160,5 +171,6 @@ pub(crate) fn keys_of(section: Section) -> &'static [Key]
         Section::Folder => &FOLDER,
         Section::Variable => &VARIABLE,
         Section::Peer => &PEER,
+        Section::Door => &DOOR,
     }
 }

@@ -6,7 +6,7 @@ ghost use Rattle.toml.specs.Data.{get_member, as_str, as_bool, as_integer, as_ta
 ghost use Rattle.toml.specs.View.{view, table_view};
 ghost use Rattle.ua_settings.specs.File.{tables, text_at, many_tables, items_in};
 ghost use Rattle.ua_settings.specs.Judging.{is_replica};
-ghost use Rattle.ua_settings.specs.Reading.{number_or};
+ghost use Rattle.ua_settings.specs.Reading.{number_or, access_at};
 ghost use Rattle.ua_settings.specs.Sound.{IsUpTo};
 ghost use Rattle.toml.specs.Data.{as_array};
 
@@ -14,6 +14,7 @@ use crate::keys::Section;
 use stamp::ReplicaNo;
 use std::alloc::{AllocError, Global};
 use toml::{Table, Value};
+use ua_session::Access;
 
 /// The value at a key.
 pub(crate) fn find<'a>(table: &'a Table, key: &str) -> Option<&'a Value>
@@ -51,6 +52,17 @@ pub(crate) fn truth(table: &Table, key: &str) -> bool
     match find(table, key) {
         Some(value) => value.as_bool().unwrap_or(false),
         None => false,
+    }
+}
+
+/// What a user may do, by the text at a key.
+pub(crate) fn access(table: &Table, key: &str) -> Access
+    ensures { result ≡ access_at key.now (table_view table.now) }
+{
+    if text(table, key) == "read" {
+        Access::Read
+    } else {
+        Access::Write
     }
 }
 
@@ -168,5 +180,6 @@ pub(crate) fn tables_of<'a>(
         Section::Folder => many(alloc, document, "folder"),
         Section::Variable => many(alloc, document, "variable"),
         Section::Peer => many(alloc, document, "peer"),
+        Section::Door => one(alloc, document, "door"),
     }
 }

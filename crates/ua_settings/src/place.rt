@@ -138,6 +138,7 @@ fn put_heading(section: Section, number: usize, text: &mut String) -> Result<(),
         Section::Folder => write!(text, "[[folder]] {number}, "),
         Section::Variable => write!(text, "[[variable]] {number}, "),
         Section::Peer => write!(text, "[[peer]] {number}, "),
+        Section::Door => text.push_str("[door] "),
     }
 }
 

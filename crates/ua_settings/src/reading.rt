@@ -2,26 +2,28 @@
 
 ghost use Rattle.std.specs.Prelude.{◌≡◌, map, IfOk, IfErr, Some, Ok, Err, true, option_and_then, codes, []};
 ghost use Rattle.std.specs.List.{AllByRecursion};
-ghost use Rattle.toml.specs.Data.{get_member, as_integer, as_str};
+ghost use Rattle.toml.specs.Data.{get_member, as_integer, as_str, no_members};
 ghost use Rattle.toml.specs.View.{table_view};
 ghost use Rattle.uuid.specs.Text.{parsed};
 ghost use Rattle.ua_space.specs.declared.plan.Plan.{Plan};
 ghost use Rattle.ua_space.specs.Lent.{entry_of, folder_of};
 ghost use Rattle.ua_settings.specs.File.{tables, text_at};
 ghost use Rattle.ua_settings.specs.Judging.{is_id, is_replica, test};
-ghost use Rattle.ua_settings.specs.Reading.{folder_in, variable_in, number_at, table_at, peer_in, values_of_tables, IsAcceptedOrStarved, IsSpaceOrStarved, space_fault};
+ghost use Rattle.ua_settings.specs.Reading.{folder_in, variable_in, number_at, table_at, user_in, peer_in, values_of_tables, IsAcceptedOrStarved, IsSpaceOrStarved, space_fault};
 ghost use Rattle.ua_settings.specs.Sound.{IsSound, IsSoundArchive, IsSoundUser, IsSoundServer, IsSoundPeer};
 
 use crate::fault::SettingsFault;
 use crate::keys::Section;
-use crate::looking::{find_text, number, number_or, replica, table_at, tables_of, text, truth};
+use crate::looking::{
+    access, find_text, number, number_or, replica, table_at, tables_of, text, truth,
+};
 use crate::peers::Peers;
 use crate::settings::{CONNECTIONS, Parts, Settings, WAITING};
 use stamp::ReplicaNo;
 use std::alloc::{AllocError, Global};
 use toml::Table;
 use ua_binary::Text;
-use ua_session::Users;
+use ua_session::{Access, Users};
 use ua_space::{BuildFault, FolderPlan, Plan, Space, VariablePlan};
 use uuid::Uuid;
 
@@ -52,26 +54,28 @@ fn read_replica(archive: &Table) -> ReplicaNo
     }
 }
 
-/// The users of these tables.
-fn read_users(alloc: Global, anonymous: bool, tables: &[&Table]) -> Result<Users, SettingsFault>
+/// The users of these tables, and one without a name who is allowed or not and may do this.
+fn read_users(
+    alloc: Global,
+    anonymous: bool,
+    anonymous_access: Access,
+    tables: &[&Table],
+) -> Result<Users, SettingsFault>
     requires { AllByRecursion (λ user. IsSoundUser (table_view user.now)) tables.now }
     ensures ok { IfOk result
         (λ users. users
         ≡ record {
           anonymous = anonymous;
-          named =
-              map
-              (λ user.
-              (record {
-                name = text_at (codes "name") (table_view user.now);
-                password = text_at (codes "password") (table_view user.now);
-              })) tables.now;
+          anonymous_access = anonymous_access;
+          named = map (λ user. user_in (table_view user.now)) tables.now;
         }) }
     ensures err { IfErr result (λ fault. fault ≡ SettingsFault.OutOfMemory) }
 {
     let mut users = Users::new(alloc, anonymous);
+    users.set_anonymous_access(anonymous_access);
     for table in tables {
-        match users.add(text(table, "name"), text(table, "password").as_bytes()) {
+        let password = text(table, "password").as_bytes();
+        match users.add_with(text(table, "name"), password, access(table, "access")) {
             Ok(()) => {}
             Err(_) => return Err(SettingsFault::OutOfMemory),
         }
@@ -220,15 +224,32 @@ fn read_store(alloc: Global, archive: &Table) -> Result<Option<Text>, AllocError
     }
 }
 
-/// Who may use a server, whom it calls, and its nodes.
+/// Where peers come to.
+fn read_door(alloc: Global, document: &Table) -> Result<Option<Text>, AllocError>
+    ensures { IfOk result
+        (λ door. door
+        ≡ option_and_then as_str
+        (get_member (codes "listen") (table_at (codes "door") (table_view document.now)))) }
+{
+    let Some(door) = table_at(document, "door") else {
+        return Ok(None);
+    };
+    match find_text(door, "listen") {
+        None => Ok(None),
+        Some(address) => Ok(Some(Text::from_str(alloc, address)?)),
+    }
+}
+
+/// Who may use a server, whom it calls, where peers come to, and its nodes.
 #[derive(Drop)]
 struct Listed {
     users: Users,
     peers: Peers,
+    door: Option<Text>,
     space: Space,
 }
 
-/// The settings of the tables `archive` and `server`, with these users, peers and nodes.
+/// The settings of the tables `archive` and `server`, with these users, peers, door and nodes.
 fn settings_of(
     alloc: Global,
     archive: &Table,
@@ -240,8 +261,9 @@ fn settings_of(
     ensures ok { IfOk result
         (λ settings. settings
         ≡ record
-        (values_of_tables (table_view archive.now) (table_view server.now) [] [] listed.space)
-        { users = listed.users; peers = listed.peers }) }
+        (values_of_tables (table_view archive.now) (table_view server.now) no_members [] []
+        listed.space)
+        { users = listed.users; peers = listed.peers; door = listed.door }) }
     ensures err { IfErr result (λ fault. fault ≡ SettingsFault.OutOfMemory) }
 {
     Ok(Settings::of(Parts {
@@ -256,6 +278,7 @@ fn settings_of(
         connections: number_or(server, "connections", 1_000, CONNECTIONS),
         waiting: number_or(server, "waiting", 65_536, WAITING),
         peers: listed.peers,
+        door: listed.door,
     }))
 }
 
@@ -271,14 +294,18 @@ pub(crate) fn read_document(alloc: Global, document: &Table) -> Result<Settings,
         unreachable!()
     };
     let tables = tables_of(alloc, document, Section::User)?;
-    let users = read_users(alloc, truth(server, "anonymous"), tables.as_slice())?;
+    let anonymous = truth(server, "anonymous");
+    let anonymous_access = access(server, "anonymous_access");
+    let users = read_users(alloc, anonymous, anonymous_access, tables.as_slice())?;
     let callees = tables_of(alloc, document, Section::Peer)?;
     let peers = read_peers(alloc, callees.as_slice())?;
+    let door = read_door(alloc, document)?;
     match read_space(alloc, document, server) {
         Ok(space) => {
             let listed = Listed {
                 users,
                 peers,
+                door,
                 space,
             };
             settings_of(alloc, archive, server, listed)

@@ -52,6 +52,8 @@ pub struct Parts {
     pub waiting: u32,
     /// The peers that are called.
     pub peers: Peers,
+    /// Where peers come to; none where they come to the address where clients do.
+    pub door: Option<Text>,
 }
 
 /// What a server is set to.
@@ -68,6 +70,7 @@ pub struct Settings {
     connections: u32,
     waiting: u32,
     peers: Peers,
+    door: Option<Text>,
 }
 
 impl Model for Settings {
@@ -88,6 +91,7 @@ impl Model for Settings {
           connections = s.connections;
           waiting = s.waiting;
           peers = s.peers;
+          door = s.door;
         } };
 
     ghost invariant = { λ s. IsSettingsText s.url × IsSettingsText s.application };
@@ -128,6 +132,7 @@ impl Settings {
             connections: CONNECTIONS,
             waiting: WAITING,
             peers: Peers::new(alloc),
+            door: None,
         })
     }
 
@@ -163,6 +168,7 @@ impl Settings {
             connections: parts.connections,
             waiting: parts.waiting,
             peers: parts.peers,
+            door: parts.door,
         }
     }
 
@@ -246,6 +252,16 @@ impl Settings {
         ensures { result.now ≡ self.now.peers }
     {
         &self.peers
+    }
+
+    /// Where peers come to; none where they come to the address where clients do.
+    pub fn door(&self) -> Option<&str>
+        ensures { option_copied result ≡ self.now.door }
+    {
+        match &self.door {
+            None => None,
+            Some(address) => Some(address.as_str()),
+        }
     }
 }
 

@@ -16,6 +16,7 @@ use Rattle.ua_variant.specs.DataValue.{has}
 use Rattle.ua_services.specs.Browsing.{BrowseFields, IsShortReference}
 use Rattle.ua_services.specs.declared.browsing.BrowseDirection.{BrowseDirection}
 use Rattle.ua_services.specs.declared.browsing.ReferenceDescription.{ReferenceDescription}
+use Rattle.ua_session.specs.declared.identity.Access.{Access}
 use Rattle.ua_space.specs.declared.attributes.Answered.{Answered}
 use Rattle.ua_space.specs.declared.layout.Layout.{Layout}
 use Rattle.ua_space.specs.declared.node.Folder.{Folder}
@@ -154,12 +155,12 @@ commons_short node short = (
   (tt, (name_counted node short, ((tt, name_counted node short), tt))),
 )
 
-owns_short : (space : Layout) → IsShortLayout space → (node : Node)
-    → AllByRecursion IsShortEntry (own_attributes space node)
-owns_short space short Root = (tt, tt)
-owns_short space short Objects = (tt, tt)
-owns_short space short (OfFolder folder) = (tt, tt)
-owns_short space short NamespaceArray =
+owns_short : (space : Layout) → IsShortLayout space → (access : Access) → (node : Node)
+    → AllByRecursion IsShortEntry (own_attributes space access node)
+owns_short space short access Root = (tt, tt)
+owns_short space short access Objects = (tt, tt)
+owns_short space short access (OfFolder folder) = (tt, tt)
+owns_short space short access NamespaceArray =
     ((omega arith, array_short), (tt, (tt, (tt, (tt, (tt, tt))))))
   where
     array_short : All IsCounted (Some (codes "http://opcfoundation.org/UA/") ∷ Some space.namespace
@@ -167,24 +168,25 @@ owns_short space short NamespaceArray =
     array_short = All-cons IsCounted (Some (codes "http://opcfoundation.org/UA/"))
         (Some space.namespace ∷ []) (omega arith) (All-cons IsCounted
         (Some space.namespace) [] short.namespace (All-nil IsCounted))
-owns_short space short State = (tt, (tt, (tt, (tt, (tt, (tt, tt))))))
-owns_short space short (OfVariable variable) = (tt, (tt, (tt, (tt, (tt, (tt, tt))))))
-owns_short space short FolderType = tt
-owns_short space short BaseDataVariableType = tt
+owns_short space short access State = (tt, (tt, (tt, (tt, (tt, (tt, tt))))))
+owns_short space short access (OfVariable variable) = (tt, (tt, (tt, (tt, (tt, (tt, tt))))))
+owns_short space short access FolderType = tt
+owns_short space short access BaseDataVariableType = tt
 
 entry_short : (number : ℕ) (table : List (ℕ × Answered)) → AllByRecursion IsShortEntry table
     → IfSome (lookup (nat_eq number) table) IsShortAnswered
 entry_short number table all = All-lookup IsShortAnswered (nat_eq number) table
     (all_of IsShortEntry table all)
 
-pub attribute_short : (space : Layout) (node : Node) (number : ℕ) → IsShortLayout space
-    → IsShort node → IfOk (ok_or (lookup (nat_eq number) (attributes space node))
+pub attribute_short : (space : Layout) (access : Access) (node : Node) (number : ℕ)
+    → IsShortLayout space → IsShort node
+    → IfOk (ok_or (lookup (nat_eq number) (attributes space access node))
     BAD_ATTRIBUTE_ID_INVALID) IsShortAnswered
-attribute_short space node number short is =
-    by (lookup (nat_eq number) (attributes space node))
-    (entry_short number (attributes space node)
-    (all_append IsShortEntry (common_attributes node) (own_attributes space node)
-    (commons_short node is) (owns_short space short node)))
+attribute_short space access node number short is =
+    by (lookup (nat_eq number) (attributes space access node))
+    (entry_short number (attributes space access node)
+    (all_append IsShortEntry (common_attributes node) (own_attributes space access node)
+    (commons_short node is) (owns_short space short access node)))
   where
     by : (o : Option Answered) → IfSome o IsShortAnswered
         → IfOk (ok_or o BAD_ATTRIBUTE_ID_INVALID) IsShortAnswered

@@ -11,6 +11,7 @@ use crate::layout::Layout;
 use crate::node::Node;
 use std::alloc::{AllocError, Global};
 use ua_binary::{Listing, NodeId, Status, Text};
+use ua_session::Access;
 use ua_variant::{Array, Scalar, ValueType, Variant};
 
 /// What an attribute is answered (Part 4, 5.11.2).
@@ -48,6 +49,9 @@ const HISTORIZING: u32 = 20;
 /// The level of access of a variable whose value alone is read (Part 3, 8.57).
 const READ_ONLY: u8 = 0x01;
 
+/// The level of access of a variable whose history is read too.
+const READ_HISTORY: u8 = 0x05;
+
 /// The level of access of a variable whose history is read and written too.
 const READ_AND_HISTORY: u8 = 0x0D;
 
@@ -71,42 +75,51 @@ const STANDARD_NAMESPACE: &str = "http://opcfoundation.org/UA/";
 struct VariableClass {
     data_type: u32,
     is_array: bool,
-    access: u8,
+    /// What may be done with it, and what of that by this user.
+    level: u8,
+    user_level: u8,
     historizing: bool,
 }
 
 const NAMESPACE_ARRAY: VariableClass = VariableClass {
     data_type: STRING,
     is_array: true,
-    access: READ_ONLY,
+    level: READ_ONLY,
+    user_level: READ_ONLY,
     historizing: false,
 };
 
 const STATE: VariableClass = VariableClass {
     data_type: SERVER_STATE,
     is_array: false,
-    access: READ_ONLY,
+    level: READ_ONLY,
+    user_level: READ_ONLY,
     historizing: false,
 };
 
 impl VariableClass {
     ghost use Rattle.std.specs.Prelude.{true, ok_or};
-    ghost use Rattle.ua_space.specs.Attributes.{variable_attributes};
+    ghost use Rattle.ua_space.specs.Attributes.{variable_attributes, user_level};
 
-    /// A variable of the plan.
-    fn archived(value_type: ValueType) -> VariableClass
+    /// A variable of the plan, for a user who may do this.
+    fn archived(value_type: ValueType, access: Access) -> VariableClass
         ensures { result
             ≡ record {
               data_type = value_type.number;
               is_array = value_type.array;
-              access = 13;
+              level = 13;
+              user_level = user_level access;
               historizing = true;
             } }
     {
         VariableClass {
             data_type: u32::from(value_type.number),
             is_array: value_type.array,
-            access: READ_AND_HISTORY,
+            level: READ_AND_HISTORY,
+            user_level: match access {
+                Access::Read => READ_HISTORY,
+                Access::Write => READ_AND_HISTORY,
+            },
             historizing: true,
         }
     }
@@ -116,13 +129,14 @@ impl VariableClass {
         ensures { result
             ≡ ok_or
             (lookup (nat_eq attribute)
-            (variable_attributes self.data_type self.is_array self.access
+            (variable_attributes self.data_type self.is_array self.level self.user_level
             self.historizing)) Status.BAD_ATTRIBUTE_ID_INVALID }
     {
         let value = match attribute {
             DATA_TYPE => Scalar::NodeId(NodeId::Numeric(0, self.data_type)),
             VALUE_RANK => Scalar::Int32(if self.is_array { 1 } else { -1 }),
-            ACCESS_LEVEL | USER_ACCESS_LEVEL => Scalar::Byte(self.access),
+            ACCESS_LEVEL => Scalar::Byte(self.level),
+            USER_ACCESS_LEVEL => Scalar::Byte(self.user_level),
             HISTORIZING => Scalar::Boolean(self.historizing),
             _ => return Err(Status::BAD_ATTRIBUTE_ID_INVALID),
         };
@@ -147,24 +161,26 @@ impl Layout {
     ghost use Rattle.ua_space.specs.Attributes.{attributes, own_attributes};
     ghost use Rattle.ua_binary.specs.Format.{IsOrStarved};
 
-    /// An attribute of a node. `BAD_ATTRIBUTE_ID_INVALID` where the node has none of this number.
+    /// An attribute of a node, for a user who may do this. `BAD_ATTRIBUTE_ID_INVALID` where the node has none of this number.
     pub fn attribute(
         &self,
         alloc: Global,
+        access: Access,
         node: Node<'_>,
         attribute: u32,
     ) -> Result<Answered, Status>
         ensures { IsOrStarved Status.BAD_OUT_OF_MEMORY
             (ok_or
             (lookup (nat_eq attribute)
-            (attributes self.now (node_of node.entry))) Status.BAD_ATTRIBUTE_ID_INVALID) result }
+            (attributes self.now access
+            (node_of node.entry))) Status.BAD_ATTRIBUTE_ID_INVALID) result }
     {
         let value = match attribute {
             NODE_ID => Scalar::NodeId(node.id().to_owned(alloc)?),
             NODE_CLASS => Scalar::Int32(i32::from(node.class().number())),
             BROWSE_NAME => Scalar::QualifiedName(node.browse_name().to_owned(alloc)?),
             DISPLAY_NAME => Scalar::LocalizedText(node.display_name().to_owned(alloc)?),
-            _ => return self.own_attribute(alloc, node, attribute),
+            _ => return self.own_attribute(alloc, access, node, attribute),
         };
         Ok(Answered::one(value))
     }
@@ -173,13 +189,14 @@ impl Layout {
     fn own_attribute(
         &self,
         alloc: Global,
+        access: Access,
         node: Node<'_>,
         attribute: u32,
     ) -> Result<Answered, Status>
         ensures { IsOrStarved Status.BAD_OUT_OF_MEMORY
             (ok_or
             (lookup (nat_eq attribute)
-            (own_attributes self.now
+            (own_attributes self.now access
             (node_of node.entry))) Status.BAD_ATTRIBUTE_ID_INVALID) result }
     {
         match node {
@@ -189,9 +206,9 @@ impl Layout {
             Node::State if attribute == VALUE => Ok(Answered::one(Scalar::Int32(RUNNING))),
             Node::State => STATE.attribute(attribute),
             Node::Variable(_) if attribute == VALUE => Ok(Answered::Archived),
-            Node::Variable(variable) => VariableClass::archived(variable.value_type).attribute(
-                attribute,
-            ),
+            Node::Variable(variable) => {
+                VariableClass::archived(variable.value_type, access).attribute(attribute)
+            }
             Node::FolderType | Node::BaseDataVariableType => {
                 Err(Status::BAD_ATTRIBUTE_ID_INVALID)
             }

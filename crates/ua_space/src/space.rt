@@ -9,6 +9,7 @@ ghost use Rattle.ua_space.specs.Attributes.{attribute_at, IsShortAnswered};
 ghost use Rattle.ua_services.specs.Browsing.{browse_fields, IsShortReference};
 ghost use Rattle.ua_space.specs.References.{browse_at};
 ghost use Rattle.ua_binary.specs.Format.{IsOrStarved};
+ghost use Rattle.ua_session.specs.declared.identity.Access.TheVariants.{Write};
 
 use crate::asked_types::is_reference_type;
 use crate::attributes::Answered;
@@ -23,6 +24,7 @@ use std::alloc::{AllocError, Global};
 use std::marker::Model;
 use ua_binary::{Listing, NodeIdRef, Status, Text};
 use ua_services::{BrowseDescription, ReferenceDescription};
+use ua_session::Access;
 use ua_variant::ValueType;
 
 /// The address space of the historian (Part 3): Root, Objects, the folders and variables of a plan, and the
@@ -113,15 +115,31 @@ impl Space {
     /// An attribute of a node (Part 4, 5.11.2) by its number (Part 6, A.1): its value, or that the archive
     /// gives it. `BAD_NODE_ID_UNKNOWN` where the id is of no node; then `BAD_ATTRIBUTE_ID_INVALID` where the node
     /// has no such attribute; last `BAD_OUT_OF_MEMORY`. A value can be written.
+    ///
+    /// UserAccessLevel is that of a user who may update histories.
     pub fn read_attribute(&self, node: NodeIdRef<'_>, attribute: u32) -> Result<Answered, Status>
         ensures told { IsOrStarved Status.BAD_OUT_OF_MEMORY
-            (attribute_at self.now (id_of_lent node.entry) attribute) result }
+            (attribute_at self.now Write (id_of_lent node.entry) attribute) result }
+        ensures short { IfOk result IsShortAnswered }
+    {
+        self.read_attribute_for(Access::Write, node, attribute)
+    }
+
+    /// An attribute of a node as `read_attribute` gives it, for a user who may do this.
+    pub fn read_attribute_for(
+        &self,
+        access: Access,
+        node: NodeIdRef<'_>,
+        attribute: u32,
+    ) -> Result<Answered, Status>
+        ensures told { IsOrStarved Status.BAD_OUT_OF_MEMORY
+            (attribute_at self.now access (id_of_lent node.entry) attribute) result }
         ensures short { IfOk result IsShortAnswered }
     {
         let Some(node) = self.layout.find(&self.places, node) else {
             return Err(Status::BAD_NODE_ID_UNKNOWN);
         };
-        self.layout.attribute(self.alloc, node, attribute)
+        self.layout.attribute(self.alloc, access, node, attribute)
     }
 
     /// The references of a node (Part 4, 5.9.2) that the description asks for: first those to what hangs below

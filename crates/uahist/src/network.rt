@@ -1,19 +1,20 @@
 //! Connections over TCP whose reads and writes don't wait.
 
+use crate::ends::{Incoming, Outgoing};
+use crate::waiting::{FIRST_WAITING, WaitingRoom};
 use mio::net::{TcpListener, TcpStream};
 use mio::{Events, Interest, Poll, Token};
-use multiplex::{
-    Arrival, Call, NonBlockingRead, NonBlockingWrite, ReadAttempt, Source, WriteAttempt,
-};
+use multiplex::{Arrival, Call, Source};
 use std::io;
-use std::io::{ErrorKind, Read, Write};
+use std::io::ErrorKind;
 use std::net::SocketAddr;
 use std::rc::Rc;
 use std::time::{Duration, Instant};
-use ua_settings::Peers;
+use ua_server::{Callee, Door, Listening};
 
-/// The token of the listener; the others are numbers of slots.
-const LISTENER: Token = Token(usize::MAX);
+/// The tokens of the listeners are from here on, that of the first one first. Smaller ones are of those who wait for a place, and
+/// the smallest are numbers of slots.
+const LISTENERS: usize = usize::MAX - 1;
 
 /// How many milliseconds are waited at most: so often it is looked who was silent for too long.
 const TICK: u64 = 500;
@@ -21,129 +22,181 @@ const TICK: u64 = 500;
 /// How many events one wait takes.
 const EVENTS: usize = 256;
 
-/// What the other end of a connection writes, or nobody, where a call couldn't even begin. Nothing is known of it.
+/// How many are let into the waiting room behind one wait.
+const MOST_AT_ONCE: usize = 64;
+
+/// A peer that is called, and when.
 #[derive(Drop)]
-pub(crate) struct Incoming(Option<Rc<TcpStream>>);
-
-impl NonBlockingRead for Incoming {
-    ghost use Rattle.std.specs.Prelude.{None};
-
-    ghost input = { record {
-      unread = λ reader. None;
-      is_empty = λ reader. Unit {0};
-      has_failed = λ reader. Unit {0};
-    } };
-
-    /// A read that was interrupted is tried again.
-    fn try_read(&mut self, piece: &mut [u8]) -> ReadAttempt {
-        let Some(shared) = &self.0 else {
-            return ReadAttempt::Failed;
-        };
-        for _ in 0..u64::MAX {
-            let mut stream: &TcpStream = shared;
-            match stream.read(piece) {
-                Ok(0) => return ReadAttempt::EndOfInput,
-                Ok(n) => return ReadAttempt::Read(n),
-                Err(error) if error.kind() == ErrorKind::WouldBlock => {
-                    return ReadAttempt::WouldBlock;
-                }
-                Err(error) if error.kind() == ErrorKind::Interrupted => {}
-                Err(_) => return ReadAttempt::Failed,
-            }
-        }
-        ReadAttempt::Failed
-    }
-}
-
-/// What the other end of a connection reads, or nobody, where a call couldn't even begin. Nothing is known of it.
-#[derive(Drop)]
-pub(crate) struct Outgoing(Option<Rc<TcpStream>>);
-
-impl NonBlockingWrite for Outgoing {
-    ghost use Rattle.std.specs.Prelude.{None};
-
-    ghost output = { record {
-      written = λ writer. None;
-      is_full = λ writer. Unit {0};
-      has_failed = λ writer. Unit {0};
-    } };
-
-    /// A write that was interrupted is tried again; one that takes nothing has failed.
-    fn try_write(&mut self, bytes: &[u8]) -> WriteAttempt {
-        let Some(shared) = &self.0 else {
-            return WriteAttempt::Failed;
-        };
-        for _ in 0..u64::MAX {
-            let mut stream: &TcpStream = shared;
-            match stream.write(bytes) {
-                Ok(0) => return WriteAttempt::Failed,
-                Ok(n) => return WriteAttempt::Written(n),
-                Err(error) if error.kind() == ErrorKind::WouldBlock => {
-                    return WriteAttempt::WouldBlock;
-                }
-                Err(error) if error.kind() == ErrorKind::Interrupted => {}
-                Err(_) => return WriteAttempt::Failed,
-            }
-        }
-        WriteAttempt::Failed
-    }
-}
-
-/// A peer that is called when it is due.
-#[derive(Drop)]
-struct Callee {
-    address: SocketAddr,
-    /// How many milliseconds lie between the beginnings of two calls.
-    every: u64,
+struct DueCallee {
+    callee: Callee,
     /// When it is due next.
     due: u64,
     /// The slot of its call, while one lasts.
     slot: Option<usize>,
 }
 
-/// The connections that come to an address over TCP, and calls of peers.
+/// A listener at an address, for those whom its door takes.
+#[derive(Drop)]
+struct Doorway {
+    listener: TcpListener,
+    door: Door,
+    /// Whether somebody may wait there.
+    is_coming: bool,
+}
+
+/// The connections that come to addresses over TCP, and calls of peers.
 #[derive(Drop)]
 pub(crate) struct TcpSource<'a> {
     rt: &'a HostRuntime,
     poll: Poll,
     events: Events,
-    listener: TcpListener,
-    /// Whether somebody may wait at the listener.
-    is_coming: bool,
+    doorways: Vec<Doorway>,
+    /// The doorway where it is asked next, so that none is asked first each time.
+    next_doorway: usize,
     /// Whether somebody came since the last wait.
     has_come: bool,
-    callees: Vec<Callee>,
+    /// Whether it was asked since the last wait who comes; where it isn't, no place is free.
+    was_asked: bool,
+    /// Who came while no place was free.
+    room: WaitingRoom,
+    callees: Vec<DueCallee>,
     /// Of each slot, whether the last wait found that its connection may be ready.
     ready: Vec<bool>,
     start: Instant,
 }
 
 impl<'a> TcpSource<'a> {
-    /// A listener at an address, which calls these peers, each at once and then when it is due.
-    pub fn listen(rt: &'a HostRuntime, address: SocketAddr, peers: &Peers) -> io::Result<Self> {
-        let callees = callees_of(rt, peers)?;
-        let poll = Poll::new(rt)?;
-        let mut listener = TcpListener::bind(rt, address)?;
-        poll.registry()
-            .register(&mut listener, LISTENER, Interest::READABLE)?;
+    /// Listeners at these addresses, and calls of these peers, each at once and then when it is due; or the door whose address
+    /// can't be listened at.
+    pub fn listen(rt: &'a HostRuntime, listening: &Listening) -> Result<Self, Door> {
+        let door = if listening.peers.is_some() {
+            Door::Clients
+        } else {
+            Door::Both
+        };
+        let mut source = match TcpSource::calling(rt, &listening.callees) {
+            Ok(source) => source,
+            Err(_) => return Err(door),
+        };
+        match source.open(listening.clients, door) {
+            Ok(()) => {}
+            Err(_) => return Err(door),
+        }
+        let Some(address) = listening.peers else {
+            return Ok(source);
+        };
+        match source.open(address, Door::Peers) {
+            Ok(()) => Ok(source),
+            Err(_) => Err(Door::Peers),
+        }
+    }
+
+    /// One that listens nowhere yet, and calls these peers.
+    fn calling(rt: &'a HostRuntime, callees: &[Callee]) -> io::Result<Self> {
         Ok(TcpSource {
             rt,
-            poll,
+            poll: Poll::new(rt)?,
             events: Events::with_capacity(rt.alloc(), EVENTS)?,
-            listener,
-            is_coming: true,
+            doorways: Vec::new(rt.alloc()),
+            next_doorway: 0,
             has_come: false,
-            callees,
+            was_asked: true,
+            room: WaitingRoom::new(rt.alloc()),
+            callees: due_at_once(rt, callees)?,
             ready: Vec::new(rt.alloc()),
             start: Instant::now(rt)?,
         })
     }
 
-    /// The next connection, for this slot.
-    fn next(&mut self, slot: usize) -> io::Result<(Incoming, Outgoing)> {
-        let (stream, _) = self.listener.accept()?;
-        stream.set_nodelay(true)?;
-        self.watch(slot, stream)
+    /// Listens at one more address.
+    fn open(&mut self, address: SocketAddr, door: Door) -> io::Result<()> {
+        let mut listener = TcpListener::bind(self.rt, address)?;
+        let token = Token(LISTENERS.saturating_add(self.doorways.len()));
+        self.poll
+            .registry()
+            .register(&mut listener, token, Interest::READABLE)?;
+        self.doorways.push(Doorway {
+            listener,
+            door,
+            is_coming: true,
+        })?;
+        Ok(())
+    }
+
+    /// The next connection at the doorways, each of which is asked first in its turn, and whom its doorway takes; none where
+    /// nobody comes.
+    fn next(&mut self) -> io::Result<Option<(TcpStream, Door)>> {
+        for _ in 0..self.doorways.len() {
+            let Some(doorway) = self.next_coming() else {
+                return Ok(None);
+            };
+            match doorway.listener.accept() {
+                Ok((stream, _)) => {
+                    let door = doorway.door;
+                    stream.set_nodelay(true)?;
+                    return Ok(Some((stream, door)));
+                }
+                Err(error) if error.kind() == ErrorKind::WouldBlock => doorway.is_coming = false,
+                Err(error) => return Err(error),
+            }
+        }
+        Ok(None)
+    }
+
+    /// The next doorway where somebody may come. The one behind it is asked first the next time.
+    fn next_coming(&mut self) -> Option<&mut Doorway> {
+        let count = self.doorways.len();
+        for _ in 0..count {
+            let place = self.next_doorway;
+            self.next_doorway = if place.saturating_add(1) < count {
+                place.saturating_add(1)
+            } else {
+                0
+            };
+            if self
+                .doorways
+                .get(place)
+                .is_some_and(|doorway| doorway.is_coming)
+            {
+                return self.doorways.get_mut(place);
+            }
+        }
+        None
+    }
+
+    /// Lets who came into the waiting room, as far as there is room.
+    fn fill_room(&mut self, now: u64) {
+        self.room.end_silent(now);
+        for _ in 0..MOST_AT_ONCE {
+            let is_coming = self.doorways.iter().any(|doorway| doorway.is_coming);
+            if !is_coming || !self.room.makes_room(now) {
+                return;
+            }
+            let Ok(Some((stream, door))) = self.next() else {
+                return;
+            };
+            if self
+                .room
+                .take(self.poll.registry(), stream, door, now)
+                .is_err()
+            {
+                return;
+            }
+        }
+    }
+
+    /// The next connection, for this slot, and whom its doorway takes: first who waited.
+    fn next_for(&mut self, slot: usize) -> io::Result<Option<(Incoming, Outgoing, Door)>> {
+        if let Some((mut stream, door)) = self.room.next() {
+            self.poll.registry().deregister(&mut stream)?;
+            let (reader, writer) = self.watch(slot, stream)?;
+            return Ok(Some((reader, writer, door)));
+        }
+        let Some((stream, door)) = self.next()? else {
+            return Ok(None);
+        };
+        let (reader, writer) = self.watch(slot, stream)?;
+        Ok(Some((reader, writer, door)))
     }
 
     /// A connection with a peer, for this slot. It needn't stand yet.
@@ -171,8 +224,8 @@ impl<'a> TcpSource<'a> {
         for (number, callee) in self.callees.iter_mut().enumerate() {
             if callee.slot.is_none() && callee.due <= now {
                 callee.slot = Some(slot);
-                callee.due = now.saturating_add(callee.every);
-                return Some((number, callee.address));
+                callee.due = now.saturating_add(u64::from(callee.callee.every) * 1_000);
+                return Some((number, callee.callee.address));
             }
         }
         None
@@ -181,31 +234,31 @@ impl<'a> TcpSource<'a> {
     /// Notes what the last wait found.
     fn note_events(&mut self) {
         for event in &self.events {
-            let token = event.token();
-            if token == LISTENER {
-                self.is_coming = true;
-            } else if let Some(ready) = self.ready.get_mut(token.0) {
+            let token = event.token().0;
+            if token >= LISTENERS {
+                if let Some(doorway) = self.doorways.get_mut(token - LISTENERS) {
+                    doorway.is_coming = true;
+                }
+            } else if token >= FIRST_WAITING {
+                self.room.note(token);
+            } else if let Some(ready) = self.ready.get_mut(token) {
                 *ready = true;
             }
         }
     }
 }
 
-/// The peers to be called, none of which is being called yet. One whose address is none is an error.
-fn callees_of(rt: &HostRuntime, peers: &Peers) -> io::Result<Vec<Callee>> {
-    let mut callees = Vec::new(rt.alloc());
-    for peer in peers.as_slice() {
-        let Ok(address) = peer.address.as_str().parse::<SocketAddr>() else {
-            return Err(io::Error::from(ErrorKind::InvalidInput));
-        };
-        callees.push(Callee {
-            address,
-            every: u64::from(peer.every) * 1_000,
+/// The peers to be called, each of them at once.
+fn due_at_once(rt: &HostRuntime, callees: &[Callee]) -> io::Result<Vec<DueCallee>> {
+    let mut due = Vec::new(rt.alloc());
+    for callee in callees {
+        due.push(DueCallee {
+            callee: *callee,
             due: 0,
             slot: None,
         })?;
     }
-    Ok(callees)
+    Ok(due)
 }
 
 impl Source for TcpSource<'_> {
@@ -231,7 +284,12 @@ impl Source for TcpSource<'_> {
         if self.poll.poll(&mut self.events, Some(patience)).is_ok() {
             self.note_events();
         }
-        self.clock()
+        let now = self.clock();
+        if !self.was_asked {
+            self.fill_room(now);
+        }
+        self.was_asked = false;
+        now
     }
 
     fn clock(&self) -> u64 {
@@ -243,22 +301,17 @@ impl Source for TcpSource<'_> {
 
     /// A connection that can't be had is tried again behind the next wait.
     fn accept(&mut self, slot: usize) -> Arrival<Incoming, Outgoing> {
-        if !self.is_coming {
-            return Arrival::Nobody;
-        }
-        match self.next(slot) {
-            Ok((reader, writer)) => {
+        self.was_asked = true;
+        match self.next_for(slot) {
+            Ok(Some((reader, writer, door))) => {
                 self.has_come = true;
                 Arrival::Connection {
-                    listener: 0,
+                    listener: door.listener(),
                     reader,
                     writer,
                 }
             }
-            Err(error) if error.kind() == ErrorKind::WouldBlock => {
-                self.is_coming = false;
-                Arrival::Nobody
-            }
+            Ok(None) => Arrival::Nobody,
             Err(_) => Arrival::Failed,
         }
     }
@@ -281,8 +334,9 @@ impl Source for TcpSource<'_> {
         self.ready.get(slot).copied().unwrap_or(false)
     }
 
+    /// Somebody waits for a place, and sent something: who is silent needs none yet.
     fn is_coming(&self) -> bool {
-        self.is_coming
+        self.room.has_heard()
     }
 
     /// The system forgets a connection of which nobody holds anything.

@@ -3,7 +3,7 @@
 use std::alloc::Global;
 use std::test::Fail;
 use ua_binary::{NodeId, NodeIdRef};
-use ua_session::{Identity, SessionFault, Sessions, Users};
+use ua_session::{Access, Identity, SessionFault, Sessions, Users};
 
 /// One call, and what it answers.
 enum Call {
@@ -179,6 +179,40 @@ fn identities(rt: HostRuntime) -> Result<(), Fail> {
             is_answered(&mut sessions, &users, call),
             "unnamed, call {i}"
         );
+    }
+    Ok(())
+}
+
+/// Users who may write, and between them one who may read, and whose name comes twice.
+fn writers_and_a_reader(alloc: Global) -> Result<Users, SessionFault> {
+    let mut users = Users::new(alloc, true);
+    users.add("ann", b"pw")?;
+    users.add_with("ben", b"first", Access::Read)?;
+    users.add_with("ben", b"second", Access::Write)?;
+    users.add_with("cid", b"", Access::Write)?;
+    Ok(users)
+}
+
+/// A name, and what the user of that name may do: one whom nobody knows may read.
+static ACCESSES: [(&str, Access); 6] = [
+    ("ann", Access::Write),
+    ("ben", Access::Read),
+    ("cid", Access::Write),
+    ("dan", Access::Read),
+    ("an", Access::Read),
+    ("", Access::Read),
+];
+
+#[test]
+fn accesses(rt: HostRuntime) -> Result<(), Fail> {
+    let mut users = writers_and_a_reader(rt.alloc()).ok().ok_or("memory")?;
+    assert_eq!(rt; users.access_of("anonymous"), Access::Write);
+    for anonymous in [Access::Write, Access::Read] {
+        users.set_anonymous_access(anonymous);
+        assert_eq!(rt; users.access_of("anonymous"), anonymous);
+    }
+    for (name, access) in &ACCESSES {
+        assert_eq!(rt; users.access_of(name), *access, "{name}");
     }
     Ok(())
 }

@@ -1,6 +1,7 @@
 use std::alloc::Global;
 use std::test::Fail;
 use ua_binary::NodeIdRef;
+use ua_session::Access;
 use ua_settings::{Place, Settings, SettingsFault};
 use ua_space::BuildFault;
 
@@ -41,7 +42,7 @@ const HEAD: &str =
     "[archive]\nid = '00000000000000000000000000000000'\nreplica = 1\n[server]\nlisten = ''\nurl = ''\napplication = ''\n";
 
 /// What goes on behind the start, and why it is refused, if it is.
-static ROWS: [(&str, Option<SettingsFault>); 30] = [
+static ROWS: [(&str, Option<SettingsFault>); 38] = [
     ("namespace = ''\nanonymous = true", None),
     ("namespace = ''\nanonymous =", Some(SettingsFault::NotToml)),
     (
@@ -147,6 +148,38 @@ static ROWS: [(&str, Option<SettingsFault>); 30] = [
         "user = [1]\nnamespace = ''\nanonymous = true",
         Some(SettingsFault::UnknownKey),
     ),
+    (
+        "namespace = ''\nanonymous = true\nanonymous_access = 'Read'",
+        Some(SettingsFault::BadValue),
+    ),
+    (
+        "namespace = ''\nanonymous = true\nanonymous_access = true",
+        Some(SettingsFault::BadValue),
+    ),
+    (
+        "namespace = ''\nanonymous = true\n[[user]]\nname = 'ann'\npassword = ''\naccess = ''",
+        Some(SettingsFault::BadValue),
+    ),
+    (
+        "namespace = ''\nanonymous = true\n[[user]]\nname = 'ann'\npassword = ''\naccess = 1",
+        Some(SettingsFault::BadValue),
+    ),
+    (
+        "namespace = ''\nanonymous = true\n[door]",
+        Some(SettingsFault::MissingKey),
+    ),
+    (
+        "namespace = ''\nanonymous = true\n[door]\nlisten = 1",
+        Some(SettingsFault::BadValue),
+    ),
+    (
+        "namespace = ''\nanonymous = true\n[door]\nlisten = ''\nurl = ''",
+        Some(SettingsFault::UnknownKey),
+    ),
+    (
+        "namespace = ''\nanonymous = true\n[[door]]\nlisten = ''",
+        Some(SettingsFault::BadValue),
+    ),
 ];
 
 /// Why a text is refused.
@@ -174,6 +207,7 @@ fn is_sample(settings: &Settings) -> bool {
         && settings.listen() == "127.0.0.1:4840"
         && settings.url() == "opc.tcp://localhost:4840"
         && settings.application() == "urn:uahist"
+        && settings.door().is_none()
         && !settings.users().allows_anonymous()
         && settings.users().has_named()
 }
@@ -184,6 +218,83 @@ fn sample_is_read(rt: HostRuntime) -> Result<(), Fail> {
     assert!(rt; is_sample(&settings));
     let found = settings.space().variable(NodeIdRef::Named(1, "T"));
     assert_eq!(rt; found.map(|variable| variable.value_type.number), Some(11));
+    Ok(())
+}
+
+/// What goes on behind the start, a name, and what the user of that name may do.
+static ACCESSES: [(&str, &str, Access); 7] = [
+    (
+        "namespace = ''\nanonymous = true",
+        "anonymous",
+        Access::Write,
+    ),
+    (
+        "namespace = ''\nanonymous = true\nanonymous_access = 'write'",
+        "anonymous",
+        Access::Write,
+    ),
+    (
+        "namespace = ''\nanonymous = true\nanonymous_access = 'read'",
+        "anonymous",
+        Access::Read,
+    ),
+    (
+        "namespace = ''\nanonymous = true\nanonymous_access = 'read'\n[[user]]\nname = 'ann'\npassword = ''",
+        "ann",
+        Access::Write,
+    ),
+    (
+        "namespace = ''\nanonymous = true\n[[user]]\nname = 'ann'\npassword = ''\naccess = 'write'",
+        "ann",
+        Access::Write,
+    ),
+    (
+        "namespace = ''\nanonymous = true\n[[user]]\nname = 'ann'\npassword = ''\naccess = 'read'",
+        "ann",
+        Access::Read,
+    ),
+    (
+        "namespace = ''\nanonymous = true\n[[user]]\nname = 'ann'\npassword = ''\naccess = 'read'",
+        "anonymous",
+        Access::Write,
+    ),
+];
+
+/// What the user of a name may do by a text; none where the text is refused.
+fn access_in(alloc: Global, text: &str, name: &str) -> Option<Access> {
+    match Settings::read(alloc, text) {
+        Ok(settings) => Some(settings.users().access_of(name)),
+        Err(_) => None,
+    }
+}
+
+#[test]
+fn accesses_are_read(rt: HostRuntime) -> Result<(), Fail> {
+    for (rest, name, access) in &ACCESSES {
+        let text = format!(in rt.alloc(); "{HEAD}{rest}\n")?;
+        let read = access_in(rt.alloc(), text.as_str(), name);
+        assert_eq!(rt; read, Some(*access), "{rest}");
+    }
+    Ok(())
+}
+
+/// Whether a text's door is at this address.
+fn has_door(alloc: Global, text: &str, address: &str) -> bool {
+    match Settings::read(alloc, text) {
+        Ok(settings) => settings.door() == Some(address),
+        Err(_) => false,
+    }
+}
+
+/// The door's text is kept as it is, whatever it spells.
+#[test]
+fn doors_are_read(rt: HostRuntime) -> Result<(), Fail> {
+    for address in ["127.0.0.1:4841", "[::1]:4841", "peers", ""] {
+        let text = format!(in rt.alloc();
+            "{HEAD}namespace = ''\nanonymous = true\n[door]\nlisten = '{address}'\n"
+        )?;
+        assert!(rt; has_door(rt.alloc(), text.as_str(), address), "{address}");
+    }
     Ok(())
 }
 
@@ -205,7 +316,7 @@ fn faults_have_numbers(rt: HostRuntime) {
 }
 
 /// What goes on behind the start, and the place where it is refused.
-static PLACES: [(&str, &str); 11] = [
+static PLACES: [(&str, &str); 17] = [
     ("namespace =", "line 8"),
     ("namespace = ''\nanonymous = 1", "[server] anonymous"),
     (
@@ -240,6 +351,27 @@ static PLACES: [(&str, &str); 11] = [
     (
         "namespace = ''\nanonymous = true\n[[folder]]\nid = 'T'\nname = ''\n\"a\\tb\" = 1",
         "[[folder]] 1, a?b",
+    ),
+    (
+        "namespace = ''\nanonymous = true\nanonymous_access = 'none'",
+        "[server] anonymous_access",
+    ),
+    (
+        "namespace = ''\nanonymous = true\n[[user]]\nname = 'ann'\npassword = ''\naccess = 'all'",
+        "[[user]] 1, access",
+    ),
+    (
+        "namespace = ''\nanonymous = true\n[[user]]\nname = 'ann'\npassword = ''\naccess = 'read'\n[[user]]\nname = 'ben'\npassword = ''\naccess = 1",
+        "[[user]] 2, access",
+    ),
+    ("namespace = ''\nanonymous = true\n[door]", "[door] listen"),
+    (
+        "namespace = ''\nanonymous = true\n[door]\nlisten = ''\nurl = ''",
+        "[door] url",
+    ),
+    (
+        "namespace = ''\nanonymous = true\n[[door]]\nlisten = ''",
+        "door",
     ),
 ];
 

@@ -4,6 +4,7 @@ use std::alloc::Global;
 use std::test::Fail;
 use ua_binary::{NodeIdRef, Status};
 use ua_services::{BrowseDescription, BrowseDirection};
+use ua_session::Access;
 use ua_space::{Answered, BuildFault, Plan, Space, VariablePlan};
 use ua_variant::{Scalar, Variant};
 
@@ -72,5 +73,37 @@ fn is_writable(space: &Space) -> bool {
 fn attributes_are_told(rt: HostRuntime) -> Result<(), Fail> {
     let space = space_of_one(rt.alloc())?;
     assert!(rt; is_writable(&space));
+    Ok(())
+}
+
+/// The variable of the space, and the state of the server.
+const VALUE: NodeIdRef<'static> = NodeIdRef::Named(1, "T");
+
+const STATE: NodeIdRef<'static> = NodeIdRef::Numeric(0, 2259);
+
+/// What a user may do, a node, and the bytes of its attributes 17 and 18.
+static LEVELS: [(Access, NodeIdRef<'static>, u8, u8); 4] = [
+    (Access::Read, VALUE, 13, 5),
+    (Access::Write, VALUE, 13, 13),
+    (Access::Read, STATE, 1, 1),
+    (Access::Write, STATE, 1, 1),
+];
+
+/// Whether an attribute of a node is this byte, for a user who may do this.
+fn is_level(space: &Space, access: Access, node: NodeIdRef<'_>, attribute: u32, level: u8) -> bool {
+    let told = space.read_attribute_for(access, node, attribute);
+    told == Ok(Answered::Value(Variant::Scalar(Scalar::Byte(level))))
+}
+
+#[test]
+fn levels_are_told_to_each_user(rt: HostRuntime) -> Result<(), Fail> {
+    let space = space_of_one(rt.alloc())?;
+    for (access, node, level, user_level) in &LEVELS {
+        assert!(rt;
+            is_level(&space, *access, *node, 17, *level)
+                && is_level(&space, *access, *node, 18, *user_level),
+            "{access:?}, {node:?}"
+        );
+    }
     Ok(())
 }

@@ -13,6 +13,7 @@ use Rattle.ua_services.specs.declared.attributes.ReadValueId.{ReadValueId}
 use Rattle.ua_services.specs.Attributes.{read_fields}
 use Rattle.archive.specs.Steps.{Refines, each}
 use Rattle.historian.specs.Reading.{read_item}
+use Rattle.historian.specs.UserSpaces.{seen_by}
 use Rattle.historian.proofs.Items.{each-next, acts-none}
 use Rattle.historian.proofs.reading.put_items.Goals as goal
 
@@ -52,7 +53,7 @@ still_starved (Err fault) one now new bytes before puts = before
 pub loop-item-init : goal.loop-item-init
 loop-item-init g c =
     let a = g.A.Archive.state c.args.archive.now in
-    let none = acts-none a (each (read_item c.args.space.now c.args.now c.args.stamps) []) []
+    let none = acts-none a (each (read_item (seen_by c.args.space.now c.args.terms.access) c.args.terms.now c.args.terms.stamps) []) []
     (λ R marks. refl) in
     record {
       told = (none.0, [], refl, none.1, (sym (append-nil c.args.out.now.items), tt));
@@ -68,7 +69,7 @@ loop-item-preserved g c =
     let (mark, value, act, puts, spelled) = c.put_item-one.ensures in
     let more = values ++ (value ∷ []) in
     let all = each-next a b e read_fields
-    (read_item c.args.space.now c.args.now c.args.stamps) c.args.items.now
+    (read_item (seen_by c.args.space.now c.args.terms.access) c.args.terms.now c.args.terms.stamps) c.args.items.now
     c.loop-item.item-index _ _ values more value (used, acts)
     (mark ∷ [], act) c.loop-item-test.true refl refl in
     let both : Put → Type 0 = λ put.
@@ -103,7 +104,7 @@ returns-clause-told g c =
       values,
       count ∙ whole,
       subst (λ (items : List ReadValueId).
-          Refines a b used (each (read_item c.args.space.now c.args.now c.args.stamps)
+          Refines a b used (each (read_item (seen_by c.args.space.now c.args.terms.access) c.args.terms.now c.args.terms.stamps)
           (map read_fields items)) values) all acts,
       shown,
     )

@@ -22,13 +22,14 @@ use Rattle.archive.specs.Steps.{Refines}
 use Rattle.historian.specs.Answers.{Response, Values, head, response}
 use Rattle.hist_update.specs.Codes.{list_refusal}
 use Rattle.historian.specs.Reading.{unless_refused, answer_items, read_item, read}
+use Rattle.historian.specs.UserSpaces.{UserSpace, seen_by}
 use Rattle.historian.proofs.ReadingParts.{read_by}
 use Rattle.historian.specs.Telling.{Written}
 use Rattle.historian.proofs.Items.{comes-refused, acts-wanting, acts-items, few_taken}
 use Rattle.historian.proofs.reading.put_read.Goals as goal
 
 -- a Read that isn't refused asks for items
-asked_items : (space : Layout) (now : Ticks) (timestamps : Option TimestampsToReturn)
+asked_items : (space : UserSpace) (now : Ticks) (timestamps : Option TimestampsToReturn)
     (stamps : TimestampsToReturn) (nodes : List ReadFields)
     → list_refusal 1000 (length nodes) ≡ None → timestamps ≡ Some stamps
     → (R : Content) (marks : List StepResult)
@@ -92,10 +93,10 @@ returns-in-Some-clause-comes g c =
     let refused : list_refusal 1000 (length nodes) ≡ Some c.in-Some.status =
     ap (list_refusal 1000) (length-map c.args.nodes.now read_fields)
     ∙ sym c.list_refusal.ensures ∙ c.in-Some.is in
-    let comes = comes-refused s (read c.args.server.now.settings.space c.args.now
+    let comes = comes-refused s (read (seen_by c.args.server.now.settings.space c.args.access) c.args.now
     (c.args.timestamps, nodes)) c.in-Some.status (Err c.in-Some.status)
     (λ R marks. ap (λ (o : Option Status).
-    unless_refused o R (read_by c.args.server.now.settings.space c.args.now c.args.timestamps
+    unless_refused o R (read_by (seen_by c.args.server.now.settings.space c.args.access) c.args.now c.args.timestamps
     nodes R) marks) refused) refl in
     (comes.0, comes.1, comes.2, comes.3)
 
@@ -106,14 +107,14 @@ returns-in_default-timestamps-clause-comes g c =
     let taken : list_refusal 1000 (length nodes) ≡ None =
     ap (list_refusal 1000) (length-map c.args.nodes.now read_fields)
     ∙ sym c.list_refusal.ensures ∙ c.in_default.is in
-    let comes = comes-refused s (read c.args.server.now.settings.space c.args.now
+    let comes = comes-refused s (read (seen_by c.args.server.now.settings.space c.args.access) c.args.now
     (c.args.timestamps, nodes)) BAD_TIMESTAMPS_TO_RETURN_INVALID
     (Err BAD_TIMESTAMPS_TO_RETURN_INVALID)
     (λ R marks.
     ap (λ (o : Option Status). unless_refused o R
-    (read_by c.args.server.now.settings.space c.args.now c.args.timestamps nodes R) marks) taken
+    (read_by (seen_by c.args.server.now.settings.space c.args.access) c.args.now c.args.timestamps nodes R) marks) taken
     ∙ ap (λ (o : Option TimestampsToReturn).
-    read_by c.args.server.now.settings.space c.args.now o nodes R marks) c.in_default-timestamps.is)
+    read_by (seen_by c.args.server.now.settings.space c.args.access) c.args.now o nodes R marks) c.in_default-timestamps.is)
     refl in
     (comes.0, comes.1, comes.2, comes.3)
 
@@ -125,10 +126,10 @@ returns-in_err-put_head-clause-comes g c =
     let taken : list_refusal 1000 (length nodes) ≡ None =
     ap (list_refusal 1000) (length-map c.args.nodes.now read_fields)
     ∙ sym c.list_refusal.ensures ∙ c.in_default.is in
-    let acts = acts-wanting s (read c.args.server.now.settings.space c.args.now
+    let acts = acts-wanting s (read (seen_by c.args.server.now.settings.space c.args.access) c.args.now
     (c.args.timestamps, nodes)) Values
-    (read_item c.args.server.now.settings.space c.args.now stamps) nodes
-    (asked_items c.args.server.now.settings.space c.args.now c.args.timestamps stamps nodes taken
+    (read_item (seen_by c.args.server.now.settings.space c.args.access) c.args.now stamps) nodes
+    (asked_items (seen_by c.args.server.now.settings.space c.args.access) c.args.now c.args.timestamps stamps nodes taken
     c.in-Some-timestamps.is) in
     let p = err_from_is_err_and c.from_residual.result c.from_residual.ensures.1 in (
       acts.0,
@@ -147,10 +148,10 @@ returns-in_err-put_count-clause-comes g c =
     let taken : list_refusal 1000 (length nodes) ≡ None =
     ap (list_refusal 1000) (length-map c.args.nodes.now read_fields)
     ∙ sym c.list_refusal.ensures ∙ c.in_default.is in
-    let acts = acts-wanting s (read c.args.server.now.settings.space c.args.now
+    let acts = acts-wanting s (read (seen_by c.args.server.now.settings.space c.args.access) c.args.now
     (c.args.timestamps, nodes)) Values
-    (read_item c.args.server.now.settings.space c.args.now stamps) nodes
-    (asked_items c.args.server.now.settings.space c.args.now c.args.timestamps stamps nodes taken
+    (read_item (seen_by c.args.server.now.settings.space c.args.access) c.args.now stamps) nodes
+    (asked_items (seen_by c.args.server.now.settings.space c.args.access) c.args.now c.args.timestamps stamps nodes taken
     c.in-Some-timestamps.is) in
     let p = err_from_is_err_and c.from_residual-in_err-put_count.result
     c.from_residual-in_err-put_count.ensures.1 in (
@@ -173,9 +174,9 @@ returns-in_err-put_items-clause-comes g c =
     ap (list_refusal 1000) (length-map c.args.nodes.now read_fields)
     ∙ sym c.list_refusal.ensures ∙ c.in_default.is in
     let (used, values, count, all, shown) = c.put_items.ensures.told in
-    let space = c.space.result.now in
-    let P : Layout → Type 0 = λ space.
-    (used : List StepResult) × Refines a b used (read space c.args.now (c.args.timestamps, nodes))
+    let space = seen_by c.space.result.now c.args.access in
+    let P : Layout → Type 0 = λ nodes_of.
+    (used : List StepResult) × Refines a b used (read (seen_by nodes_of c.args.access) c.args.now (c.args.timestamps, nodes))
     (Ok (Values values)) in
     let acts = subst P c.space.ensures
     (acts-items a b (read space c.args.now (c.args.timestamps, nodes)) Values
@@ -203,9 +204,9 @@ returns-in_err-put_i32-clause-comes g c =
     ap (list_refusal 1000) (length-map c.args.nodes.now read_fields)
     ∙ sym c.list_refusal.ensures ∙ c.in_default.is in
     let (used, values, count, all, shown) = c.put_items.ensures.told in
-    let space = c.space.result.now in
-    let P : Layout → Type 0 = λ space.
-    (used : List StepResult) × Refines a b used (read space c.args.now (c.args.timestamps, nodes))
+    let space = seen_by c.space.result.now c.args.access in
+    let P : Layout → Type 0 = λ nodes_of.
+    (used : List StepResult) × Refines a b used (read (seen_by nodes_of c.args.access) c.args.now (c.args.timestamps, nodes))
     (Ok (Values values)) in
     let acts = subst P c.space.ensures
     (acts-items a b (read space c.args.now (c.args.timestamps, nodes)) Values
@@ -232,9 +233,9 @@ returns-clause-comes g c =
     ap (list_refusal 1000) (length-map c.args.nodes.now read_fields)
     ∙ sym c.list_refusal.ensures ∙ c.in_default.is in
     let (used, values, count, all, shown) = c.in_ok-put_items.ensures.told in
-    let space = c.space.result.now in
-    let P : Layout → Type 0 = λ space.
-    (used : List StepResult) × Refines a b used (read space c.args.now (c.args.timestamps, nodes))
+    let space = seen_by c.space.result.now c.args.access in
+    let P : Layout → Type 0 = λ nodes_of.
+    (used : List StepResult) × Refines a b used (read (seen_by nodes_of c.args.access) c.args.now (c.args.timestamps, nodes))
     (Ok (Values values)) in
     let acts = subst P c.space.ensures
     (acts-items a b (read space c.args.now (c.args.timestamps, nodes)) Values

@@ -3,13 +3,14 @@ use Rattle.std.specs.Prelude.{Option}
 use Rattle.std.proofs.lemmas.List.{length-map}
 use Rattle.ua_binary.specs.declared.codes.Status.{Status}
 use Rattle.ua_services.specs.Updates.{details_of}
-use Rattle.ua_space.specs.declared.layout.Layout.{Layout}
+use Rattle.ua_session.specs.Users.{access_of}
 use Rattle.archive.specs.Store.{StepResult}
 use Rattle.archive.specs.Steps.{Refines, each}
 use Rattle.historian.specs.declared.answer.Answer.TheVariants as made
 use Rattle.historian.specs.Answers.{Updated as AllUpdated}
 use Rattle.hist_update.specs.Codes.{list_refusal}
 use Rattle.historian.specs.Reading.{unless_refused, answer_items}
+use Rattle.historian.specs.UserSpaces.{UserSpace, space_for}
 use Rattle.historian.specs.Updating.{update_item, update_history}
 use Rattle.historian.proofs.Items.{comes-refused, comes-starved, comes-items}
 use Rattle.historian.proofs.updating.update_all.Goals as goal
@@ -17,8 +18,8 @@ use Rattle.historian.proofs.updating.update_all.Goals as goal
 pub returns-in-Some-clause-comes : goal.returns-in-Some-clause-comes
 returns-in-Some-clause-comes g c =
     let s = g.A.Archive.state c.args.server.now.replica.archive in
-    let space = c.args.server.now.settings.space in
     let user = c.args.user.now in
+    let space = space_for c.args.server.now.settings user in
     let details = map details_of c.args.details.now in
     let refused : list_refusal 100 (length details) ≡ Some c.in-Some.status =
     ap (list_refusal 100) (length-map c.args.details.now details_of)
@@ -33,8 +34,8 @@ pub returns-in_default-with_capacity-clause-comes :
     goal.returns-in_default-with_capacity-clause-comes
 returns-in_default-with_capacity-clause-comes g c =
     let s = g.A.Archive.state c.args.server.now.replica.archive in
-    let space = c.args.server.now.settings.space in
     let user = c.args.user.now in
+    let space = space_for c.args.server.now.settings user in
     let details = map details_of c.args.details.now in
     let taken : list_refusal 100 (length details) ≡ None =
     ap (list_refusal 100) (length-map c.args.details.now details_of)
@@ -49,13 +50,17 @@ pub returns-clause-comes : goal.returns-clause-comes
 returns-clause-comes g c =
     let a = g.A.Archive.state c.args.server.now.replica.archive in
     let b = g.A.Archive.state c.update_items.new.archive in
-    let space = c.args.server.now.settings.space in
     let user = c.args.user.now in
+    let space = space_for c.args.server.now.settings user in
     let details = map details_of c.args.details.now in
     let taken : list_refusal 100 (length details) ≡ None =
     ap (list_refusal 100) (length-map c.args.details.now details_of)
     ∙ sym c.list_refusal.ensures ∙ c.in_default.is in
-    let P : Layout → Type 0 = λ space.
+    let seen : UserSpace =
+    record { layout = c.space.result.now; access = c.access_of.result } in
+    let may = c.access_of.ensures ∙ ap (λ users. access_of users user) c.users.ensures in
+    let same : seen ≡ space = λ i. record { layout = c.space.ensures i; access = may i } in
+    let P : UserSpace → Type 0 = λ space.
     (used : List StepResult)
     × Refines a b used (each (update_item a.own space user c.args.now) details)
     c.update_items.new.results.items in
@@ -65,4 +70,4 @@ returns-clause-comes g c =
     (λ R marks. ap (λ (o : Option Status).
     unless_refused o R (answer_items AllUpdated
     (update_item a.own space user c.args.now) details R) marks) taken)
-    (subst P c.space.ensures c.update_items.ensures.acts) refl
+    (subst P same c.update_items.ensures.acts) refl

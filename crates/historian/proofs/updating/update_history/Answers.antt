@@ -5,6 +5,7 @@ use Rattle.ua_services.specs.declared.updates.HistoryUpdateRequest.{HistoryUpdat
 use Rattle.ua_services.specs.declared.updates.HistoryUpdateDetails.{HistoryUpdateDetails}
 use Rattle.ua_services.specs.Updates.{details_of}
 use Rattle.historian.specs.declared.service.Service.TheVariants as service
+use Rattle.historian.specs.UserSpaces.{space_for}
 use Rattle.historian.specs.Updating.{update_history}
 use Rattle.historian.specs.Requests.{HistoryUpdate, call_in}
 use Rattle.historian.specs.Services.{site_of, answered_call}
@@ -41,7 +42,7 @@ returns-in_err-user-clause-performs g c =
     c.from_residual-in_err-user.result
     (performs-outside config c.args.now token sessions service.HistoryUpdate
     (HistoryUpdate asked) c.args.request.body (λ R user.
-    update_history config.own config.settings.space user c.args.now asked R) c.in_err-user.field-0.0
+    update_history config.own (space_for config.settings user) user c.args.now asked R) c.in_err-user.field-0.0
     p.0 c.from_residual-in_err-user.result
     c.in_ok-asked.ensures.asks (λ R marks. refl) (sym c.in_err-user.ensures.value) p.2 p.1)
 
@@ -53,12 +54,12 @@ returns-clause-performs g c =
     let asked = map details_of c.in_ok-asked.asked.details.items in
     let user = c.in_ok-user.user.now in
     let Q : List HistoryUpdateDetails → Type 0 =
-    λ details. Comes a b (update_history a.own config.settings.space user c.args.now
+    λ details. Comes a b (update_history a.own (space_for config.settings user) user c.args.now
     (map details_of details)) c.update_all.result in
     performs-comes a b config c.args.now
     (node_of c.args.request.token) c.args.sessions.now service.HistoryUpdate
     (HistoryUpdate asked) c.args.request.body user
-    (λ R user. update_history config.own config.settings.space user c.args.now asked R)
+    (λ R user. update_history config.own (space_for config.settings user) user c.args.now asked R)
     c.update_all.result
     c.in_ok-asked.ensures.asks (λ R marks. refl) (sym c.in_ok-user.ensures.value)
     (subst Q c.deref.ensures.value c.update_all.ensures.comes)

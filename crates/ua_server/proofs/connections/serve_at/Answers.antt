@@ -1,18 +1,24 @@
-use Rattle.std.proofs.Common.{refl, sym, subst}
+use Rattle.std.proofs.Common.{◌∙◌, Err, refl, ap, sym, subst}
+use Rattle.std.specs.Prelude.{Result, IfErr}
+use Rattle.std.proofs.lemmas.Result.{err_from_is_err_and}
 use Rattle.multiplex.specs.declared.limits.Limits.{Limits}
 use Rattle.multiplex.specs.Serving.{AreAllFree, HasServed}
 use Rattle.multiplex.specs.Turns.{state}
-use Rattle.ua_server.specs.Network.{conversations}
+use Rattle.ua_server.specs.declared.program.ProgramFault.{ProgramFault}
+use Rattle.ua_server.specs.Host.{known_machine}
+use Rattle.ua_server.specs.Network.{IsServingFault, conversations, serving_of}
+use Rattle.ua_server.specs.Program.{Listens}
+use Rattle.ua_server.proofs.Refused.{unheard, unheard-serving}
 use Rattle.ua_server.proofs.connections.serve_at.Goals as goal
 
 pub returns-clause-listens : goal.returns-clause-listens
 returns-clause-listens g c =
-    let (address, text, listens) = c.in_ok-source.ensures.ok in
+    let (listening, is, listens) = c.in_ok-source.ensures.ok in
     let (last, served) = c.serve.ensures 0 in
     let begun = state c.in_ok-source.source c.as_mut_slice.result.now c.args.world.now 0 in
     let ended = state c.serve.new.source c.serve.new.slots c.serve.new.world last in (
-      address,
-      text,
+      listening,
+      is,
       (
         c.in_ok-source.source,
         listens,
@@ -34,3 +40,32 @@ returns-clause-listens g c =
         },
       ),
     )
+
+pub returns-in_err-source-clause-listens : goal.returns-in_err-source-clause-listens
+returns-in_err-source-clause-listens g c =
+    let known =
+    known_machine g.H.Host.means g.H.Archive.Archive.state g.H.Source.Source.effects
+    g.H.Source.Reader.NonBlockingRead.input g.H.Source.Writer.NonBlockingWrite.output
+    g.H.Reader.Read.remaining g.H.Writer.Write.contents in
+    let world = c.args.world.now in
+    let old = serving_of c.args.host.now world in
+    let new = serving_of c.listen_at.new.host world in
+    let settings = world.server.settings in
+    let p = err_from_is_err_and c.from_residual.result c.from_residual.ensures.1 in
+    let P : Result (Unit {0}) ProgramFault → Type 0 =
+    Listens known g.C.Clock.gave g.E.Write.contents settings c.args.connections old new in
+    subst P (sym (p.1 ∙ ap Err p.2))
+    (unheard known g.C.Clock.gave g.E.Write.contents settings c.args.connections old new
+    c.in_err-source.field-0.0 c.in_err-source.ensures.refused refl)
+
+pub returns-in_err-source-clause-fault : goal.returns-in_err-source-clause-fault
+returns-in_err-source-clause-fault g c =
+    let known =
+    known_machine g.H.Host.means g.H.Archive.Archive.state g.H.Source.Source.effects
+    g.H.Source.Reader.NonBlockingRead.input g.H.Source.Writer.NonBlockingWrite.output
+    g.H.Reader.Read.remaining g.H.Writer.Write.contents in
+    let p = err_from_is_err_and c.from_residual.result c.from_residual.ensures.1 in
+    let P : Result (Unit {0}) ProgramFault → Type 0 = λ r. IfErr r IsServingFault in
+    subst P (sym (p.1 ∙ ap Err p.2))
+    (unheard-serving known c.args.world.now.server.settings c.in_err-source.field-0.0
+    c.args.host.now c.listen_at.new.host c.in_err-source.ensures.refused)

@@ -1,7 +1,8 @@
-use Rattle.std.proofs.Common.{◌≡◌, ◌∙◌, Err, take, sym, inl, inr}
+use Rattle.std.proofs.Common.{◌≡◌, ◌∙◌, Err, take, ap, sym, inl, inr}
 use Rattle.counted_io.specs.declared.fault.ServeFault.TheVariants.{Read}
 use Rattle.ua_server.specs.Either.{ConnectionEnding}
-use Rattle.conversation.specs.OtherEnds.{is_peers}
+use Rattle.conversation.specs.declared.door.Door.{Door}
+use Rattle.conversation.specs.Doors.{door_of, is_peers}
 use Rattle.ua_connection.proofs.Outsides.{empty_environment}
 use Rattle.ua_server.proofs.Firsts.{are-first, breaks-off, goes-as-peer, goes-as-client}
 use Rattle.ua_server.proofs.either.serve.Goals as goal
@@ -26,6 +27,7 @@ returns-then-is_peers-clause-serves g c =
     let contents = g.W.Write.contents in
     let came = c.in-Ok.ensures in
     let first = take c.in-Ok.n c.read_first.new.first in
+    let at_door = ap (λ (door : Door). is_peers door first) c.of_settings.ensures in
     let three = are-first (left c.args.reader.now.inner)
     (left c.read_first.new.reader.inner) c.read_first.new.first c.in-Ok.n came.length
     came.within came.bytes came.end in (
@@ -41,8 +43,9 @@ returns-then-is_peers-clause-serves g c =
             (state c.serve_a_peer.new.replica.archive) first (left c.read_first.new.reader.inner)
             (left c.serve_a_peer.new.reader.inner)
             (contents c.args.writer.now.inner) (contents c.serve_a_peer.new.writer.inner)
-            (is_peers first) c.serve_a_peer.result
-            (sym c.is_peers.ensures ∙ c.if-is_peers.true) c.serve_a_peer.ensures.meets,
+            (is_peers (door_of c.args.server.now.settings) first) c.serve_a_peer.result
+            (sym at_door ∙ sym c.is_peers.ensures ∙ c.if-is_peers.true)
+            c.serve_a_peer.ensures.meets,
       ),
     )
 
@@ -53,6 +56,7 @@ returns-else-is_peers-clause-serves g c =
     let contents = g.W.Write.contents in
     let came = c.in-Ok.ensures in
     let first = take c.in-Ok.n c.read_first.new.first in
+    let at_door = ap (λ (door : Door). is_peers door first) c.of_settings.ensures in
     let three = are-first (left c.args.reader.now.inner)
     (left c.read_first.new.reader.inner) c.read_first.new.first c.in-Ok.n came.length
     came.within came.bytes came.end in
@@ -69,7 +73,8 @@ returns-else-is_peers-clause-serves g c =
             (state c.serve_client.new.server.replica.archive) first
             (left c.read_first.new.reader.inner) (left c.serve_client.new.reader.inner)
             (contents c.args.writer.now.inner) (contents c.serve_client.new.writer.inner) served.0
-            (is_peers first) c.serve_client.result
-            (sym c.is_peers.ensures ∙ c.if-is_peers.false) (served.2, served.3, served.4),
+            (is_peers (door_of c.args.server.now.settings) first) c.serve_client.result
+            (sym at_door ∙ sym c.is_peers.ensures ∙ c.if-is_peers.false)
+            (served.2, served.3, served.4),
       ),
     )

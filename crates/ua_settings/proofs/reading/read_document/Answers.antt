@@ -2,8 +2,7 @@ use Rattle.std.proofs.Common.{map, ap, sym, subst, ◌∙◌, unwrap_or}
 use Rattle.std.specs.List.{AllByRecursion}
 use Rattle.toml.specs.Data.{no_members}
 use Rattle.toml.specs.View.{table_view}
-use Rattle.ua_settings.proofs.ReadingParts.{user_in}
-use Rattle.ua_settings.specs.Reading.{peer_in}
+use Rattle.ua_settings.specs.Reading.{user_in, peer_in}
 use Rattle.ua_settings.specs.Sound.{IsSoundUser, IsSoundPeer}
 use Rattle.ua_settings.proofs.Plans.{map_twice, all_under, accepted, unspaced, users_same}
 use Rattle.ua_settings.proofs.reading.read_document.Goals as goal
@@ -39,10 +38,11 @@ returns-in-Ok c =
     ∙ ap (map peer_in) callees in
     accepted (table_view c.args.document.now) (table_view c.in-Some.archive.now)
     (table_view c.in-Some-table_at.server.now) c.in_ok-users.users c.in_ok-peers.peers
-    c.in-Ok.space c.settings_of.result same_archive same_server
+    c.in_ok-door.door c.in-Ok.space c.settings_of.result same_archive same_server
     (c.in_ok-users.ensures.ok ∙ users_same (table_view c.args.document.now)
-    (table_view c.in-Some-table_at.server.now) c.truth.result
+    (table_view c.in-Some-table_at.server.now) c.truth-anonymous.result
+    c.access-anonymous_access.result
     (map (λ user. user_in (table_view user.now)) c.as_slice.result.now) same_server
-    c.truth.ensures named)
-    (c.in_ok-peers.ensures.ok ∙ called) c.in-Ok.ensures
+    c.truth-anonymous.ensures c.access-anonymous_access.ensures named)
+    (c.in_ok-peers.ensures.ok ∙ called) c.in_ok-door.ensures c.in-Ok.ensures
     c.settings_of.ensures.ok c.settings_of.ensures.err

@@ -1,0 +1,28 @@
+-- Who is taken on a connection, by where it came to.
+use Rattle.std.specs.Prelude.{ℕ, ◌==◌, Bool, true, false, ◌||◌, List, codes, None, Some, if◌then◌else◌}
+use Rattle.exchange.specs.Frames.{begins}
+use Rattle.ua_settings.specs.Settings.{SettingsValues}
+use Rattle.conversation.specs.declared.door.Door.{Door}
+use Rattle.conversation.specs.declared.door.Door.TheVariants.{Both, Clients, Peers}
+
+-- by the number of the listener that it came from
+abbrev pub door_of_listener : ℕ → Door
+door_of_listener listener =
+    if listener == 1 then Clients else if listener == 2 then Peers else Both
+
+-- the number of the listener that takes these
+abbrev pub listener_of : Door → ℕ
+listener_of door = elim door [ Both ↦ 0 | Clients ↦ 1 | Peers ↦ 2 ]
+
+-- at the address where clients come to: where peers have an address of their own, clients alone
+abbrev pub door_of : SettingsValues → Door
+door_of settings = elim settings.door [ None ↦ Both | Some address ↦ Clients ]
+
+-- a connection that begins with these bytes is a peer's: where both are taken, by the letters of a
+-- frame that asks or brings
+abbrev pub is_peers : Door → List ℕ → Bool
+is_peers door came = elim door [
+  | Both ↦ begins came (codes "RXV") || begins came (codes "RXD")
+  | Clients ↦ false
+  | Peers ↦ true
+]

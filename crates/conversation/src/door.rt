@@ -1,0 +1,63 @@
+//! Who is taken on a connection.
+
+ghost use Rattle.std.specs.Prelude.{◌≡◌};
+ghost use Rattle.conversation.specs.Doors.{door_of_listener, door_of, listener_of, is_peers};
+
+use ua_settings::Settings;
+
+/// Who is taken on a connection, by where it came to.
+#[derive(Clone, Copy, Debug, PartialEq, Eq)]
+pub enum Door {
+    /// Clients and peers: the first three letters tell which.
+    Both,
+    /// Clients alone.
+    Clients,
+    /// Peers alone.
+    Peers,
+}
+
+impl Door {
+    /// That of the listener of this number: 1 takes clients alone and 2 peers alone.
+    pub fn of_listener(listener: usize) -> Door
+        ensures { result ≡ door_of_listener listener }
+    {
+        match listener {
+            1 => Door::Clients,
+            2 => Door::Peers,
+            _ => Door::Both,
+        }
+    }
+
+    /// The number of the listener that takes these.
+    pub fn listener(self) -> usize
+        ensures { result ≡ listener_of self }
+    {
+        match self {
+            Door::Both => 0,
+            Door::Clients => 1,
+            Door::Peers => 2,
+        }
+    }
+
+    /// That of the address where clients come to: clients alone, where peers have an address of their own.
+    pub fn of_settings(settings: &Settings) -> Door
+        ensures { result ≡ door_of settings.now }
+    {
+        if settings.door().is_some() {
+            Door::Clients
+        } else {
+            Door::Both
+        }
+    }
+
+    /// Whether a connection that begins with these bytes is a peer's.
+    pub fn is_peers(self, came: &[u8]) -> bool
+        ensures { result ≡ is_peers self came.now }
+    {
+        match self {
+            Door::Both => came.starts_with(b"RXV") || came.starts_with(b"RXD"),
+            Door::Clients => false,
+            Door::Peers => true,
+        }
+    }
+}

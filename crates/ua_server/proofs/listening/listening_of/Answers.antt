@@ -1,0 +1,29 @@
+use Rattle.std.proofs.Common.{◌≡◌, ◌∙◌, ◌⊎◌, ℕ, List, inl, inr, sym, subst}
+use Rattle.std.specs.Net.Grammar.{IsSocketText}
+use Rattle.ua_settings.specs.declared.peers.PeerCall.{PeerCall}
+use Rattle.counted_io.specs.declared.fault.ServeFault.TheVariants.{OutOfMemory}
+use Rattle.ua_server.specs.declared.program.ProgramFault.{ProgramFault}
+use Rattle.ua_server.specs.declared.program.ProgramFault.TheVariants.{Connection, PeerAddress}
+use Rattle.ua_server.specs.Listening.{IsWrongPeer, HasNoAddress}
+use Rattle.ua_server.proofs.listening.listening_of.Goals as goal
+
+pub returns-in-Err-callees_of-clause-err : goal.returns-in-Err-callees_of-clause-err
+returns-in-Err-callees_of-clause-err c =
+    let settings = c.args.settings.now in
+    let fault = c.in-Err-callees_of.fault in
+    let told : (fault ≡ Connection OutOfMemory)
+    ⊎ ((number : ℕ) × (fault ≡ PeerAddress number) × IsWrongPeer c.as_slice.result.now number) =
+    c.in-Err-callees_of.ensures.err in
+    elim told [
+      | inl starved ↦ inl starved
+      | inr wrong ↦ inr (subst (HasNoAddress settings) (sym wrong.1) (
+        (
+          c.in-Some.clients,
+          subst (λ (text : List ℕ). IsSocketText text c.in-Some.clients) c.listen.ensures
+              c.in-Some.ensures,
+        ),
+        (c.in-Ok.peers, c.in-Ok.ensures),
+        subst (λ (peers : List PeerCall). IsWrongPeer peers wrong.0) (c.as_slice.ensures ∙ c.peers.ensures)
+            wrong.2,
+      ))
+    ]
