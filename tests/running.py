@@ -16,7 +16,8 @@ STATED = [
     (2, r"settings refused \([1-6]\)\n(uahist: [^\n]{1,180}\n)?"),
     (3, r"store refused \([1-4]\)\n"),
     (2, r"bad hex\n"),
-    (1, r"address refused\n"),
+    (1, r"(door's |)address refused\n"),
+    (1, r"peer's address refused \(\d+\)\n"),
     (1, r"exchange ended \(\d+\)\n"),
     (1, r"connection ended \([1-4]\)\n"),
 ]
