@@ -7,7 +7,7 @@ Clients that poll, update, stop in the midst of a message, read nothing or say n
 that call each other by themselves and are killed meanwhile; many idle connections. Each check prints a line with what was measured, the
 first that fails ends the script by an error; all are run where none is named. With --long each goes on longer: two and a half minutes of polls, twenty kills.
 """
-import os, random, select, socket, subprocess, sys, tempfile, threading, time
+import multiprocessing, os, random, select, socket, subprocess, sys, tempfile, threading, time
 import usage
 from opcua import Client, int32, node, value_at
 
@@ -102,12 +102,11 @@ def bad_company():
     stuck.socket.sendall(stuck.client.read([(T, 13)])[:30])
     asked = slow.client.read([(T, 13)])
     deaf.socket.setblocking(False)
-    done = threading.Event()
 
     def floods():
         sent = 0
         try:
-            while sent < 100_000_000 and not done.is_set():
+            while sent < 100_000_000:
                 bytes_sent = b"".join(flood.client.get_endpoints() for _ in range(200))
                 flood.socket.sendall(bytes_sent)
                 sent += len(bytes_sent)
@@ -116,14 +115,19 @@ def bad_company():
 
     def drains():
         try:
-            while not done.is_set() and flood.socket.recv(1 << 20):
+            while flood.socket.recv(1 << 20):
                 pass
         except OSError:
             pass
 
-    threads = [threading.Thread(target=floods), threading.Thread(target=drains)]
-    for thread in threads:
-        thread.start()
+    def both():
+        drain = threading.Thread(target=drains, daemon=True)
+        drain.start()
+        floods()
+        drain.join()
+
+    flooding = multiprocessing.get_context("fork").Process(target=both)  # a process of its own: threads here would hold the polls up
+    flooding.start()
     until = time.monotonic() + (60 if long else 8)
     while time.monotonic() < until:
         polls(line, times)
@@ -136,13 +140,8 @@ def bad_company():
         except BlockingIOError:
             pass
         time.sleep(0.01)
-    done.set()
-    try:
-        flood.socket.shutdown(socket.SHUT_RDWR)
-    except OSError:
-        pass  # a connection of more than a million chunks is over by then
-    for thread in threads:
-        thread.join()
+    flooding.kill()
+    flooding.join()
     seconds, memory = server.used()
     server.stop()
     assert max(times) < 0.1, max(times)
