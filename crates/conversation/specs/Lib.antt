@@ -1,6 +1,8 @@
 pub mod Doors
 pub mod OtherEnds
 pub mod Receiving
+pub mod Events
+pub mod Logins
 pub mod Answering
 pub mod Closing
 pub mod Starting

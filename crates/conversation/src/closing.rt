@@ -1,8 +1,7 @@
 //! What is told of a connection that ended.
 
 ghost use Rattle.std.specs.Prelude.{◌≡◌};
-ghost use Rattle.conversation.specs.declared.other_end.OtherEnd.{OtherEnd};
-ghost use Rattle.conversation.specs.Closing.{log_calls, connection_fault, call_outcome, parted_outcome, TellsCall, TellsEnd};
+ghost use Rattle.conversation.specs.Closing.{connection_fault, call_outcome, parted_outcome, TellsCall};
 
 use crate::ended::Ended;
 use crate::log::Log;
@@ -10,10 +9,11 @@ use crate::world::World;
 use counted_io::ServeFault;
 use exchange::ExchangeFault;
 use multiplex::SlotEnd;
-use ua_peers::{PeerEnded, SyncFault};
+use ua_peers::{PeerEnded, SyncFault, Synced};
 
-/// The fault by which a connection ended, if it did.
-fn connection_fault(ending: SlotEnd<Result<Ended, ServeFault>>) -> Option<ServeFault>
+/// The fault by which a connection ended, if it did: one that was silent for too long, or made place for another, ended as by
+/// a read that failed.
+pub fn connection_fault(ending: SlotEnd<Result<Ended, ServeFault>>) -> Option<ServeFault>
     ensures { result ≡ connection_fault ending }
 {
     match ending {
@@ -58,23 +58,13 @@ pub(crate) fn tell_call<A, C, L: Log>(
     world: &mut World<A, C, L>,
     callee: usize,
     outcome: Result<(), SyncFault>,
+    moved: Synced,
 )
-    ensures { TellsCall (log_calls L.told L.told_failed L.told_call) world.old callee outcome world.new }
+    ensures { TellsCall L.told world.old callee outcome moved world.new }
 {
     if let Some(peer) = world.server.settings.peers().as_slice().get(callee) {
-        world.log.tell_call(callee, peer.address.as_str(), outcome);
-    }
-}
-
-/// Tells by which fault a connection that was accepted ended, if it did.
-pub(crate) fn tell_end<A, C, L: Log>(
-    world: &mut World<A, C, L>,
-    ending: SlotEnd<Result<Ended, ServeFault>>,
-)
-    ensures { (other : OtherEnd)
-        → TellsEnd (log_calls L.told L.told_failed L.told_call) None world.old other ending world.new }
-{
-    if let Some(fault) = connection_fault(ending) {
-        world.log.tell(fault);
+        world
+            .log
+            .tell_call(callee, peer.address.as_str(), outcome, moved);
     }
 }

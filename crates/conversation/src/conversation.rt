@@ -2,17 +2,17 @@
 
 use crate::answering::{answer_first, is_established};
 use crate::calling::start_call;
-use crate::closing::{call_outcome, tell_call, tell_end};
+use crate::closing::{call_outcome, tell_call};
 use crate::door::Door;
 use crate::ended::Ended;
 use crate::log::Log;
-use crate::other_end::{Letters, OtherEnd, PeerDialog};
+use crate::other_end::{Letters, NONE_MOVED, OtherEnd, PeerDialog, moved_by};
 use crate::receiving::{take_bytes, tell_starved};
 use crate::world::World;
 use archive::Archive;
 use counted_io::ServeFault;
 use exchange::Frames;
-use multiplex::{Handler, Progress, SlotEnd};
+use multiplex::{Handler, Origin, Party, Progress, SlotEnd, Stay};
 use std::alloc::Global;
 use std::marker::{Model, PhantomData};
 use ua_connection::Clock;
@@ -43,21 +43,28 @@ impl<A, C, L> Model for Conversation<A, C, L> {
 impl<A: Archive, C: Clock, L: Log> Handler for Conversation<A, C, L> {
     ghost use Rattle.conversation.specs.Conversing.{behavior_over};
     ghost use Rattle.conversation.specs.Adding.{moves_over};
-    ghost use Rattle.conversation.specs.Closing.{log_calls, TellsEnd};
+    ghost use Rattle.conversation.specs.Closing.{TellsEnd};
 
     type World = World<A, C, L>;
 
     type End = Result<Ended, ServeFault>;
 
-    ghost behavior = { behavior_over A.state C.gave (log_calls L.told L.told_failed L.told_call) };
+    ghost behavior = { behavior_over A.state C.gave L.told };
 
-    ghost moves_add_up = { moves_over A.state C.gave (log_calls L.told L.told_failed L.told_call) };
+    ghost moves_add_up = { moves_over A.state C.gave L.told };
 
-    /// Nothing came yet, and nobody is known. It takes no memory.
-    fn begin(alloc: Global, listener: usize) -> Self {
+    /// It is this time; the log is told of it.
+    fn pass(world: &mut World<A, C, L>, now: u64, longest_turn: u64) {
+        world.logins.now = now;
+        world.log.pass(now, longest_turn);
+    }
+
+    /// Nothing came yet, and nobody is known; the log is told that somebody came. It takes no memory.
+    fn begin(alloc: Global, origin: Origin, world: &mut World<A, C, L>) -> Self {
+        world.log.tell_connected(origin);
         Conversation {
             other: OtherEnd::Unknown {
-                door: Door::of_listener(listener),
+                door: Door::of_listener(origin.listener),
                 letters: Letters::new(alloc),
             },
             alloc,
@@ -84,7 +91,7 @@ impl<A: Archive, C: Clock, L: Log> Handler for Conversation<A, C, L> {
                 world: PhantomData,
             }),
             Err(fault) => {
-                tell_call(world, callee, Err(SyncFault::Exchange(fault)));
+                tell_call(world, callee, Err(SyncFault::Exchange(fault)), NONE_MOVED);
                 None
             }
         }
@@ -97,17 +104,23 @@ impl<A: Archive, C: Clock, L: Log> Handler for Conversation<A, C, L> {
             return None;
         }
         let end = tell_starved(&self.other, out);
-        self.other = OtherEnd::Over;
+        self.other = OtherEnd::Over(moved_by(&self.other));
         Some(end)
     }
 
-    /// Answers a client's chunk, or a peer's frame, where it is whole.
+    /// Answers a client's chunk, or a peer's frame, where it is whole. The log is told what a client did in a session.
     fn answer(
         &mut self,
+        stay: Stay,
         world: &mut World<A, C, L>,
         out: &mut Vec<u8>,
     ) -> Progress<Result<Ended, ServeFault>> {
-        answer_first(world, &mut self.other, out)
+        answer_first(stay, world, &mut self.other, out)
+    }
+
+    /// The answer to an activation waits a second where too many were refused to those who are there.
+    fn delay(&self, _stay: Stay, world: &World<A, C, L>) -> u64 {
+        world.logins.delay()
     }
 
     /// Whether its other end is a client with a session that was activated, or a peer of whom a whole frame came.
@@ -115,19 +128,19 @@ impl<A: Archive, C: Clock, L: Log> Handler for Conversation<A, C, L> {
         is_established(&self.other)
     }
 
-    /// Tells how a call ended, and of a connection that was accepted the fault by which it did, if it is one.
+    /// Tells how a call ended, or a connection that was accepted.
     fn close(
         self,
-        callee: Option<usize>,
+        stay: Stay,
         world: &mut World<A, C, L>,
         ending: SlotEnd<Result<Ended, ServeFault>>,
     )
-        ensures { TellsEnd (log_calls L.told L.told_failed L.told_call) callee world.old self ending
-            world.new }
+        ensures { TellsEnd L.told stay world.old self ending world.new }
     {
-        match callee {
-            Some(callee) => tell_call(world, callee, call_outcome(ending)),
-            None => tell_end(world, ending),
+        let moved = moved_by(&self.other);
+        match stay.party {
+            Party::Called(callee) => tell_call(world, callee, call_outcome(ending), moved),
+            Party::Accepted(_) => world.log.tell_parted(stay, ending, moved),
         }
     }
 

@@ -3,7 +3,6 @@
 ghost use Rattle.std.specs.Prelude.{◌≡◌, []};
 ghost use Rattle.conversation.specs.Alone.{ClientAloneIsAnswered};
 ghost use Rattle.conversation.specs.ClientsDoors.{IsAtClientsDoor, NoPeerComes, NoPeerIsAnswered};
-ghost use Rattle.conversation.specs.Closing.{log_calls};
 ghost use Rattle.conversation.specs.declared.door.Door.TheVariants.{Clients};
 ghost use Rattle.conversation.specs.declared.other_end.OtherEnd.TheVariants.{Unknown};
 
@@ -23,7 +22,7 @@ pub fn a_client_alone_is_answered<
     L: Log,
 >()
     ensures { ClientAloneIsAnswered R.input W.output A.state C.gave
-        (log_calls L.told L.told_failed L.told_call) }
+        L.told }
 {}
 
 /// At the door of clients nobody is a peer: neither who comes there, whatever bytes are brought, nor who is answered. So no
@@ -32,5 +31,5 @@ pub fn a_clients_door_takes_no_peer<A: Archive, C: Clock, L: Log>()
     ensures begins { IsAtClientsDoor (Unknown Clients []) }
     ensures receives { NoPeerComes }
     ensures answers { NoPeerIsAnswered A.state C.gave
-        (log_calls L.told L.told_failed L.told_call) }
+        L.told }
 {}

@@ -9,13 +9,16 @@ mod door;
 mod ended;
 mod laws;
 mod log;
+mod logins;
 mod other_end;
 mod receiving;
 mod world;
 
 pub use conversation::Conversation;
 pub use door::Door;
+pub use closing::connection_fault;
 pub use ended::Ended;
 pub use laws::{a_client_alone_is_answered, a_clients_door_takes_no_peer};
 pub use log::Log;
+pub use logins::{Logins, Refusal};
 pub use world::World;

@@ -1,8 +1,9 @@
 //! What answers are made over.
 
+use crate::logins::Logins;
 use historian::Server;
 
-/// A server, its clock and its log, which its connections share.
+/// A server, its clock, its log, and what is known of logins, which its connections share.
 #[derive(Drop)]
 pub struct World<A, C, L> {
     /// What it is set to, and what it holds.
@@ -11,4 +12,6 @@ pub struct World<A, C, L> {
     pub clock: C,
     /// What is told of them.
     pub log: L,
+    /// Which activations were refused of late.
+    pub logins: Logins,
 }

@@ -10,8 +10,9 @@ use Rattle.multiplex.specs.Effects.{Effects}
 use Rattle.multiplex.specs.Input.{Input}
 use Rattle.multiplex.specs.Output.{Output}
 use Rattle.multiplex.specs.Behavior.{Behavior, MovesAddUp}
-use Rattle.multiplex.specs.Slots.{Slot, first_slot, calling_slot}
-use Rattle.multiplex.specs.Steps.{Step, Receives, Answers, Lacks, Writes, Stops, FindsEmpty, FindsFull, Wakes, IsStep}
+use Rattle.multiplex.specs.declared.stay.Party.TheVariants.{Accepted}
+use Rattle.multiplex.specs.Slots.{Slot, begun, first_slot, calling_slot}
+use Rattle.multiplex.specs.Steps.{Step, Receives, Answers, Lacks, Writes, Stops, FindsEmpty, FindsFull, Wakes, Releases, IsStep}
 use Rattle.multiplex.specs.Turns.{Loop, LoopTurn, Waits, Accepts, AcceptFails, AcceptsNobody, HasNoSlot, Calls, CallFails, CallsNobody, Steps, Closes, Rests, AreTurns}
 use Rattle.multiplex.specs.Alone.{steps_at, StaysOpen, bytes_received, bytes_made, bytes_written, AreOwnSteps, HasOwnBytes}
 use Rattle.multiplex.proofs.Places.{get-set_same, get-set_other}
@@ -46,14 +47,16 @@ module _ {S H R W V E : Type 0} (source : Effects S R W) (input : Input R) (outp
   step_moves : (now : ℕ) (v w : V) (old new : Slot H R W E) (step : Step E)
       → IsStep input output handler now v old step w new → handler.moves v w
   step_moves now v w old new (Receives bytes made end) is = stays v w is.0
-  step_moves now v w old new (Answers made end) is = laws.answers v w old.handler new.handler made
-      end is.answers
-  step_moves now v w old new Lacks is = laws.answers v w old.handler new.handler [] None is.answers
+  step_moves now v w old new (Answers made end) is =
+      laws.answers old.stay v w old.handler new.handler made end is.answers
+  step_moves now v w old new Lacks is =
+      laws.answers old.stay v w old.handler new.handler [] None is.answers
   step_moves now v w old new (Writes bytes) is = stays v w is.0
   step_moves now v w old new (Stops ending) is = stays v w is.0
   step_moves now v w old new FindsEmpty is = stays v w is.0
   step_moves now v w old new FindsFull is = stays v w is.0
   step_moves now v w old new Wakes is = stays v w is.0
+  step_moves now v w old new Releases is = stays v w is.0
 
   abbrev Alone : (old new : Loop S H R W V E) → ℕ → Slot H R W E → List (Step E) → Type 0
   Alone old new k slot steps =
@@ -96,16 +99,16 @@ module _ {S H R W V E : Type 0} (source : Effects S R W) (input : Input R) (outp
   )
   own_steps old new k slot (Waits busy now ∷ turns) (middle, is, rest) got stays-open =
       let still = ap (λ (a : Loop S H R W V E). slice_get a.slots k) is.others ∙ got in
-      let same = ap (λ (a : Loop S H R W V E). a.world) is.others in
-      passed old middle new k slot (steps_at k turns) (stays old.world middle.world same)
+      passed old middle new k slot (steps_at k turns)
+      (laws.passes old.world middle.world now is.longest_turn is.passes)
       (own_steps middle new k slot turns rest still stays-open.1)
-  own_steps old new k slot (Accepts j listener ∷ turns) (middle, is, rest) got stays-open =
-      let still = elsewhere old middle new j k slot (Some (first_slot is.first is.reader is.writer
-      [] old.now)) (steps_at k turns)
+  own_steps old new k slot (Accepts j origin ∷ turns) (middle, is, rest) got stays-open =
+      let still = elsewhere old middle new j k slot (Some (first_slot (begun (Accepted origin)
+      old.now) is.first is.reader is.writer [])) (steps_at k turns)
       (not_free old.slots j k slot is.free got) (ap (λ (a : Loop S H R W V E). a.slots) is.others)
       got in
-      let same = ap (λ (a : Loop S H R W V E). a.world) is.others in
-      passed old middle new k slot (steps_at k turns) (stays old.world middle.world same)
+      passed old middle new k slot (steps_at k turns)
+      (laws.begins origin old.world middle.world is.first is.begins)
       (own_steps middle new k slot turns rest still stays-open.1)
   own_steps old new k slot (AcceptFails ∷ turns) (middle, is, rest) got stays-open =
       let still = ap (λ (a : Loop S H R W V E). slice_get a.slots k) is.others ∙ got in
@@ -145,7 +148,7 @@ module _ {S H R W V E : Type 0} (source : Effects S R W) (input : Input R) (outp
       (λ e. stays-open.0 (sym e))
       (ap (λ (a : Loop S H R W V E). a.slots) is.others) got in
       passed old middle new k slot (steps_at k turns)
-      (laws.closes is.slot.callee old.world middle.world is.slot.handler ending is.closes)
+      (laws.closes is.slot.stay old.world middle.world is.slot.handler ending is.closes)
       (own_steps middle new k slot turns rest still stays-open.1)
   own_steps old new k slot (Rests j ∷ turns) (middle, is, rest) got stays-open =
       let still = ap (λ (a : Loop S H R W V E). slice_get a.slots k) is.1 ∙ got in
@@ -311,6 +314,12 @@ module _ {S H R W V E : Type 0} (source : Effects S R W) (input : Input R) (outp
       as_bytes old new steps (FindsFull ∷ steps) refl refl refl
       (quietly old middle new steps (same_reader old middle (ap (λ (s : Slot H R W E). s.reader)
       is.others)) is.written
+      (ap (λ (s : Slot H R W E). s.waiting) is.others) later)
+  step_bytes now v w old middle new Releases steps (same, is) later =
+      as_bytes old new steps (Releases ∷ steps) refl refl refl
+      (quietly old middle new steps (same_reader old middle (ap (λ (s : Slot H R W E). s.reader)
+      is.others))
+      (same_writer old middle (ap (λ (s : Slot H R W E). s.writer) is.others))
       (ap (λ (s : Slot H R W E). s.waiting) is.others) later)
   step_bytes now v w old middle new Wakes steps (same, is) later =
       as_bytes old new steps (Wakes ∷ steps) refl refl refl

@@ -13,8 +13,9 @@ use Rattle.multiplex.specs.declared.handler.SlotEnd.TheVariants.{Finished}
 use Rattle.multiplex.specs.Input.{Input}
 use Rattle.multiplex.specs.Output.{Output}
 use Rattle.multiplex.specs.Behavior.{Behavior}
-use Rattle.multiplex.specs.Slots.{Slot, IsResponsive}
-use Rattle.multiplex.specs.Steps.{Step, Receives, Answers, Lacks, Writes, Stops, FindsEmpty, FindsFull, Wakes, is_asked, is_read, is_written, is_progress, AreAtMost, IsVisit, IsAllowed, IsStep, MayStop, AreSteps, TakesSteps}
+use Rattle.multiplex.specs.declared.stay.Stay.{Stay}
+use Rattle.multiplex.specs.Slots.{Slot, answered_once_more, held_until, IsResponsive}
+use Rattle.multiplex.specs.Steps.{Step, Receives, Answers, Lacks, Writes, Stops, FindsEmpty, FindsFull, Wakes, Releases, is_asked, is_read, is_written, is_progress, AreAtMost, IsVisit, IsAllowed, IsStep, MayStop, AreSteps, TakesSteps}
 
 -- what waits behind an answer, where nothing waited before
 grown : (sent : ℕ) (out out' made : List ℕ) → sent ≤ length out → drop sent out ≡ []
@@ -214,8 +215,10 @@ module _ {H R W V E : Type 0} (input : Input R) (output : Output W) (handler : B
       }))))
 
   pub answered : (now : ℕ) (v w : V) (old slot : Slot H R W E) (h : H) (made : List ℕ)
-      (end : Option E) (ending : Option (SlotEnd E)) (sent : ℕ) (out out' : List ℕ)
-      → old ≡ slot → IsResponsive slot → handler.answers v old.handler made end w h
+      (end : Option E) (ending : Option (SlotEnd E)) (held : Option ℕ) (stay : Stay) (sent : ℕ)
+      (out out' : List ℕ)
+      → old ≡ slot → IsResponsive slot → handler.answers old.stay v old.handler made end w h
+      → held ≡ held_until now (handler.delay old.stay w h) → stay ≡ answered_once_more old.stay
       → (old.ending ≡ None → ending ≡ option_map Finished end)
       → old.waiting ≡ drop sent out → sent ≤ length out → out' ≡ out ++ made
       → Takes (IsVisit 1 0 0 true) true now v slot w (record old {
@@ -224,35 +227,51 @@ module _ {H R W V E : Type 0} (input : Input R) (output : Output W) (handler : B
         ending =
             ending;
         heard = now;
+        held = held;
+        stay = stay;
       })
-  answered now v w old slot h made end ending sent out out' is responsive answers ended waits within
-      grows =
+  answered now v w old slot h made end ending held stay sent out out' is responsive answers holds
+      counts ended waits within grows =
       let ready : IsResponsive old = subst (λ s. IsResponsive s) (sym is) responsive in
       let all : drop sent out' ≡ made = grown sent out out' made within (sym waits ∙ ready.1) grows
       in
-      let new : List ℕ → Option (SlotEnd E) → Slot H R W E =
-      λ waiting e. record old { handler = h; waiting = waiting; ending = e; heard = now } in
-      subst (λ s. Takes (IsVisit 1 0 0 true) true now v s w (new (drop sent out') ending)) is
-      (subst (λ x. Takes (IsVisit 1 0 0 true) true now v old w (new x ending)) (sym all)
-      (subst (λ e. Takes (IsVisit 1 0 0 true) true now v old w (new made e)) (sym (ended ready.0))
-      (one (IsVisit 1 0 0 true) true now v w old (new made (option_map Finished end))
+      let new : List ℕ → Option (SlotEnd E) → Option ℕ → Stay → Slot H R W E = λ waiting e t y.
+      record old {
+        handler = h;
+        waiting = waiting;
+        ending = e;
+        heard = now;
+        held = t;
+        stay = y;
+      } in
+      let until : Option ℕ = held_until now (handler.delay old.stay w h) in
+      let count : Stay = answered_once_more old.stay in
+      let Went : Slot H R W E → Type 0 = λ slot'. Takes (IsVisit 1 0 0 true) true now v old w slot'
+      in
+      subst (λ s. Takes (IsVisit 1 0 0 true) true now v s w
+      (new (drop sent out') ending held stay)) is
+      (subst (λ y. Went (new (drop sent out') ending held y)) (sym counts)
+      (subst (λ t. Went (new (drop sent out') ending t count)) (sym holds)
+      (subst (λ x. Went (new x ending until count)) (sym all)
+      (subst (λ e. Went (new made e until count)) (sym (ended ready.0))
+      (one (IsVisit 1 0 0 true) true now v w old (new made (option_map Finished end) until count)
       (Answers made end) refl (record { responsive = ready; answers = answers; others = refl })
       (record {
         most = record { asks = omega arith; reads = omega arith; writes = omega arith };
         some = λ e. omega arith;
-      }))))
+      }))))))
 
   pub lacked : (room : Bool) (now : ℕ) (v w : V) (old slot : Slot H R W E) (h : H) (made : List ℕ)
       (sent : ℕ)
-      (out out' : List ℕ) → old ≡ slot → handler.answers v old.handler made None w h
+      (out out' : List ℕ) → old ≡ slot → handler.answers old.stay v old.handler made None w h
       → handler.needs_more h
       → old.waiting ≡ drop sent out → out' ≡ out ++ made → out' ≡ out
       → Takes (IsVisit 1 0 0 false) room now v slot w
       (record old { handler = h; waiting = drop sent out' })
   lacked room now v w old slot h made sent out out' is answers lacks waits grows same =
       let as_before : drop sent out' ≡ old.waiting = ap (λ l. drop sent l) same ∙ sym waits in
-      let quiet : handler.answers v old.handler [] None w h =
-      subst (λ m. handler.answers v old.handler m None w h) (nothing_made out out' made grows same)
+      let quiet : handler.answers old.stay v old.handler [] None w h =
+      subst (λ m. handler.answers old.stay v old.handler m None w h) (nothing_made out out' made grows same)
       answers in
       let new : List ℕ → Slot H R W E = λ waiting. record old { handler = h; waiting = waiting } in
       subst (λ s. Takes (IsVisit 1 0 0 false) room now v s w (new (drop sent out'))) is
@@ -265,20 +284,34 @@ module _ {H R W V E : Type 0} (input : Input R) (output : Output W) (handler : B
 
   pub wrote : (room : Bool) (now : ℕ) (v : V) (old slot : Slot H R W E) (later : W)
       (bytes rest : List ℕ)
-      → 0 < length bytes → old ≡ slot → old.waiting ≡ bytes ++ rest
+      → 0 < length bytes → old ≡ slot → old.held ≡ None → old.waiting ≡ bytes ++ rest
       → Appends (output.written old.writer)
       (output.written later) bytes
       → Takes (IsVisit 0 0 1 true) room now v slot v
       (record old { writer = later; waiting = rest; active = now })
-  wrote room now v old slot later bytes rest some is first appends =
+  wrote room now v old slot later bytes rest some is free first appends =
       let new : Slot H R W E = record old { writer = later; waiting = rest; active = now } in
       subst (λ s. Takes (IsVisit 0 0 1 true) room now v s v new) is
       (one (IsVisit 0 0 1 true) room now v v old new (Writes bytes) tt (
         refl,
-        record { some = some; first = first; appends = appends; others = refl },
+        record { some = some; free = free; first = first; appends = appends; others = refl },
       ) (record {
         most = record { asks = omega arith; reads = omega arith; writes = omega arith };
         some = λ e. omega arith;
+      }))
+
+  pub released : (room : Bool) (now : ℕ) (v : V) (old slot : Slot H R W E) (until : ℕ)
+      → old ≡ slot → old.held ≡ Some until → until ≤ now
+      → Takes (IsVisit 0 0 0 false) room now v slot v (record old { held = None })
+  released room now v old slot until is was past =
+      let new : Slot H R W E = record old { held = None } in
+      subst (λ s. Takes (IsVisit 0 0 0 false) room now v s v new) is
+      (one (IsVisit 0 0 0 false) room now v v old new Releases tt (
+        refl,
+        record { until = until; was = was; past = past; others = refl },
+      ) (record {
+        most = record { asks = omega arith; reads = omega arith; writes = omega arith };
+        some = λ e. absurd (true≢false (sym e));
       }))
 
   pub found_full : (asked read written : ℕ) (room : Bool) (now : ℕ) (v : V)

@@ -10,13 +10,15 @@ use Rattle.multiplex.specs.declared.handler.SlotEnd.TheVariants.{Finished, EndOf
 use Rattle.multiplex.specs.declared.source.Arrival.{Arrival}
 use Rattle.multiplex.specs.declared.source.Arrival.TheVariants.{Nobody, Failed, Connection}
 use Rattle.multiplex.specs.declared.source.Call.{Call}
+use Rattle.multiplex.specs.declared.stay.Origin.{Origin}
+use Rattle.multiplex.specs.declared.stay.Party.TheVariants.{Accepted}
 use Rattle.multiplex.specs.declared.limits.Limits.{Limits}
 use Rattle.multiplex.specs.Effects.{Effects}
 use Rattle.multiplex.specs.Input.{Input}
 use Rattle.multiplex.specs.Output.{Output}
 use Rattle.multiplex.specs.Behavior.{Behavior}
-use Rattle.multiplex.specs.Slots.{Slot, first_slot, calling_slot, has_room, IsAtRestAt, IsLongestUnheard, MayClose}
-use Rattle.multiplex.specs.Steps.{Step, Receives, Answers, Lacks, Writes, Stops, FindsEmpty, FindsFull, Wakes, IsVisit, IsAllowed, IsStep, AreSteps, TakesSteps}
+use Rattle.multiplex.specs.Slots.{Slot, begun, first_slot, calling_slot, has_room, IsAtRestAt, IsLongestUnheard, MayClose}
+use Rattle.multiplex.specs.Steps.{Step, Receives, Answers, Lacks, Writes, Stops, FindsEmpty, FindsFull, Wakes, Releases, IsVisit, IsAllowed, IsStep, AreSteps, TakesSteps}
 use Rattle.multiplex.specs.Turns.{Loop, state, LoopTurn, Accepts, AcceptFails, AcceptsNobody, HasNoSlot, Calls, CallFails, CallsNobody, Steps, Closes, Rests, IsLoopTurn, AreTurns, TakesTurns}
 use Rattle.multiplex.specs.Rounds.{AreStepsAt, AreClosing, AreTurnOf, AreComing}
 use Rattle.multiplex.specs.Serving.{has_asked, HasAsked, HasCalled}
@@ -82,6 +84,7 @@ module _ {S H R W V E : Type 0} (source : Effects S R W) (input : Input R) (outp
   still_allowed slots k now v w first old new FindsEmpty has_to got allowed is = tt
   still_allowed slots k now v w first old new FindsFull has_to got allowed is = tt
   still_allowed slots k now v w first old new Wakes has_to got allowed is = tt
+  still_allowed slots k now v w first old new Releases has_to got allowed is = tt
 
   -- some steps at the connection of a slot, from another state of it than the slots that judge the
   -- room
@@ -140,7 +143,7 @@ module _ {S H R W V E : Type 0} (source : Effects S R W) (input : Input R) (outp
       (left : Option (Slot H R W E)) (ends : R × W) → slice_get slots k ≡ Some (Some slot)
       → ((s : Slot H R W E) × (slice_get slots k ≡ Some (Some s)) × MayClose s
       × (s.ending ≡ Some ending))
-      → handler.closes slot.callee v slot.handler ending w
+      → handler.closes slot.stay v slot.handler ending w
       → ends ≡ (slot.reader, slot.writer)
       → source.closed old ends.0 ends.1 new → left ≡ None
       → Goes (AreClosing k true) (state old slots v now)
@@ -184,24 +187,24 @@ module _ {S H R W V E : Type 0} (source : Effects S R W) (input : Input R) (outp
       new
 
   -- a connection came to a listener
-  pub accepted : (old new : S) (slots : List (Option (Slot H R W E))) (v : V)
-      (now k listener before : ℕ) (came : Arrival R W)
+  pub accepted : (old new : S) (slots : List (Option (Slot H R W E))) (v w : V)
+      (now k : ℕ) (origin : Origin) (before : ℕ) (came : Arrival R W)
       (reader : R) (writer : W) (first : H) (out : List ℕ) (slot : Slot H R W E)
       → slice_get slots k ≡ Some None → k < limits.accept_slots
-      → came ≡ Connection listener reader writer
-      → source.accepted old came new → handler.begins listener first → out ≡ []
-      → slot ≡ first_slot first reader writer out now
-      → Asked before 1 (state old slots v now) (state new (slice_set slots k (Some slot)) v now)
-  accepted old new slots v now k listener before came reader writer first out slot free within is
+      → came ≡ Connection origin reader writer
+      → source.accepted old came new → handler.begins origin v first w → out ≡ []
+      → slot ≡ first_slot (begun (Accepted origin) now) first reader writer out
+      → Asked before 1 (state old slots v now) (state new (slice_set slots k (Some slot)) w now)
+  accepted old new slots v w now k origin before came reader writer first out slot free within is
       accepts begins empty made =
-      let begun : slot ≡ first_slot first reader writer [] now = made
-      ∙ ap (λ l. first_slot first reader writer l now) empty in
-      let start : Slot H R W E = first_slot first reader writer [] now in
+      let start : Slot H R W E = first_slot (begun (Accepted origin) now) first reader writer [] in
+      let starts : slot ≡ start = made
+      ∙ ap (first_slot (begun (Accepted origin) now) first reader writer) empty in
       subst (λ (s : Slot H R W E). Asked before 1 (state old slots v now)
-      (state new (slice_set slots k (Some s)) v now)) (sym begun) (
-        Accepts k listener ∷ [],
+      (state new (slice_set slots k (Some s)) w now)) (sym starts) (
+        Accepts k origin ∷ [],
         (
-          state new (slice_set slots k (Some start)) v now,
+          state new (slice_set slots k (Some start)) w now,
           record {
             reader = reader;
             writer = writer;

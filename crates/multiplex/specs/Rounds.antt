@@ -8,7 +8,7 @@ use Rattle.multiplex.specs.Alone.{steps_at}
 
 -- a connection came, and got a slot
 abbrev pub is_arrival : {E : Type 0} → LoopTurn E → Bool
-is_arrival turn = elim turn [ Accepts k listener ↦ true | Calls k made ↦ true | _ ↦ false ]
+is_arrival turn = elim turn [ Accepts k origin ↦ true | Calls k made ↦ true | _ ↦ false ]
 
 -- something was done: at a connection, or one was closed
 abbrev pub makes_progress : {E : Type 0} → LoopTurn E → Bool

@@ -17,7 +17,7 @@ AreAllFree slots = All (λ slot. slot ≡ None) slots
 -- it was asked who comes, or no slot was free for one that comes
 abbrev pub has_asked : {E : Type 0} → LoopTurn E → Bool
 has_asked turn = elim turn [
-  | Accepts slot listener ↦ true
+  | Accepts slot origin ↦ true
   | AcceptFails ↦ true
   | AcceptsNobody ↦ true
   | HasNoSlot ↦ true

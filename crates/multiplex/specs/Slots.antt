@@ -1,10 +1,13 @@
 -- Connections in their slots: what waits to be written there, when one is at rest, and when it may
 -- be closed.
-use Rattle.std.specs.Prelude.{◌≡◌, ◌≢◌, ◌⊎◌, ℕ, ◌+◌, ◌^◌, ◌<◌, ◌≤◌, Bool, true, false, nat_lt, List, [], length, sum_by, slice_get, Option, None, Some}
+use Rattle.std.specs.Prelude.{◌≡◌, ◌≢◌, ◌⊎◌, ℕ, ◌+◌, ◌-◌, ◌^◌, ◌==◌, ◌<◌, ◌≤◌, min, if◌then◌else◌, is_some, Bool, true, false, nat_lt, List, [], length, sum_by, slice_get, Option, None, Some}
 use Rattle.std.specs.Option.{option_map_or}
 use Rattle.multiplex.specs.declared.handler.SlotEnd.{SlotEnd}
 use Rattle.multiplex.specs.declared.handler.SlotEnd.TheVariants.{Finished, EndOfInput}
 use Rattle.multiplex.specs.declared.source.Call.{Call}
+use Rattle.multiplex.specs.declared.stay.Party.{Party}
+use Rattle.multiplex.specs.declared.stay.Party.TheVariants.{Called}
+use Rattle.multiplex.specs.declared.stay.Stay.{Stay}
 use Rattle.multiplex.specs.Behavior.{Behavior}
 
 -- a connection, the bytes that wait to be written, its end, once it has one, and whether something
@@ -21,28 +24,38 @@ pub record Slot (H R W E : Type 0) : Type 0 where
   pub heard : ℕ
   pub readable : Bool
   pub writable : Bool
-  -- of a call, whose it is
-  pub callee : Option ℕ
+  -- till when what is to be written waits, where it does
+  pub held : Option ℕ
+  pub stay : Stay
+
+-- what is known of a connection that begins
+abbrev pub begun : Party → (now : ℕ) → Stay
+begun party now = record { party = party; began = now; answered = 0 }
+
+-- once more what it brought was answered; the count stops at the greatest u64
+abbrev pub answered_once_more : Stay → Stay
+answered_once_more stay = record stay { answered = min (stay.answered + 1) (2 ^ 64 - 1) }
 
 -- a connection that begins, with what is to be written first
-abbrev pub first_slot : {H R W E : Type 0} → H → R → W → List ℕ → (now : ℕ) → Slot H R W E
-first_slot handler reader writer made now = record {
+abbrev pub first_slot : {H R W E : Type 0} → Stay → H → R → W → List ℕ → Slot H R W E
+first_slot stay handler reader writer made = record {
   handler = handler;
   reader = reader;
   writer = writer;
   waiting = made;
   ending = None;
-  active = now;
-  heard = now;
+  active = stay.began;
+  heard = stay.began;
   readable = true;
   writable = true;
-  callee = None;
+  held = None;
+  stay = stay;
 }
 
 -- a call that begins, with what is to be written first
 abbrev pub calling_slot : {H R W E : Type 0} → H → Call R W → List ℕ → (now : ℕ) → Slot H R W E
 calling_slot handler call made now =
-    record (first_slot handler call.reader call.writer made now) { callee = Some call.callee }
+    first_slot (begun (Called call.callee) now) handler call.reader call.writer made
 
 -- so long, in milliseconds, a connection that isn't established keeps its slot without bringing a
 -- whole message
@@ -82,9 +95,17 @@ MayClose slot = elim slot.ending [
   ]
 ]
 
--- nothing waits to be written, or it can't be now, or never can
+-- an answer that waits so many milliseconds before it is written is held till then; one that
+-- waits for none isn't held
+abbrev pub held_until : (now delay : ℕ) → Option ℕ
+held_until now delay =
+    if delay == 0 then None else Some (min (now + delay) (2 ^ 64 - 1))
+
+-- nothing waits to be written, or it can't be now, or is held, or never can
 abbrev pub IsWriteAtRest : {H R W E : Type 0} → Slot H R W E → Type 0
-IsWriteAtRest slot = (slot.waiting ≡ []) ⊎ ((slot.writable ≡ false) ⊎ MayClose slot)
+IsWriteAtRest slot =
+    (slot.waiting ≡ [])
+    ⊎ ((slot.writable ≡ false) ⊎ ((is_some slot.held ≡ true) ⊎ MayClose slot))
 
 -- all that was there was read, and nothing whole stands first in it; or something waits to be
 -- written there; or there is no room for answers

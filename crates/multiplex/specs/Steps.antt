@@ -7,7 +7,7 @@ use Rattle.multiplex.specs.declared.handler.SlotEnd.TheVariants.{Finished, EndOf
 use Rattle.multiplex.specs.Input.{Input}
 use Rattle.multiplex.specs.Output.{Output}
 use Rattle.multiplex.specs.Behavior.{Behavior}
-use Rattle.multiplex.specs.Slots.{Slot, IsResponsive, IsUnheard}
+use Rattle.multiplex.specs.Slots.{Slot, answered_once_more, held_until, IsResponsive, IsUnheard}
 
 -- what may happen at a connection
 pub data Step (E : Type 0) : Type 0 where
@@ -23,6 +23,8 @@ pub data Step (E : Type 0) : Type 0 where
   Stops : SlotEnd E → Step E
   -- nothing more was there to read; nothing more could be written; either may be otherwise now
   FindsEmpty FindsFull Wakes : Step E
+  -- what waits may be written, which was held till now
+  Releases : Step E
 
 -- it was asked for an answer, which it had or lacked
 abbrev pub is_asked : {E : Type 0} → Step E → Bool
@@ -92,24 +94,27 @@ module _ {H R W V E : Type 0} (input : Input R) (output : Output W) (handler : B
   pub record IsAnswering (now : ℕ) (v : V) (old : Slot H R W E) (made : List ℕ) (end : Option E)
       (w : V) (new : Slot H R W E) : Type 0 where
     pub responsive : IsResponsive old
-    pub answers : handler.answers v old.handler made end w new.handler
+    pub answers : handler.answers old.stay v old.handler made end w new.handler
     pub others : new ≡ record old {
       handler = new.handler;
       waiting = made;
       ending = option_map Finished end;
       heard = now;
+      held = held_until now (handler.delay old.stay w new.handler);
+      stay = answered_once_more old.stay;
     }
 
   -- nothing whole stood first
   pub record IsLack (v : V) (old : Slot H R W E) (w : V) (new : Slot H R W E) : Type 0 where
-    pub answers : handler.answers v old.handler [] None w new.handler
+    pub answers : handler.answers old.stay v old.handler [] None w new.handler
     pub lacks : handler.needs_more new.handler
     pub others : new ≡ record old { handler = new.handler }
 
-  -- these bytes were written, one at least, which waited first
+  -- these bytes were written, one at least, which waited first and aren't held
   pub record IsWrite (now : ℕ) (old : Slot H R W E) (bytes : List ℕ)
       (new : Slot H R W E) : Type 0 where
     pub some : 0 < length bytes
+    pub free : old.held ≡ None
     pub first : old.waiting ≡ bytes ++ new.waiting
     pub appends : Appends (output.written old.writer) (output.written new.writer) bytes
     pub others : new ≡ record old { writer = new.writer; waiting = new.waiting; active = now }
@@ -145,6 +150,13 @@ module _ {H R W V E : Type 0} (input : Input R) (output : Output W) (handler : B
     pub full : output.is_full new.writer
     pub others : new ≡ record old { writer = new.writer; writable = false }
 
+  -- what waits isn't held any more, since the time has come
+  pub record IsRelease (now : ℕ) (old new : Slot H R W E) : Type 0 where
+    pub until : ℕ
+    pub was : old.held ≡ Some until
+    pub past : until ≤ now
+    pub others : new ≡ record old { held = None }
+
   -- what happened at a connection, at this time, between two states of the world
   abbrev pub IsStep : ℕ → V → Slot H R W E → Step E → V → Slot H R W E → Type 0
   IsStep now v old (Receives bytes made end) w new = (w ≡ v) × IsReceipt now old bytes made end new
@@ -154,6 +166,7 @@ module _ {H R W V E : Type 0} (input : Input R) (output : Output W) (handler : B
   IsStep now v old (Stops ending) w new = (w ≡ v) × IsStop now old ending new
   IsStep now v old FindsEmpty w new = (w ≡ v) × HasFoundEmpty old new
   IsStep now v old FindsFull w new = (w ≡ v) × HasFoundFull old new
+  IsStep now v old Releases w new = (w ≡ v) × IsRelease now old new
   IsStep now v old Wakes w new = (w ≡ v) × (new ≡ record old { readable = true; writable = true })
 
   -- one step after the other, all at this time; none is answered where there is no room, and none

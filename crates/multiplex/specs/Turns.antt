@@ -3,12 +3,14 @@ use Rattle.std.specs.Prelude.{◌≡◌, ℕ, ◌≤◌, ◌<◌, Bool, true, fa
 use Rattle.multiplex.specs.declared.handler.SlotEnd.{SlotEnd}
 use Rattle.multiplex.specs.declared.source.Arrival.TheVariants.{Nobody, Failed, Connection}
 use Rattle.multiplex.specs.declared.source.Call.{Call}
+use Rattle.multiplex.specs.declared.stay.Origin.{Origin}
+use Rattle.multiplex.specs.declared.stay.Party.TheVariants.{Accepted}
 use Rattle.multiplex.specs.declared.limits.Limits.{Limits}
 use Rattle.multiplex.specs.Effects.{Effects}
 use Rattle.multiplex.specs.Input.{Input}
 use Rattle.multiplex.specs.Output.{Output}
 use Rattle.multiplex.specs.Behavior.{Behavior}
-use Rattle.multiplex.specs.Slots.{Slot, first_slot, calling_slot, has_room, AreTaken, IsAtRestAt, IsLongestUnheard, MayClose}
+use Rattle.multiplex.specs.Slots.{Slot, begun, first_slot, calling_slot, has_room, AreTaken, IsAtRestAt, IsLongestUnheard, MayClose}
 use Rattle.multiplex.specs.Steps.{Step, IsAllowed, IsStep}
 
 -- what connections come from, their slots, of which some are free, the world, and the time
@@ -28,8 +30,8 @@ state source slots world now =
 pub data LoopTurn (E : Type 0) : Type 0 where
   -- it was waited, and this is the time then
   Waits : (busy : Bool) → (now : ℕ) → LoopTurn E
-  -- a connection came to this listener, and got this slot
-  Accepts : (slot listener : ℕ) → LoopTurn E
+  -- a connection came from there, and got this slot
+  Accepts : (slot : ℕ) → Origin → LoopTurn E
   -- a connection came and failed; nobody came; no slot is free for one that comes
   AcceptFails AcceptsNobody HasNoSlot : LoopTurn E
   -- a call began, and got this slot
@@ -49,7 +51,7 @@ is_wait turn = elim turn [ Waits busy now ↦ true | _ ↦ false ]
 
 -- a connection was accepted, also one that failed
 abbrev pub is_accepted : {E : Type 0} → LoopTurn E → Bool
-is_accepted turn = elim turn [ Accepts slot listener ↦ true | AcceptFails ↦ true | _ ↦ false ]
+is_accepted turn = elim turn [ Accepts slot origin ↦ true | AcceptFails ↦ true | _ ↦ false ]
 
 -- how many times it was waited
 abbrev pub count_waits : {E : Type 0} → List (LoopTurn E) → ℕ
@@ -61,27 +63,31 @@ count_accepted turns = count_by is_accepted turns
 
 module _ {S H R W V E : Type 0} (source : Effects S R W) (input : Input R) (output : Output W)
     (handler : Behavior H V E) (limits : Limits) where
-  -- it was waited; where nothing was to be done at once, each connection was at rest
+  -- it was waited, and the world was told the time; where nothing was to be done at once, each
+  -- connection was at rest
   pub record IsWait (old : Loop S H R W V E) (busy : Bool) (now : ℕ)
       (new : Loop S H R W V E) : Type 0 where
     pub rest : busy ≡ false → (k : ℕ)
         → IsAtRestAt handler (has_room limits.waiting_bytes old.slots) old.slots k
     pub waited : source.waited old.source busy now new.source
-    pub others : new ≡ record old { source = new.source; now = now }
+    pub longest_turn : ℕ
+    pub passes : handler.passes old.world now longest_turn new.world
+    pub others : new ≡ record old { source = new.source; world = new.world; now = now }
 
   -- a connection came, and got a free slot of those for accepted ones
-  pub record IsAccept (old : Loop S H R W V E) (k listener : ℕ)
+  pub record IsAccept (old : Loop S H R W V E) (k : ℕ) (origin : Origin)
       (new : Loop S H R W V E) : Type 0 where
     pub reader : R
     pub writer : W
     pub first : H
     pub within : k < limits.accept_slots
     pub free : slice_get old.slots k ≡ Some None
-    pub accepted : source.accepted old.source (Connection listener reader writer) new.source
-    pub begins : handler.begins listener first
+    pub accepted : source.accepted old.source (Connection origin reader writer) new.source
+    pub begins : handler.begins origin old.world first new.world
     pub others : new ≡ record old {
       source = new.source;
-      slots = slice_set old.slots k (Some (first_slot first reader writer [] old.now));
+      world = new.world;
+      slots = slice_set old.slots k (Some (first_slot (begun (Accepted origin) old.now) first reader writer []));
     }
 
   -- a connection came and failed, and the world was told
@@ -135,7 +141,7 @@ module _ {S H R W V E : Type 0} (source : Effects S R W) (input : Input R) (outp
     pub there : slice_get old.slots k ≡ Some (Some slot)
     pub may : MayClose slot
     pub ended : slot.ending ≡ Some ending
-    pub closes : handler.closes slot.callee old.world slot.handler ending new.world
+    pub closes : handler.closes slot.stay old.world slot.handler ending new.world
     pub closed : source.closed old.source slot.reader slot.writer new.source
     pub others : new ≡ record old {
       source = new.source;
@@ -150,7 +156,7 @@ module _ {S H R W V E : Type 0} (source : Effects S R W) (input : Input R) (outp
   -- what happened in one turn
   abbrev pub IsLoopTurn : Loop S H R W V E → LoopTurn E → Loop S H R W V E → Type 0
   IsLoopTurn old (Waits busy now) new = IsWait old busy now new
-  IsLoopTurn old (Accepts k listener) new = IsAccept old k listener new
+  IsLoopTurn old (Accepts k origin) new = IsAccept old k origin new
   IsLoopTurn old AcceptFails new = IsFailedAccept old new
   IsLoopTurn old AcceptsNobody new = ChangesSource (source.accepted old.source Nobody) old new
   IsLoopTurn old HasNoSlot new = AreTaken limits.accept_slots old.slots × (new ≡ old)

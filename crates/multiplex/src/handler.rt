@@ -5,6 +5,7 @@ ghost use Rattle.multiplex.specs.declared.handler.Progress.TheVariants.{NeedsMor
 ghost use Rattle.multiplex.specs.Behavior.{Behavior, MovesAddUp};
 ghost use Rattle.multiplex.specs.Progress.{end_in};
 
+use crate::stay::{Origin, Stay};
 use std::alloc::Global;
 
 /// How a connection ended.
@@ -47,9 +48,13 @@ pub trait Handler: Drop {
     /// What its calls do.
     ghost behavior: { Behavior Self Self.World Self.End };
 
-    /// The handler of a connection that was accepted at this listener, before its first byte.
-    fn begin(alloc: Global, listener: usize) -> Self
-        ensures { behavior.begins listener result };
+    /// It is this time now, in milliseconds, and the longest turn of a connection so far took so many.
+    fn pass(world: &mut Self::World, now: u64, longest_turn: u64)
+        ensures { behavior.passes world.old now longest_turn world.new };
+
+    /// The handler of a connection that was accepted and came from there, before its first byte.
+    fn begin(alloc: Global, origin: Origin, world: &mut Self::World) -> Self
+        ensures { behavior.begins origin world.old result world.new };
 
     /// The handler of a connection that is called, before its first byte, whose callee has this number. What is to be
     /// written first is appended to `out`. None where no call can be made now; what was appended is dropped then.
@@ -67,26 +72,37 @@ pub trait Handler: Drop {
         ensures { (made : List ℕ) × (out.new.items ≡ out.old.items ++ made)
             × behavior.receives self.old bytes.now made result self.new };
 
-    /// Answers what stands first in what came, if it is whole. The answer is appended to `out`.
-    fn answer(&mut self, world: &mut Self::World, out: &mut Vec<u8>) -> Progress<Self::End>
+    /// Answers what stands first in what came on its connection, of which this is known, if it is whole. The answer is
+    /// appended to `out`.
+    fn answer(
+        &mut self,
+        stay: Stay,
+        world: &mut Self::World,
+        out: &mut Vec<u8>,
+    ) -> Progress<Self::End>
         ensures answers { (made : List ℕ) × (out.new.items ≡ out.old.items ++ made)
-            × behavior.answers world.old self.old made (end_in result) world.new self.new }
+            × behavior.answers stay world.old self.old made (end_in result) world.new self.new }
         ensures needs_more { result ≡ NeedsMore
             → (out.new.items ≡ out.old.items) × behavior.needs_more self.new };
+
+    /// How many milliseconds the answer waits before it is written that it made last, over this world. Till then nothing is
+    /// read or answered there.
+    fn delay(&self, stay: Stay, world: &Self::World) -> u64
+        ensures { result ≡ behavior.delay stay world.now self.now };
 
     /// Whether it is established. One that isn't, and brings no whole message for too long, has to make place for the
     /// next connection where every slot is taken.
     fn is_established(&self) -> bool
         ensures { result ≡ behavior.is_established self.now };
 
-    /// Its connection ended so, and is given back: the last call.
-    fn close(self, callee: Option<usize>, world: &mut Self::World, ending: SlotEnd<Self::End>)
-        ensures { behavior.closes callee world.old self ending world.new };
+    /// Its connection, of which this is known, ended so, and is given back: the last call.
+    fn close(self, stay: Stay, world: &mut Self::World, ending: SlotEnd<Self::End>)
+        ensures { behavior.closes stay world.old self ending world.new };
 
     /// A connection came at a listener, and failed before it could be used.
     fn fail_accept(world: &mut Self::World, now: u64)
         ensures { behavior.fails_accept world.old now world.new };
 
-    /// What answers, calls, ends and failed connections do are moves of the world.
+    /// What passing time, connections that begin, answers, calls, ends and failed connections do are moves of the world.
     ghost moves_add_up: { MovesAddUp behavior };
 }

@@ -9,6 +9,7 @@ mod limits;
 mod serving;
 mod slot;
 mod source;
+mod stay;
 mod transfer;
 mod turns;
 
@@ -18,4 +19,5 @@ pub use limits::{Limits, ServeReport};
 pub use serving::serve;
 pub use slot::Slot;
 pub use source::{Arrival, Call, Source};
+pub use stay::{Origin, Party, Stay};
 pub use transfer::{NonBlockingRead, NonBlockingWrite, ReadAttempt, WriteAttempt};

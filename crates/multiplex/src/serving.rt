@@ -10,6 +10,7 @@ use crate::handler::Handler;
 use crate::limits::{Limits, Round, ServeReport};
 use crate::slot::Slot;
 use crate::source::{Arrival, Source};
+use crate::stay::{Party, Stay};
 use crate::turns::serve_round;
 use std::alloc::Global;
 
@@ -70,12 +71,13 @@ fn accept_at<S: Source, H: Handler>(
 {
     match source.accept(place) {
         Arrival::Connection {
-            listener,
+            origin,
             reader,
             writer,
         } => {
-            let first = H::begin(round.alloc, listener);
-            let slot = Slot::new(first, reader, writer, Vec::new(round.alloc), round.now);
+            let first = H::begin(round.alloc, origin, world);
+            let stay = Stay::begin(Party::Accepted(origin), round.now);
+            let slot = Slot::new(stay, first, reader, writer, Vec::new(round.alloc));
             slots[place] = Some(slot);
             1
         }
@@ -131,8 +133,8 @@ fn begin_call<S: Source, H: Handler>(
     let mut out = Vec::new(round.alloc);
     match H::call(round.alloc, call.callee, world, &mut out) {
         Some(first) => {
-            let slot = Slot::new(first, call.reader, call.writer, out, round.now);
-            Some(slot.calling(call.callee))
+            let stay = Stay::begin(Party::Called(call.callee), round.now);
+            Some(Slot::new(stay, first, call.reader, call.writer, out))
         }
         None => {
             source.close(place, call.reader, call.writer);
@@ -196,6 +198,7 @@ pub fn serve<S: Source, H: Handler>(
             };
         }
         let now = source.wait(busy);
+        H::pass(world, now, longest_turn);
         let may_call = is_open(slots, accepted, limits);
         let round = Round {
             alloc,

@@ -3,10 +3,11 @@
 ghost use Rattle.std.specs.Prelude.{◌≡◌, ◌<◌, ◌⊎◌, ◌↔◌, Bool, IsTrue, false, true, ℕ, length, [], Some, IfSome, IfNone};
 ghost use Rattle.std.specs.Option.{option_map};
 ghost use Rattle.multiplex.specs.declared.handler.SlotEnd.TheVariants.{Finished, Displaced};
-ghost use Rattle.multiplex.specs.Slots.{first_slot, IsResponsive, IsUnheard, IsQuiet, IsReadQuiet, IsWriteAtRest, MayClose};
+ghost use Rattle.multiplex.specs.Slots.{first_slot, IsResponsive, held_until, IsUnheard, IsQuiet, IsReadQuiet, IsWriteAtRest, MayClose};
 ghost use Rattle.multiplex.specs.Steps.{IsVisit, TakesSteps};
 
 use crate::handler::{Handler, Progress, SlotEnd};
+use crate::stay::Stay;
 use crate::transfer::{NonBlockingRead, NonBlockingWrite, ReadAttempt, WriteAttempt};
 use std::alloc::Global;
 use std::marker::Model;
@@ -36,8 +37,9 @@ pub struct Slot<H, R, W, E> {
     // whether something may be there to read, or may be written
     readable: bool,
     writable: bool,
-    // of a call, whose it is
-    callee: Option<usize>,
+    // till when what is to be written waits, where it does
+    held: Option<u64>,
+    stay: Stay,
 }
 
 impl<H, R, W, E> Model for Slot<H, R, W, E> {
@@ -56,16 +58,17 @@ impl<H, R, W, E> Model for Slot<H, R, W, E> {
       heard = s.heard;
       readable = s.readable;
       writable = s.writable;
-      callee = s.callee;
+      held = s.held;
+      stay = s.stay;
     } };
 
     ghost invariant = { λ s. s.sent ≤ length s.out.items };
 }
 
 impl<H, R, W, E> Slot<H, R, W, E> {
-    /// A connection that begins now, with what is to be written first.
-    pub(crate) fn new(handler: H, reader: R, writer: W, out: Vec<u8>, now: u64) -> Self
-        ensures { result ≡ first_slot handler reader writer out.items now }
+    /// A connection that begins, with what is to be written first.
+    pub(crate) fn new(stay: Stay, handler: H, reader: R, writer: W, out: Vec<u8>) -> Self
+        ensures { result ≡ first_slot stay handler reader writer out.items }
     {
         Slot {
             handler,
@@ -74,20 +77,13 @@ impl<H, R, W, E> Slot<H, R, W, E> {
             out,
             sent: 0,
             ending: None,
-            active: now,
-            heard: now,
+            active: stay.began,
+            heard: stay.began,
             readable: true,
             writable: true,
-            callee: None,
+            held: None,
+            stay,
         }
-    }
-
-    /// The same as a call of this callee.
-    pub(crate) fn calling(mut self, callee: usize) -> Self
-        ensures { result ≡ record self { callee = Some callee } }
-    {
-        self.callee = Some(callee);
-        self
     }
 
     /// How many bytes wait to be written.
@@ -115,9 +111,10 @@ impl<H, R, W, E> Slot<H, R, W, E> {
     /// Whether some of what waits may be written now.
     fn may_write(&self) -> bool
         ensures waiting { IsTrue result → 0 < length self.now.waiting }
+        ensures free { IsTrue result → self.now.held ≡ None }
         ensures rest { result ≡ false → IsWriteAtRest self.now }
     {
-        self.sent < self.out.len() && self.writable
+        self.sent < self.out.len() && self.writable && self.held.is_none()
     }
 
     /// Whether it is over, and all was written that can be.
@@ -164,6 +161,17 @@ fn finished<E>(end: Option<E>) -> Option<SlotEnd<E>>
     }
 }
 
+/// Till when an answer waits that is made now and waits so many milliseconds, if it waits at all.
+fn held_until(now: u64, delay: u64) -> Option<u64>
+    ensures { result ≡ held_until now delay }
+{
+    if delay == 0 {
+        None
+    } else {
+        Some(now.saturating_add(delay))
+    }
+}
+
 /// Whether one of both is so.
 pub(crate) fn either(one: bool, other: bool) -> bool
     ensures some { result ≡ true → (one ≡ true) ⊎ (other ≡ true) }
@@ -193,9 +201,9 @@ impl<H: Handler, R: NonBlockingRead, W: NonBlockingWrite> Slot<H, R, W, H::End> 
     /// Tells its handler that it ended so. Its reader and its writer.
     pub(crate) fn close(self, world: &mut H::World, ending: SlotEnd<H::End>) -> (R, W)
         ensures ends { result ≡ (self.reader, self.writer) }
-        ensures tells { H.behavior.closes self.callee world.old self.handler ending world.new }
+        ensures tells { H.behavior.closes self.stay world.old self.handler ending world.new }
     {
-        self.handler.close(self.callee, world, ending);
+        self.handler.close(self.stay, world, ending);
         (self.reader, self.writer)
     }
 
@@ -216,6 +224,7 @@ impl<H: Handler, R: NonBlockingRead, W: NonBlockingWrite> Slot<H, R, W, H::End> 
         ensures rest { result ≡ false → IsQuiet H.behavior room self.new }
     {
         self.wake_if(ready);
+        self.release(now);
         let advanced = self.advance(room, world, now);
         let wrote = self.write_next(now);
         self.stop_if_idle(now);
@@ -232,6 +241,20 @@ impl<H: Handler, R: NonBlockingRead, W: NonBlockingWrite> Slot<H, R, W, H::End> 
         if ready {
             self.readable = true;
             self.writable = true;
+        }
+    }
+
+    /// What waits may be written, where it was held till now at most.
+    fn release(&mut self, now: u64)
+        ensures steps { (v : H.World) (room : Bool)
+            → TakesSteps R.input W.output H.behavior (IsVisit 0 0 0 false) room now v self.old v
+            self.new }
+        ensures same { self.new.waiting ≡ self.old.waiting }
+    {
+        if let Some(until) = self.held {
+            if until <= now {
+                self.held = None;
+            }
         }
     }
 
@@ -256,7 +279,8 @@ impl<H: Handler, R: NonBlockingRead, W: NonBlockingWrite> Slot<H, R, W, H::End> 
 
     /// Writes some of what waits. Whether some was written.
     fn write_some(&mut self, now: u64) -> bool
-        requires { 0 < length self.old.waiting }
+        requires waiting { 0 < length self.old.waiting }
+        requires free { self.old.held ≡ None }
         ensures steps { (v : H.World) (room : Bool)
             → TakesSteps R.input W.output H.behavior (IsVisit 0 0 1 result) room now
             v self.old v self.new }
@@ -324,14 +348,18 @@ impl<H: Handler, R: NonBlockingRead, W: NonBlockingWrite> Slot<H, R, W, H::End> 
         ensures lacks { result ≡ false
             → IsResponsive self.new × H.behavior.needs_more self.new.handler }
     {
-        match self.handler.answer(world, &mut self.out) {
+        match self.handler.answer(self.stay, world, &mut self.out) {
             Progress::NeedsMore => false,
             Progress::Answered => {
                 self.heard = now;
+                self.held = held_until(now, self.handler.delay(self.stay, world));
+                self.stay = self.stay.answered_once_more();
                 true
             }
             Progress::Ended(end) => {
                 self.heard = now;
+                self.held = held_until(now, self.handler.delay(self.stay, world));
+                self.stay = self.stay.answered_once_more();
                 self.ending = Some(SlotEnd::Finished(end));
                 true
             }

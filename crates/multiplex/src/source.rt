@@ -2,6 +2,7 @@
 
 ghost use Rattle.multiplex.specs.Effects.{Effects};
 
+use crate::stay::Origin;
 use crate::transfer::{NonBlockingRead, NonBlockingWrite};
 
 /// Who came to a listener.
@@ -12,8 +13,8 @@ pub enum Arrival<R, W> {
     Failed,
     /// A connection came.
     Connection {
-        /// The number of the listener that it came to.
-        listener: usize,
+        /// Where it came from.
+        origin: Origin,
         /// What its other end writes.
         reader: R,
         /// What its other end reads.

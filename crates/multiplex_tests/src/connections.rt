@@ -146,7 +146,31 @@ struct Row {
     failed: &'static [u64],
 }
 
-static ROWS: [Row; 17] = [
+static ROWS: [Row; 18] = [
+    // an answer that waits holds its own connection alone, and is written when its second is over
+    Row {
+        clients: &[
+            Client {
+                text: b"~\nb\n",
+                ..PLAIN
+            },
+            Client {
+                text: b"c\nd\n",
+                ..PLAIN
+            },
+        ],
+        limits: Limits {
+            connections: Some(2),
+            ..WIDE
+        },
+        calls: 0,
+        tick: 500,
+        is_done: true,
+        closed: &[(1, 1, b"c\nd\n"), (0, 0, b"~\nb\n")],
+        ends: &[(0, SlotEnd::EndOfInput), (0, SlotEnd::EndOfInput)],
+        answers: b"0~0c0d0b",
+        failed: &[],
+    },
     // one message of each client in a round
     Row {
         clients: &[
@@ -568,5 +592,30 @@ fn scripts_come_to_what_is_said(rt: HostRuntime) -> Result<(), Fail> {
     for (number, row) in ROWS.iter().enumerate() {
         assert!(rt; is_as_said(rt.alloc(), row)?, "{number}");
     }
+    Ok(())
+}
+
+#[test]
+fn a_connection_knows_when_it_began_and_how_often_it_was_answered(
+    rt: HostRuntime,
+) -> Result<(), Fail> {
+    let late = Client {
+        comes: 7,
+        text: b"a\nb\nc\n",
+        ..PLAIN
+    };
+    let clients = [
+        Client {
+            text: b"d\n\n",
+            ..PLAIN
+        },
+        late,
+    ];
+    let limits = Limits {
+        connections: Some(2),
+        ..WIDE
+    };
+    let played = play(rt.alloc(), &clients, limits, 4, 0, 1)?;
+    assert!(rt; played.world.stays.as_slice() == [(2, 0), (3, 7)].as_slice());
     Ok(())
 }

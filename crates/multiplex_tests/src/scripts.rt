@@ -4,8 +4,8 @@
 ghost use Rattle.std.specs.Prelude.{◌<◌, ◌≤◌, None};
 
 use multiplex::{
-    Arrival, Call, Handler, Limits, NonBlockingRead, NonBlockingWrite, Progress, ReadAttempt,
-    ServeReport, Slot, SlotEnd, Source, WriteAttempt, serve,
+    Arrival, Call, Handler, Limits, NonBlockingRead, NonBlockingWrite, Origin, Party, Progress,
+    ReadAttempt, ServeReport, Slot, SlotEnd, Source, Stay, WriteAttempt, serve,
 };
 use std::alloc::{AllocError, Global};
 
@@ -178,7 +178,10 @@ impl<'a> Source for Script<'a> {
                 }
                 let (reader, writer) = self.ends_of(*client, number);
                 Arrival::Connection {
-                    listener: client.listener,
+                    origin: Origin {
+                        listener: client.listener,
+                        address: None,
+                    },
                     reader,
                     writer,
                 }
@@ -225,6 +228,10 @@ pub struct Notes {
     pub ends: Vec<(usize, SlotEnd<u8>)>,
     /// When connections failed at a listener.
     pub failed: Vec<u64>,
+    /// How often each connection that was closed was answered, and when it began.
+    pub stays: Vec<(u64, u64)>,
+    /// The time.
+    pub now: u64,
 }
 
 impl Notes {
@@ -234,17 +241,21 @@ impl Notes {
             answers: Vec::new(alloc),
             ends: Vec::new(alloc),
             failed: Vec::new(alloc),
+            stays: Vec::new(alloc),
+            now: 0,
         }
     }
 }
 
-/// Answers each line by itself, and notes it. An empty line ends the connection, and a line that begins by `!` establishes
-/// it.
+/// Answers each line by itself, and notes it. An empty line ends the connection, a line that begins by `!` establishes
+/// it, and the answer to one that begins by `~` waits a second.
 #[derive(Drop)]
 pub struct Echo {
     listener: usize,
     came: Vec<u8>,
     established: bool,
+    /// How many milliseconds its last answer waits.
+    delay: u64,
 }
 
 impl Echo {
@@ -260,13 +271,15 @@ impl Handler for Echo {
     type End = u8;
 
     ghost behavior = { record {
-      begins = λ listener h. Unit {0};
+      passes = λ v now longest_turn w. w ≡ record v { now = now };
+      begins = λ origin v h w. Unit {0};
       calls = λ callee v made h w. Unit {0};
       receives = λ old bytes made end new. Unit {0};
-      answers = λ v old made end w new. Unit {0};
+      answers = λ stay v old made end w new. Unit {0};
       needs_more = λ h. Unit {0};
+      delay = λ stay v h. h.delay;
       is_established = λ h. h.established;
-      closes = λ callee v h ending w. Unit {0};
+      closes = λ stay v h ending w. Unit {0};
       fails_accept = λ v now w. Unit {0};
       moves = λ v w. Unit {0};
     } };
@@ -274,23 +287,34 @@ impl Handler for Echo {
     ghost moves_add_up = { record {
       none = λ v. tt;
       more = λ u v w first later. tt;
-      answers = λ v w old new made end is. tt;
+      passes = λ v w now longest_turn is. tt;
+      begins = λ origin v w h is. tt;
+      answers = λ stay v w old new made end is. tt;
       calls = λ callee v w made h is. tt;
-      closes = λ callee v w h ending is. tt;
+      closes = λ stay v w h ending is. tt;
       fails_accept = λ v w now is. tt;
     } };
 
-    fn begin(alloc: Global, listener: usize) -> Echo {
+    fn pass(world: &mut Notes, now: u64, _longest_turn: u64) {
+        world.now = now;
+    }
+
+    fn begin(alloc: Global, origin: Origin, _world: &mut Notes) -> Echo {
         Echo {
-            listener,
+            listener: origin.listener,
             came: Vec::new(alloc),
             established: false,
+            delay: 0,
         }
     }
 
-    fn call(alloc: Global, _callee: usize, _world: &mut Notes, out: &mut Vec<u8>) -> Option<Echo> {
+    fn call(alloc: Global, _callee: usize, world: &mut Notes, out: &mut Vec<u8>) -> Option<Echo> {
+        let origin = Origin {
+            listener: 1,
+            address: None,
+        };
         match out.extend_from_slice(b"call") {
-            Ok(()) => Some(Echo::begin(alloc, 1)),
+            Ok(()) => Some(Echo::begin(alloc, origin, world)),
             Err(_) => None,
         }
     }
@@ -302,7 +326,7 @@ impl Handler for Echo {
         }
     }
 
-    fn answer(&mut self, world: &mut Notes, out: &mut Vec<u8>) -> Progress<u8> {
+    fn answer(&mut self, _stay: Stay, world: &mut Notes, out: &mut Vec<u8>) -> Progress<u8> {
         let Some(at) = self.came.iter().position(|byte| *byte == b'\n') else {
             return Progress::NeedsMore;
         };
@@ -311,6 +335,7 @@ impl Handler for Echo {
         if first == b'!' {
             self.established = true;
         }
+        self.delay = if first == b'~' { 1_000 } else { 0 };
         let made = out.extend_from_slice(&self.came[..=at]);
         self.came.drain(..=at);
         match made {
@@ -319,14 +344,19 @@ impl Handler for Echo {
         }
     }
 
+    fn delay(&self, _stay: Stay, _world: &Notes) -> u64 {
+        self.delay
+    }
+
     fn is_established(&self) -> bool {
         self.established
     }
 
-    fn close(self, _callee: Option<usize>, world: &mut Notes, ending: SlotEnd<u8>)
+    fn close(self, stay: Stay, world: &mut Notes, ending: SlotEnd<u8>)
         ensures { Unit {0} }
     {
         let _ = world.ends.push((self.listener, ending));
+        let _ = world.stays.push((stay.answered, stay.began));
     }
 
     fn fail_accept(world: &mut Notes, now: u64) {

@@ -4,6 +4,7 @@ use Rattle.ua_settings.specs.declared.keys.Section.{Section}
 use Rattle.std.specs.Option.{option_or}
 use Rattle.toml.specs.Data.{Members}
 use Rattle.ua_settings.specs.declared.keys.Wrong.{Wrong}
+use Rattle.ua_settings.specs.declared.password.PasswordLine.{PasswordLine}
 use Rattle.ua_settings.specs.File.{Rule, names_in, tables}
 use Rattle.ua_settings.specs.Judging.{Spot, wrong_from}
 
@@ -19,6 +20,6 @@ or_later section number given later =
 abbrev pub name_of : Rule → List ℕ
 name_of rule = rule.name
 
-abbrev pub wrong_in : Members → Wrong → Section → Option Spot
-wrong_in document wrong section = wrong_from (names_in document) wrong section 1
-    (tables document section)
+abbrev pub wrong_in : List PasswordLine → Members → Wrong → Section → Option Spot
+wrong_in lines document wrong section =
+    wrong_from (names_in lines document) wrong section 1 (tables document section)

@@ -5,4 +5,3 @@ pub mod Sounds
 pub mod Tables
 pub mod Wrongs
 pub mod FileParts
-pub mod ReadingParts

@@ -5,8 +5,7 @@ use Rattle.std.specs.Result.{result_map_both}
 use Rattle.std.proofs.lemmas.Bool.{and_parts, leb-true, false≢true}
 use Rattle.std.specs.List.{list_any, AllByRecursion}
 use Rattle.std.specs.Cmp.Lexicographic.{pointwise}
-use Rattle.toml.specs.Data.{Members, no_members}
-use Rattle.ua_session.specs.Users.{Allowed}
+use Rattle.toml.specs.Data.{Members}
 use Rattle.ua_session.specs.declared.identity.Access.{Access}
 use Rattle.ua_session.specs.declared.identity.User.{User as SessionUser}
 use Rattle.ua_binary.specs.Format.{IsOrStarved}
@@ -25,9 +24,13 @@ use Rattle.ua_settings.specs.declared.fault.SettingsFault.TheVariants.{OutOfMemo
 use Rattle.ua_settings.specs.declared.keys.Section.TheVariants.{User, Folder, Variable, Peer}
 use Rattle.ua_settings.specs.File.{tables, text_at, is_name, names_in}
 use Rattle.ua_settings.specs.Judging.{is_short}
-use Rattle.ua_settings.specs.Reading.{folder_in, variable_in, user_in, peer_in, table_at, truth_at, access_at, values_of_tables, space_fault, space_in, IsSpaceOrStarved, IsAcceptedOrStarved}
+use Rattle.ua_settings.specs.Reading.{folder_in, variable_in, user_in, users_in, table_at, truth_at, access_at, listed_in, values_of, values_in, space_fault, space_in, IsSpaceOrStarved, IsAcceptedOrStarved}
+use Rattle.ua_session.specs.Users.{Allowed}
+use Rattle.ua_settings.specs.declared.door.DoorSettings.{DoorSettings}
+use Rattle.ua_settings.specs.declared.door.WebSettings.{WebSettings}
 use Rattle.ua_settings.specs.declared.peers.PeerCall.{PeerCall}
-use Rattle.ua_settings.proofs.ReadingParts.{users_in, door_in}
+use Rattle.ua_settings.specs.declared.reading.Listed.{Listed}
+use Rattle.ua_settings.specs.declared.password.PasswordLine.{PasswordLine}
 use Rattle.ua_settings.specs.Settings.{SettingsValues}
 use Rattle.ua_settings.specs.Sound.{IsSound, IsSoundFolder, IsSoundVariable}
 use Rattle.ua_settings.proofs.Mapped.{any_of_mapped}
@@ -78,7 +81,7 @@ IsAmong ids entry = IfSome entry.folder (λ id. list_any (λ folder. pointwise n
 HasCountable : Entry → Type 0
 HasCountable entry = IsCountable entry.name
 
-module _ (document : Members) (sound : IsSound document) (folders : List FolderPlan)
+module _ (lines : List PasswordLine) (document : Members) (sound : IsSound lines document) (folders : List FolderPlan)
     (variables : List VariablePlan)
     (same_folders : map folder_of folders ≡ map folder_in (tables document Folder))
     (same_variables : map entry_of variables ≡ map variable_in (tables document Variable)) where
@@ -87,10 +90,10 @@ module _ (document : Members) (sound : IsSound document) (folders : List FolderP
   ids_planned =
       all_from entry_of HasPlannedId IsIdentified (λ variable held. held) variables
       (subst (AllByRecursion IsIdentified) (sym same_variables)
-      (all_to variable_in (IsSoundVariable (names_in document).folders) IsIdentified
+      (all_to variable_in (IsSoundVariable (names_in lines document).folders) IsIdentified
       (λ members held. name_bounds _ held.id) (tables document Variable) sound.variables))
 
-  folder_ids : (names_in document).folders ≡ map (λ folder. folder.id.now) folders
+  folder_ids : (names_in lines document).folders ≡ map (λ folder. folder.id.now) folders
   folder_ids =
       sym (map_twice (λ folder. folder.id) folder_in (tables document Folder))
       ∙ ap (map (λ folder. folder.id)) (sym same_folders)
@@ -98,7 +101,7 @@ module _ (document : Members) (sound : IsSound document) (folders : List FolderP
 
   lent_folder : (folder : Option (Bor (List ℕ)))
       → IfSome (option_copied folder) (λ id.
-      list_any (λ f. pointwise nat_eq f id) (names_in document).folders ≡ true)
+      list_any (λ f. pointwise nat_eq f id) (names_in lines document).folders ≡ true)
       → IfSome folder (λ id. list_any (λ f. pointwise nat_eq f.id.now id.now) folders ≡ true)
   lent_folder None held = tt
   lent_folder (Some id) held =
@@ -108,11 +111,11 @@ module _ (document : Members) (sound : IsSound document) (folders : List FolderP
   pub folders_planned : AllByRecursion (HasFolder folders) variables
   unfolding IsAmong
   folders_planned =
-      all_from entry_of (HasFolder folders) (IsAmong (names_in document).folders)
+      all_from entry_of (HasFolder folders) (IsAmong (names_in lines document).folders)
       (λ variable held. lent_folder variable.folder held) variables
-      (subst (AllByRecursion (IsAmong (names_in document).folders)) (sym same_variables)
-      (all_to variable_in (IsSoundVariable (names_in document).folders)
-      (IsAmong (names_in document).folders) (λ members held. held.folder)
+      (subst (AllByRecursion (IsAmong (names_in lines document).folders)) (sym same_variables)
+      (all_to variable_in (IsSoundVariable (names_in lines document).folders)
+      (IsAmong (names_in lines document).folders) (λ members held. held.folder)
       (tables document Variable) sound.variables))
 
   folders_short : AllByRecursion (λ folder. HasShortTexts (folder_of folder)) folders
@@ -129,7 +132,7 @@ module _ (document : Members) (sound : IsSound document) (folders : List FolderP
       all_from entry_of (λ variable. HasShortName (variable_of variable)) HasCountable
       (λ variable held. held) variables
       (subst (AllByRecursion HasCountable) (sym same_variables)
-      (all_to variable_in (IsSoundVariable (names_in document).folders) HasCountable
+      (all_to variable_in (IsSoundVariable (names_in lines document).folders) HasCountable
       (λ members held. short_length _ held.name) (tables document Variable) sound.variables))
 
   pub plan_short : (plan : Plan) → plan.folders.now ≡ folders → plan.variables.now ≡ variables
@@ -190,19 +193,6 @@ space_built document plan result namespace folders variables is =
 
 -- ---- the settings of a sound document
 
-values_same : (document archive server : Members) (users : Allowed) (peers : List PeerCall)
-    (door : Option (List ℕ)) (space : Layout)
-    → archive ≡ table_at (codes "archive") document → server ≡ table_at (codes "server") document
-    → users ≡ users_in document → peers ≡ map peer_in (tables document Peer)
-    → door ≡ door_in document
-    → (record (values_of_tables archive server no_members [] [] space)
-    { users = users; peers = peers; door = door })
-    ≡ values_of_tables (table_at (codes "archive") document) (table_at (codes "server") document)
-    (table_at (codes "door") document) (tables document User) (tables document Peer) space
-values_same document archive server users peers door space a s u p d =
-    λ i. record (values_of_tables (a i) (s i) no_members [] [] space)
-    { users = u i; peers = p i; door = d i }
-
 given : (values : Layout → SettingsValues) (space : Layout) (made : Result Layout BuildFault)
     → Ok space ≡ result_map_both (λ space. space) Space made
     → Ok (values space) ≡ result_map_both values Space made
@@ -214,49 +204,75 @@ has_space : (document : Members) (space : Layout) → IsSpaceOrStarved document 
 has_space document space (inl starved) = absurd (false≢true (sym (ap is_ok starved)))
 has_space document space (inr is) = is
 
-pub accepted : (document archive server : Members) (users : Allowed) (peers : List PeerCall)
-    (door : Option (List ℕ)) (space : Layout) (result : Result SettingsValues SettingsFault)
+pub accepted : (lines : List PasswordLine) (document archive server : Members) (listed : Listed)
+    (space : Layout) (result : Result SettingsValues SettingsFault)
     → archive ≡ table_at (codes "archive") document → server ≡ table_at (codes "server") document
-    → users ≡ users_in document → peers ≡ map peer_in (tables document Peer)
-    → door ≡ door_in document → IsSpaceOrStarved document (Ok space)
-    → IfOk result (λ settings. settings
-    ≡ record (values_of_tables archive server no_members [] [] space)
-    { users = users; peers = peers; door = door })
+    → listed ≡ listed_in lines document space → IsSpaceOrStarved document (Ok space)
+    → IfOk result (λ settings. settings ≡ values_of archive server listed)
     → IfErr result (λ fault. fault ≡ OutOfMemory)
-    → IsAcceptedOrStarved document result
-accepted document archive server users peers door space (Ok settings) a s u p d is_space ok err =
-    inr (ap Ok (ok ∙ values_same document archive server users peers door space a s u p d)
-    ∙ given (values_of_tables (table_at (codes "archive") document)
-    (table_at (codes "server") document) (table_at (codes "door") document)
-    (tables document User) (tables document Peer)) space (space_in document)
+    → IsAcceptedOrStarved lines document result
+accepted lines document archive server listed space (Ok settings) a s l is_space ok err =
+    inr (ap Ok (ok ∙ (λ i. values_of (a i) (s i) (l i)))
+    ∙ given (values_in lines document) space (space_in document)
     (has_space document space is_space))
-accepted document archive server users peers door space (Err fault) a s u p d is_space ok err =
+accepted lines document archive server listed space (Err fault) a s l is_space ok err =
     inl (ap Err err)
 
+-- memory ran out behind the nodes
+pub unlisted : (lines : List PasswordLine) (document : Members) (fault : SettingsFault)
+    → fault ≡ OutOfMemory → IsAcceptedOrStarved lines document (Err fault)
+unlisted lines document fault starved = inl (ap Err starved)
+
 -- nodes that make no space, or want of memory, are what the settings are refused by
-pub unspaced : (document : Members) (fault : SettingsFault)
-    → IsSpaceOrStarved document (Err fault) → IsAcceptedOrStarved document (Err fault)
-unspaced document fault (inl starved) = let is : fault ≡ OutOfMemory = cc in inl (ap Err is)
-unspaced document fault (inr is) = inr (by (space_in document) is)
+pub unspaced : (lines : List PasswordLine) (document : Members) (fault : SettingsFault)
+    → IsSpaceOrStarved document (Err fault) → IsAcceptedOrStarved lines document (Err fault)
+unspaced lines document fault (inl starved) =
+    let is : fault ≡ OutOfMemory = cc in inl (ap Err is)
+unspaced lines document fault (inr is) = inr (by (space_in document) is)
   where
     by : (made : Result Layout BuildFault)
         → (let result : Result Layout SettingsFault = Err fault in result)
         ≡ result_map_both (λ space. space) Space made
         → (let result : Result SettingsValues SettingsFault = Err fault in result)
-        ≡ result_map_both (values_of_tables (table_at (codes "archive") document)
-        (table_at (codes "server") document) (table_at (codes "door") document)
-        (tables document User) (tables document Peer)) Space made
+        ≡ result_map_both (values_in lines document) Space made
     by (Ok space) e = absurd cc
     by (Err cause) e = let is : fault ≡ Space cause = cc in ap Err is
 
-pub users_same : (document server : Members) (anonymous : Bool) (access : Access)
-    (named : List SessionUser) → server ≡ table_at (codes "server") document
+pub users_same : (lines : List PasswordLine) (document server : Members) (anonymous : Bool)
+    (access : Access) (named : List SessionUser) → server ≡ table_at (codes "server") document
     → anonymous ≡ truth_at (codes "anonymous") server
     → access ≡ access_at (codes "anonymous_access") server
-    → named ≡ map user_in (tables document User)
+    → named ≡ map (user_in lines) (tables document User)
     → record { anonymous = anonymous; anonymous_access = access; named = named }
-    ≡ users_in document
-users_same document server anonymous access named s a may n =
+    ≡ users_in lines (table_at (codes "server") document) (tables document User)
+users_same lines document server anonymous access named s a may n =
     let allowed = a ∙ ap (truth_at (codes "anonymous")) s in
     let does = may ∙ ap (access_at (codes "anonymous_access")) s in
     λ i. record { anonymous = allowed i; anonymous_access = does i; named = n i }
+
+-- what the tables list, by its parts
+pub same_lists : (lines : List PasswordLine) (document : Members) (space : Layout)
+    (users : Allowed) (peers : List PeerCall) (door : Option DoorSettings)
+    (web : Option WebSettings) (events : Bool)
+    → users ≡ (listed_in lines document space).users
+    → peers ≡ (listed_in lines document space).peers
+    → door ≡ (listed_in lines document space).door
+    → web ≡ (listed_in lines document space).web
+    → events ≡ (listed_in lines document space).events
+    → (let listed : Listed = record {
+      users = users;
+      peers = peers;
+      door = door;
+      web = web;
+      events = events;
+      space = space;
+    } in listed) ≡ listed_in lines document space
+same_lists lines document space users peers door web events u p d w e =
+    λ i. record {
+      users = u i;
+      peers = p i;
+      door = d i;
+      web = w i;
+      events = e i;
+      space = space;
+    }

@@ -4,10 +4,10 @@ use Rattle.std.specs.Option.{option_or}
 use Rattle.std.specs.List.{list_any}
 use Rattle.toml.specs.Data.{Members}
 use Rattle.ua_settings.specs.declared.keys.Section.{Section}
-use Rattle.ua_settings.specs.declared.keys.Section.TheVariants.{Document, Archive, Server, User, Folder, Variable, Peer, Door}
 use Rattle.ua_settings.specs.declared.keys.Wrong.{Wrong}
 use Rattle.ua_settings.specs.declared.keys.Wrong.TheVariants.{Unknown, Missing, Bad}
-use Rattle.ua_settings.specs.File.{Names, names_in, tables, keys_in, rules, is_wrong, first_refusal}
+use Rattle.ua_settings.specs.declared.password.PasswordLine.{PasswordLine}
+use Rattle.ua_settings.specs.File.{Names, names_in, sections, tables, keys_in, rules, is_wrong, first_refusal}
 use Rattle.ua_settings.specs.declared.judging.Spot.{Spot as Found}
 use Rattle.ua_settings.specs.Keys.{refusal_of}
 use Rattle.ua_settings.specs.Judging.{Spot, first_some, first_wrong, is_bad, is_key, is_missing, wrong_at, wrong_from, wrong_key}
@@ -57,16 +57,17 @@ in_tables names wrong section n (members ∷ more) =
     (wrong_key names wrong section members)) (wrong_from names wrong section (n + 1) more) _
     (in_tables names wrong section (n + 1) more)
 
-in_sections : (document : Members) (wrong : Wrong) (sections : List Section)
-    → list_any (λ section. list_any (is_wrong (names_in document) wrong section)
-    (tables document section)) sections ≡ is_some (first_some (wrong_in document wrong) sections)
-in_sections document wrong [] = refl
-in_sections document wrong (section ∷ sections) =
+in_sections : (lines : List PasswordLine) (document : Members) (wrong : Wrong)
+    (sections : List Section)
+    → list_any (λ section. list_any (is_wrong (names_in lines document) wrong section)
+    (tables document section)) sections ≡ is_some (first_some (wrong_in lines document wrong) sections)
+in_sections lines document wrong [] = refl
+in_sections lines document wrong (section ∷ sections) =
     ap (λ b. b || list_any (λ section.
-    list_any (is_wrong (names_in document) wrong section) (tables document section)) sections)
-    (in_tables (names_in document) wrong section 1 (tables document section))
-    ∙ some_either (wrong_in document wrong section)
-    (first_some (wrong_in document wrong) sections) _ (in_sections document wrong sections)
+    list_any (is_wrong (names_in lines document) wrong section) (tables document section)) sections)
+    (in_tables (names_in lines document) wrong section 1 (tables document section))
+    ∙ some_either (wrong_in lines document wrong section)
+    (first_some (wrong_in lines document wrong) sections) _ (in_sections lines document wrong sections)
 
 first_kind : (test : Wrong → Bool) (spot : Wrong → Option Spot)
     → ((wrong : Wrong) → test wrong ≡ is_some (spot wrong)) → (wrongs : List Wrong)
@@ -87,52 +88,53 @@ first_kind test spot same (wrong ∷ wrongs) =
     by None later = later
     by (Some s) later = refl
 
-pub refused_so : (document : Members)
-    → first_refusal document ≡ option_map (λ (p : Wrong × Spot). p.0) (first_wrong document)
+pub refused_so : (lines : List PasswordLine) (document : Members)
+    → first_refusal lines document
+    ≡ option_map (λ (p : Wrong × Spot). p.0) (first_wrong lines document)
 unfolding wrong_at
-refused_so document =
+refused_so lines document =
     first_kind (λ wrong. list_any (λ section.
-    list_any (is_wrong (names_in document) wrong section) (tables document section))
-    (Document ∷ Archive ∷ Server ∷ User ∷ Folder ∷ Variable ∷ Peer ∷ Door ∷ []))
-    (wrong_at document) (λ wrong. in_sections document wrong
-    (Document ∷ Archive ∷ Server ∷ User ∷ Folder ∷ Variable ∷ Peer ∷ Door ∷ []))
+    list_any (is_wrong (names_in lines document) wrong section) (tables document section))
+    sections)
+    (wrong_at lines document) (λ wrong. in_sections lines document wrong
+    sections)
     (Unknown ∷ Missing ∷ Bad ∷ [])
 
 -- what was found tells how the document is wrong
-pub kind_of : (document : Members) (found : Option (Wrong × Found))
-    → option_map refusal_of found ≡ first_wrong document
-    → first_refusal document ≡ option_map (λ (p : Wrong × Found). p.0) found
-kind_of document None same = refused_so document
+pub kind_of : (lines : List PasswordLine) (document : Members) (found : Option (Wrong × Found))
+    → option_map refusal_of found ≡ first_wrong lines document
+    → first_refusal lines document ≡ option_map (λ (p : Wrong × Found). p.0) found
+kind_of lines document None same = refused_so lines document
     ∙ ap (option_map (λ (p : Wrong × Spot). p.0)) (sym same)
-kind_of document (Some (wrong, spot)) same =
-    refused_so document ∙ ap (option_map (λ (p : Wrong × Spot). p.0)) (sym same)
+kind_of lines document (Some (wrong, spot)) same =
+    refused_so lines document ∙ ap (option_map (λ (p : Wrong × Spot). p.0)) (sym same)
 
 -- what a document gives, by how it is wrong
-abbrev given : Members → Option Wrong → Result SettingsValues SettingsFault
-given document found = elim found [
-  | None ↦ settings_in document
+abbrev given : List PasswordLine → Members → Option Wrong → Result SettingsValues SettingsFault
+given lines document found = elim found [
+  | None ↦ settings_in lines document
   | Some Unknown ↦
       Err UnknownKey
   | Some Missing ↦ Err MissingKey
   | Some Bad ↦ Err BadValue
 ]
 
-fault_given : (document : Members) (wrong : Wrong)
+fault_given : (lines : List PasswordLine) (document : Members) (wrong : Wrong)
     → Err (elim wrong [ Unknown ↦ UnknownKey | Missing ↦ MissingKey | Bad ↦ BadValue ])
-    ≡ given document (Some wrong)
-fault_given document Unknown = refl
-fault_given document Missing = refl
-fault_given document Bad = refl
+    ≡ given lines document (Some wrong)
+fault_given lines document Unknown = refl
+fault_given lines document Missing = refl
+fault_given lines document Bad = refl
 
-pub refused_told : (document : Members) (wrong : Wrong) (fault : SettingsFault)
-    → first_refusal document ≡ Some wrong
+pub refused_told : (lines : List PasswordLine) (document : Members) (wrong : Wrong) (fault : SettingsFault)
+    → first_refusal lines document ≡ Some wrong
     → fault ≡ (elim wrong [ Unknown ↦ UnknownKey | Missing ↦ MissingKey | Bad ↦ BadValue ])
-    → IsReadOrStarved (Some document) (Err fault)
-refused_told document wrong fault is same =
-    inr (ap Err same ∙ fault_given document wrong ∙ sym (ap (given document) is))
+    → IsReadOrStarved lines (Some document) (Err fault)
+refused_told lines document wrong fault is same =
+    inr (ap Err same ∙ fault_given lines document wrong ∙ sym (ap (given lines document) is))
 
-pub accepted_told : (document : Members) (result : Result SettingsValues SettingsFault)
-    → first_refusal document ≡ None → IsAcceptedOrStarved document result
-    → IsReadOrStarved (Some document) result
-accepted_told document result none (inl starved) = inl starved
-accepted_told document result none (inr is) = inr (is ∙ sym (ap (given document) none))
+pub accepted_told : (lines : List PasswordLine) (document : Members) (result : Result SettingsValues SettingsFault)
+    → first_refusal lines document ≡ None → IsAcceptedOrStarved lines document result
+    → IsReadOrStarved lines (Some document) result
+accepted_told lines document result none (inl starved) = inl starved
+accepted_told lines document result none (inr is) = inr (is ∙ sym (ap (given lines document) none))

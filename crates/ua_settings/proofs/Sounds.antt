@@ -6,13 +6,14 @@ use Rattle.std.specs.List.{list_any, AllByRecursion}
 use Rattle.std.specs.Cmp.Lexicographic.{pointwise}
 use Rattle.toml.specs.Data.{Data, Members, no_members, get_member, as_str, as_integer, as_table}
 use Rattle.ua_settings.specs.declared.keys.Section.{Section}
-use Rattle.ua_settings.specs.declared.keys.Section.TheVariants.{Document, Archive, Server, User, Folder, Variable, Peer, Door}
+use Rattle.ua_settings.specs.declared.keys.Section.TheVariants.{Document, Archive, Server, User, Folder, Variable, Peer, Door, Log, Web}
 use Rattle.ua_settings.specs.declared.keys.Wrong.{Wrong}
 use Rattle.ua_settings.specs.declared.keys.Wrong.TheVariants.{Unknown, Missing, Bad}
+use Rattle.ua_settings.specs.declared.password.PasswordLine.{PasswordLine}
 use Rattle.ua_settings.specs.File.{Names, rules, is_name, is_up_to, text_at, tables, names_in}
 use Rattle.ua_settings.specs.Judging.{Spot, test, is_id, is_short, is_replica, is_missing, is_bad, wrong_key, wrong_from, wrong_at, first_wrong}
 use Rattle.ua_settings.proofs.FileParts.{wrong_in, name_of, or_later, or_else}
-use Rattle.ua_settings.specs.Sound.{IsSound, IsSoundArchive, IsSoundServer, IsSoundUser, IsSoundFolder, IsSoundPeer, IsSoundVariable}
+use Rattle.ua_settings.specs.Sound.{IsSound, IsSoundArchive, IsSoundServer, IsSoundUser, IsSoundFolder, IsSoundPeer, IsSoundDoor, IsSoundWeb, IsSoundVariable}
 
 -- ---- nothing is found
 
@@ -50,19 +51,22 @@ all_right names wrong section n (members ∷ more) none =
     (wrong_from names wrong section (n + 1) more) none in
     (parts.0, all_right names wrong section (n + 1) more parts.1)
 
-each_section : (document : Members) (wrong : Wrong) → wrong_at document wrong ≡ None
-    → (section : Section) → wrong_in document wrong section ≡ None
+each_section : (lines : List PasswordLine) (document : Members) (wrong : Wrong)
+    → wrong_at lines document wrong ≡ None
+    → (section : Section) → wrong_in lines document wrong section ≡ None
 unfolding wrong_at
-each_section document wrong none section =
-    let one = none_both (wrong_in document wrong Document) _ none in
-    let two = none_both (wrong_in document wrong Archive) _ one.1 in
-    let three = none_both (wrong_in document wrong Server) _ two.1 in
-    let four = none_both (wrong_in document wrong User) _ three.1 in
-    let five = none_both (wrong_in document wrong Folder) _ four.1 in
-    let six = none_both (wrong_in document wrong Variable) _ five.1 in
-    let seven = none_both (wrong_in document wrong Peer) _ six.1 in
-    let eight = none_both (wrong_in document wrong Door) _ seven.1 in
-    elim section as (λ s. wrong_in document wrong s ≡ None) [
+each_section lines document wrong none section =
+    let one = none_both (wrong_in lines document wrong Document) _ none in
+    let two = none_both (wrong_in lines document wrong Archive) _ one.1 in
+    let three = none_both (wrong_in lines document wrong Server) _ two.1 in
+    let four = none_both (wrong_in lines document wrong User) _ three.1 in
+    let five = none_both (wrong_in lines document wrong Folder) _ four.1 in
+    let six = none_both (wrong_in lines document wrong Variable) _ five.1 in
+    let seven = none_both (wrong_in lines document wrong Peer) _ six.1 in
+    let eight = none_both (wrong_in lines document wrong Door) _ seven.1 in
+    let nine = none_both (wrong_in lines document wrong Log) _ eight.1 in
+    let ten = none_both (wrong_in lines document wrong Web) _ nine.1 in
+    elim section as (λ s. wrong_in lines document wrong s ≡ None) [
       | Document ↦ one.0
       | Archive ↦ two.0
       | Server ↦ three.0
@@ -72,6 +76,8 @@ each_section document wrong none section =
       | Variable ↦ six.0
       | Peer ↦ seven.0
       | Door ↦ eight.0
+      | Log ↦ nine.0
+      | Web ↦ ten.0
     ]
 
 -- ---- a table in which nothing is wrong
@@ -90,16 +96,17 @@ all_weaker : {A : Type 0} (P Q : A → Type 0) → ((x : A) → P x → Q x) →
 all_weaker P Q weaker [] p = tt
 all_weaker P Q weaker (x ∷ xs) p = (weaker x p.0, all_weaker P Q weaker xs p.1)
 
-all_tables : (document : Members) → wrong_at document Missing ≡ None → wrong_at document Bad ≡ None
+all_tables : (lines : List PasswordLine) (document : Members)
+    → wrong_at lines document Missing ≡ None → wrong_at lines document Bad ≡ None
     → (section : Section)
-    → AllByRecursion (IsRight (names_in document) section) (tables document section)
-all_tables document missing bad section =
-    all_joined _ _ (IsRight (names_in document) section)
+    → AllByRecursion (IsRight (names_in lines document) section) (tables document section)
+all_tables lines document missing bad section =
+    all_joined _ _ (IsRight (names_in lines document) section)
     (λ members p q. record { missing = p; bad = q }) (tables document section)
-    (all_right (names_in document) Missing section 1 (tables document section)
-    (each_section document Missing missing section))
-    (all_right (names_in document) Bad section 1 (tables document section)
-    (each_section document Bad bad section))
+    (all_right (names_in lines document) Missing section 1 (tables document section)
+    (each_section lines document Missing missing section))
+    (all_right (names_in lines document) Bad section 1 (tables document section)
+    (each_section lines document Bad bad section))
 
 lacks_none : (names : Names) (section : Section) (members : Members) → IsRight names section members
     → AllByRecursion (λ rule. is_missing members rule ≡ false) (rules section)
@@ -186,6 +193,8 @@ server_sound names members right =
           (get_member (codes "connections") members) spoils.1.1.1.1.1.0;
       waiting = optional_held (is_up_to 65536) as_integer (get_member (codes "waiting") members)
           spoils.1.1.1.1.1.1.0;
+      logins = optional_held (is_up_to 1000) as_integer (get_member (codes "logins") members)
+          spoils.1.1.1.1.1.1.1.1.0;
     }
 
 name_of_user : (users : List (List ℕ)) (name : List ℕ) (b : Bool) → (is_name name && b) ≡ true
@@ -221,6 +230,23 @@ peer_sound names members right =
           spoils.1.0;
     }
 
+door_sound : (names : Names) (members : Members) → IsRight names Door members
+    → IsSoundDoor members
+door_sound names members right =
+    let spoils = spoils_none names Door members right in
+    record {
+      ahead = optional_held (is_up_to 31536000) as_integer (get_member (codes "ahead") members)
+          spoils.1.1.1.0;
+    }
+
+web_sound : (names : Names) (members : Members) → IsRight names Web members → IsSoundWeb members
+web_sound names members right =
+    let spoils = spoils_none names Web members right in
+    record {
+      connections = optional_held (is_up_to 1000) as_integer
+          (get_member (codes "connections") members) spoils.1.0;
+    }
+
 variable_sound : (names : Names) (members : Members) → IsRight names Variable members
     → IsSoundVariable names.folders members
 variable_sound names members right =
@@ -233,18 +259,18 @@ variable_sound names members right =
           as_str (get_member (codes "folder") members) spoils.1.1.1.1.0;
     }
 
-pub sound : (document : Members) → first_wrong document ≡ None → IsSound document
-sound document none =
-    let first = none_both (option_map (λ spot. (Unknown, spot)) (wrong_at document Unknown)) _ none
+pub sound : (lines : List PasswordLine) (document : Members) → first_wrong lines document ≡ None → IsSound lines document
+sound lines document none =
+    let first = none_both (option_map (λ spot. (Unknown, spot)) (wrong_at lines document Unknown)) _ none
     in
-    let second = none_both (option_map (λ spot. (Missing, spot)) (wrong_at document Missing)) _
+    let second = none_both (option_map (λ spot. (Missing, spot)) (wrong_at lines document Missing)) _
     first.1 in
-    let third = none_both (option_map (λ spot. (Bad, spot)) (wrong_at document Bad)) _ second.1 in
-    let missing : wrong_at document Missing ≡ None = none_mapped _ _ second.0 in
-    let bad : wrong_at document Bad ≡ None = none_mapped _ _ third.0 in
-    let all = all_tables document missing bad in
-    let lacks = lacks_none (names_in document) Document document (all Document).0 in
-    let spoils = spoils_none (names_in document) Document document (all Document).0 in
+    let third = none_both (option_map (λ spot. (Bad, spot)) (wrong_at lines document Bad)) _ second.1 in
+    let missing : wrong_at lines document Missing ≡ None = none_mapped _ _ second.0 in
+    let bad : wrong_at lines document Bad ≡ None = none_mapped _ _ third.0 in
+    let all = all_tables lines document missing bad in
+    let lacks = lacks_none (names_in lines document) Document document (all Document).0 in
+    let spoils = spoils_none (names_in lines document) Document document (all Document).0 in
     let has_archive = some_tested as_table (get_member (codes "archive") document)
     (held (λ v. is_some (as_table v)) _ lacks.0 spoils.0) in
     let has_server = some_tested as_table (get_member (codes "server") document)
@@ -252,12 +278,14 @@ sound document none =
     record {
       has_archive = has_archive;
       has_server = has_server;
-      archive = archive_sound (names_in document) _
-          (only_one (IsRight (names_in document) Archive) _ no_members has_archive (all Archive));
-      server = server_sound (names_in document) _ (only_one
-          (IsRight (names_in document) Server) _ no_members has_server (all Server));
-      users = all_weaker _ _ (user_sound (names_in document)) _ (all User);
-      folders = all_weaker _ _ (folder_sound (names_in document)) _ (all Folder);
-      variables = all_weaker _ _ (variable_sound (names_in document)) _ (all Variable);
-      peers = all_weaker _ _ (peer_sound (names_in document)) _ (all Peer);
+      archive = archive_sound (names_in lines document) _
+          (only_one (IsRight (names_in lines document) Archive) _ no_members has_archive (all Archive));
+      server = server_sound (names_in lines document) _ (only_one
+          (IsRight (names_in lines document) Server) _ no_members has_server (all Server));
+      users = all_weaker _ _ (user_sound (names_in lines document)) _ (all User);
+      folders = all_weaker _ _ (folder_sound (names_in lines document)) _ (all Folder);
+      variables = all_weaker _ _ (variable_sound (names_in lines document)) _ (all Variable);
+      peers = all_weaker _ _ (peer_sound (names_in lines document)) _ (all Peer);
+      door = all_weaker _ _ (door_sound (names_in lines document)) _ (all Door);
+      web = all_weaker _ _ (web_sound (names_in lines document)) _ (all Web);
     }

@@ -10,9 +10,11 @@ use Rattle.ua_settings.specs.declared.keys.Key.{Key}
 use Rattle.ua_settings.specs.declared.keys.Section.{Section}
 use Rattle.ua_settings.specs.declared.keys.Wrong.{Wrong}
 use Rattle.ua_settings.specs.File.{Names, Rule, rules, keys_in}
-use Rattle.ua_settings.specs.Judging.{is_key, wrong_key, wrong_from}
+use Rattle.std.specs.Option.{option_or}
+use Rattle.ua_settings.specs.declared.judging.Spot.{Spot as Found}
+use Rattle.ua_settings.specs.Judging.{first_some, is_key, wrong_key, wrong_from}
 use Rattle.ua_settings.proofs.FileParts.{name_of, or_later}
-use Rattle.ua_settings.specs.Keys.{rule_of}
+use Rattle.ua_settings.specs.Keys.{rule_of, spot_of}
 use Rattle.ua_settings.proofs.Mapped.{find_of_mapped, found_rule}
 use Rattle.ua_settings.proofs.Tables.{keys_of_map}
 
@@ -64,3 +66,19 @@ stops names wrong section n i tables d key within found =
     ap (wrong_from names wrong section n) (drop_more tables i d within)
     ∙ ap (λ key. or_later section n key (wrong_from names wrong section (n + 1)
     (drop (i + 1) tables))) found
+
+-- where the tables of a section hold nothing wrong, which was found by equal names
+pub section_passed : (names same : Names) (wrong : Wrong) (section : Section)
+    (tables : List Members) (found : Option Found) → names ≡ same
+    → option_map spot_of found ≡ wrong_from names wrong section 1 tables → found ≡ None
+    → wrong_from same wrong section 1 tables ≡ None
+section_passed names same wrong section tables found is told none =
+    ap (λ n. wrong_from n wrong section 1 tables) (sym is) ∙ sym told ∙ ap (option_map spot_of) none
+
+-- the first behind a place where none is
+pub goes_on_behind : {A B : Type 0} (f : A → Option B) (xs : List A) (i : ℕ) (d : A)
+    → i < length xs → f (get_or xs i d) ≡ None
+    → first_some f (drop i xs) ≡ first_some f (drop (i + 1) xs)
+goes_on_behind f xs i d within none =
+    ap (first_some f) (drop_more xs i d within)
+    ∙ ap (λ found. option_or found (first_some f (drop (i + 1) xs))) none

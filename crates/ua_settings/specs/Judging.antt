@@ -1,15 +1,15 @@
 -- What the steps say by which a file is judged.
-use Rattle.std.specs.Prelude.{◌+◌, ◌==◌, ◌&&◌, ℕ, ℤ, pos, negsuc, Bool, false, not, List, [], ◌∷◌, length, codes, nat_eq, nat_le, Option, None, is_some, is_none, option_map, find}
+use Rattle.std.specs.Prelude.{◌+◌, ◌==◌, ◌&&◌, ◌||◌, ℕ, ℤ, pos, negsuc, Bool, false, not, List, [], ◌∷◌, length, codes, nat_eq, nat_le, Option, None, is_some, is_none, option_map, find}
 use Rattle.std.specs.Option.{option_map_or, option_or}
 use Rattle.std.specs.List.{list_any, count_by}
 use Rattle.std.specs.Cmp.Lexicographic.{pointwise}
 use Rattle.toml.specs.Data.{Members, get_member}
 use Rattle.uuid.specs.Text.{parsed}
 use Rattle.ua_settings.specs.declared.keys.Section.{Section}
-use Rattle.ua_settings.specs.declared.keys.Section.TheVariants.{Document, Archive, Server, User, Folder, Variable, Peer, Door}
 use Rattle.ua_settings.specs.declared.keys.Wrong.{Wrong}
 use Rattle.ua_settings.specs.declared.keys.Wrong.TheVariants.{Unknown, Missing, Bad}
-use Rattle.ua_settings.specs.File.{Names, Rule, fits, is_name, keys_in, names_in, rules, tables}
+use Rattle.ua_settings.specs.declared.password.PasswordLine.{PasswordLine}
+use Rattle.ua_settings.specs.File.{Names, Rule, fits, has_instead, is_name, keys_in, names_in, rules, sections, tables}
 
 -- ---- what a key must hold
 
@@ -39,14 +39,16 @@ is_id text = is_some (parsed text)
 abbrev pub is_key : Section → List ℕ → Bool
 is_key section key = list_any (λ rule. pointwise nat_eq key rule.name) (rules section)
 
--- the table has to have this key and hasn't
+-- the table has to have this key, or the one instead, and hasn't
 abbrev pub is_missing : Members → Rule → Bool
-is_missing members rule = rule.required && is_none (get_member rule.name members)
+is_missing members rule =
+    rule.required && (not (has_instead members rule) && is_none (get_member rule.name members))
 
--- the key is there and doesn't hold what it must
+-- the key is there and doesn't hold what it must, or the one instead is there too
 abbrev pub is_bad : Names → Members → Rule → Bool
 is_bad names members rule =
-    test (λ value. not (fits names rule.holds value)) (get_member rule.name members)
+    test (λ value. has_instead members rule || not (fits names rule.holds value))
+    (get_member rule.name members)
 
 -- the first key of a table that is wrong: one that the table may not have, one that it has to have,
 -- or one that doesn't hold what it must
@@ -75,14 +77,15 @@ first_some f [] = None
 first_some f (a ∷ more) = option_or (f a) (first_some f more)
 
 -- the first wrong key of a document
-unfoldable pub wrong_at : Members → Wrong → Option Spot
-wrong_at document wrong =
-    first_some (λ section. wrong_from (names_in document) wrong section 1 (tables document section))
-    (Document ∷ Archive ∷ Server ∷ User ∷ Folder ∷ Variable ∷ Peer ∷ Door ∷ [])
+unfoldable pub wrong_at : List PasswordLine → Members → Wrong → Option Spot
+wrong_at lines document wrong =
+    first_some
+    (λ section. wrong_from (names_in lines document) wrong section 1 (tables document section))
+    sections
 
 -- the first way in which a document is wrong, unknown keys before missing ones and these before bad
 -- ones, and where
-abbrev pub first_wrong : Members → Option (Wrong × Spot)
-first_wrong document =
-    first_some (λ wrong. option_map (λ spot. (wrong, spot)) (wrong_at document wrong))
+abbrev pub first_wrong : List PasswordLine → Members → Option (Wrong × Spot)
+first_wrong lines document =
+    first_some (λ wrong. option_map (λ spot. (wrong, spot)) (wrong_at lines document wrong))
     (Unknown ∷ Missing ∷ Bad ∷ [])

@@ -7,7 +7,8 @@ use Rattle.std.specs.Fmt.{decimal}
 use Rattle.toml.specs.Data.{Members}
 use Rattle.ua_space.specs.Plan.{type_number}
 use Rattle.ua_settings.specs.declared.keys.Section.{Section}
-use Rattle.ua_settings.specs.declared.keys.Section.TheVariants.{Document, Archive, Server, User, Folder, Variable, Peer, Door}
+use Rattle.ua_settings.specs.declared.keys.Section.TheVariants.{Document, Archive, Server, User, Folder, Variable, Peer, Door, Log, Web}
+use Rattle.ua_settings.specs.declared.password.PasswordLine.{PasswordLine}
 use Rattle.ua_settings.specs.declared.place.Place.{Place}
 use Rattle.ua_settings.specs.declared.place.Place.TheVariants.{Line, Key, Nodes}
 use Rattle.ua_settings.specs.File.{tables, text_at}
@@ -63,15 +64,16 @@ IsLineNumber (Line number) = 0 < number
 IsLineNumber place = ⊥
 
 -- in a document: its first wrong key; where none is wrong, what makes its nodes no address space
-abbrev pub place_in : Members → Place
-place_in document =
-    option_map_or (λ found. Key found.1.section found.1.number found.1.key) (first_wrong document)
+abbrev pub place_in : List PasswordLine → Members → Place
+place_in lines document =
+    option_map_or (λ found. Key found.1.section found.1.number found.1.key)
+    (first_wrong lines document)
     (place_among (tables document Folder) (tables document Variable))
 
 -- of a text that is no document a line, else the place in the document
-abbrev pub IsPlaceOf : Option Members → Place → Type 0
-IsPlaceOf None place = IsLineNumber place
-IsPlaceOf (Some document) place = place ≡ place_in document
+abbrev pub IsPlaceOf : List PasswordLine → Option Members → Place → Type 0
+IsPlaceOf lines None place = IsLineNumber place
+IsPlaceOf lines (Some document) place = place ≡ place_in lines document
 
 -- ---- how it is told
 
@@ -85,6 +87,8 @@ heading Folder number = codes "[[folder]] " ++ decimal number ++ codes ", "
 heading Variable number = codes "[[variable]] " ++ decimal number ++ codes ", "
 heading Peer number = codes "[[peer]] " ++ decimal number ++ codes ", "
 heading Door number = codes "[door] "
+heading Log number = codes "[log] "
+heading Web number = codes "[web] "
 
 -- a byte of a text without control characters
 abbrev pub is_shown : ℕ → Bool

@@ -1,8 +1,9 @@
 -- What settings a file gives.
-use Rattle.std.specs.Prelude.{◌≡◌, ◌⊎◌, ℕ, pos, negsuc, Bool, false, List, [], map, codes, nat_eq, Option, None, Some, option_and_then, unwrap_or, Result, Err, if◌then◌else◌}
+use Rattle.std.specs.Prelude.{◌≡◌, ◌⊎◌, ℕ, pos, negsuc, Bool, false, List, [], map, codes, nat_eq, Option, None, Some, option_map, option_and_then, unwrap_or, Result, Err, if◌then◌else◌}
+use Rattle.std.specs.List.{filter_map}
 use Rattle.std.specs.Cmp.Lexicographic.{pointwise}
 use Rattle.std.specs.Result.{result_map_both}
-use Rattle.toml.specs.Data.{Members, no_members, get_member, as_str, as_integer, as_bool, as_table}
+use Rattle.toml.specs.Data.{Data, Items, Members, no_members, get_member, as_str, as_integer, as_bool, as_array, as_table}
 use Rattle.uuid.specs.Text.{parsed}
 use Rattle.ua_space.specs.declared.fault.BuildFault.{BuildFault}
 use Rattle.ua_space.specs.declared.fault.BuildFault.TheVariants as build
@@ -13,7 +14,13 @@ use Rattle.ua_settings.specs.declared.fault.SettingsFault.{SettingsFault}
 use Rattle.ua_settings.specs.declared.fault.SettingsFault.TheVariants.{NotToml, MissingKey, BadValue, UnknownKey, Space, OutOfMemory}
 use Rattle.ua_settings.specs.declared.keys.Section.TheVariants.{User, Folder, Variable, Peer}
 use Rattle.ua_settings.specs.declared.keys.Wrong.TheVariants.{Unknown, Missing, Bad}
-use Rattle.ua_settings.specs.File.{tables, text_at, first_refusal}
+use Rattle.ua_settings.specs.declared.password.PasswordLine.{PasswordLine}
+use Rattle.ua_settings.specs.declared.door.DoorSettings.{DoorSettings}
+use Rattle.ua_settings.specs.declared.door.WebSettings.{WebSettings}
+use Rattle.ua_settings.specs.declared.settings.AfterBreak.{AfterBreak}
+use Rattle.ua_settings.specs.declared.settings.AfterBreak.TheVariants.{GoesOn, Stops, Reopens}
+use Rattle.ua_settings.specs.declared.reading.Listed.{Listed}
+use Rattle.ua_settings.specs.File.{is_replica, items_in, line_of, tables, text_at, first_refusal}
 use Rattle.ua_settings.specs.Settings.{SettingsValues}
 use Rattle.ua_session.specs.Users.{Allowed}
 use Rattle.ua_session.specs.declared.identity.Access.{Access}
@@ -31,11 +38,17 @@ table_at key members = unwrap_or (option_and_then as_table (get_member key membe
 abbrev pub truth_at : List ℕ → Members → Bool
 truth_at key members = unwrap_or (option_and_then as_bool (get_member key members)) false
 
+-- a number that isn't below 0
+abbrev pub number_in : Data → Option ℕ
+number_in value = elim (as_integer value) [ Some (pos n) ↦ Some n | _ ↦ None ]
+
+-- the number at a key, if there is one
+abbrev pub number_there : List ℕ → Members → Option ℕ
+number_there key members = option_and_then number_in (get_member key members)
+
 -- the number at a key, another one where there is none
 abbrev pub number_or : ℕ → List ℕ → Members → ℕ
-number_or otherwise key members =
-    elim (option_and_then as_integer (get_member key members))
-    [ Some (pos n) ↦ n | Some (negsuc n) ↦ otherwise | None ↦ otherwise ]
+number_or otherwise key members = unwrap_or (number_there key members) otherwise
 
 -- the number at a key, 0 where there is none
 abbrev pub number_at : List ℕ → Members → ℕ
@@ -61,47 +74,132 @@ abbrev pub access_at : List ℕ → Members → Access
 access_at key members =
     if pointwise nat_eq (text_at key members) (codes "read") then Read else Write
 
+-- the password that a table gives: its own, or the first line of its file
+abbrev pub password_in : List PasswordLine → Members → List ℕ
+password_in lines user =
+    unwrap_or (option_and_then as_str (get_member (codes "password") user))
+    (line_of lines (text_at (codes "password_file") user))
+
 -- a user that a table gives
-abbrev pub user_in : Members → NamedUser
-user_in user =
+abbrev pub user_in : List PasswordLine → Members → NamedUser
+user_in lines user =
     record {
       name = text_at (codes "name") user;
-      password = text_at (codes "password") user;
+      password = password_in lines user;
       access = access_at (codes "access") user;
     }
 
 -- the users that the tables give
-abbrev pub users_in : Members → List Members → Allowed
-users_in server users =
+abbrev pub users_in : List PasswordLine → Members → List Members → Allowed
+users_in lines server users =
     record {
       anonymous = truth_at (codes "anonymous") server;
       anonymous_access = access_at (codes "anonymous_access") server;
-      named = map user_in users;
+      named = map (user_in lines) users;
     }
 
 -- a peer that a table gives
 abbrev pub peer_in : Members → PeerCall
 peer_in peer =
-    record { address = text_at (codes "address") peer; every = number_at (codes "every") peer }
+    record {
+      address = text_at (codes "address") peer;
+      every = number_at (codes "every") peer;
+      check = truth_at (codes "check") peer;
+    }
 
--- what the tables `archive`, `server`, `door` and those of users and peers give, with these nodes;
--- 64 connections at a time, and 256 MiB, where the tables don't say
-abbrev pub values_of_tables : (archive server door : Members) → (users peers : List Members)
-    → Layout → SettingsValues
-values_of_tables archive server door users peers space = record {
+-- the texts of an array
+abbrev pub texts_in : Items → List (List ℕ)
+texts_in items = filter_map as_str (items_in items)
+
+-- the number of a replica that a value is
+abbrev pub replica_in : Data → Option ℕ
+replica_in value =
+    elim (as_integer value) [
+      | Some (pos n) ↦ if is_replica (pos n) then Some n else None
+      | _ ↦ None
+    ]
+
+-- the numbers of replicas in an array
+abbrev pub replicas_in : Items → List ℕ
+replicas_in items = filter_map replica_in (items_in items)
+
+-- where peers come to, and who is taken there, by a table
+abbrev pub door_in : Members → DoorSettings
+door_in door =
+    record {
+      listen = text_at (codes "listen") door;
+      from = option_map texts_in (option_and_then as_array (get_member (codes "from") door));
+      replicas =
+          option_map replicas_in (option_and_then as_array (get_member (codes "replicas") door));
+      ahead = number_there (codes "ahead") door;
+    }
+
+-- where a page is served, by a table; 8 connections at a time where it doesn't say
+abbrev pub web_in : Members → WebSettings
+web_in web =
+    record {
+      listen = text_at (codes "listen") web;
+      connections = number_or 8 (codes "connections") web;
+    }
+
+-- what is done once the store is broken, by the text at a key: nothing where none is there
+abbrev pub after_break_at : List ℕ → Members → AfterBreak
+after_break_at key members =
+    if pointwise nat_eq (text_at key members) (codes "stop") then Stops else
+    if pointwise nat_eq (text_at key members) (codes "reopen") then Reopens else GoesOn
+
+-- the table at a key, if there is one
+abbrev pub table_there : List ℕ → Members → Option Members
+table_there key members = option_and_then as_table (get_member key members)
+
+-- what the tables of a document list beside those of the archive and the server, with these nodes
+abbrev pub listed_in : List PasswordLine → Members → Layout → Listed
+listed_in lines document space = record {
+  users = users_in lines (table_at (codes "server") document) (tables document User);
+  peers = map peer_in (tables document Peer);
+  door = option_map door_in (table_there (codes "door") document);
+  web = option_map web_in (table_there (codes "web") document);
+  events = truth_at (codes "events") (table_at (codes "log") document);
+  space = space;
+}
+
+-- what the tables `archive` and `server` give, with what others list; 64 connections at a time, and
+-- 256 MiB, where the tables don't say
+abbrev pub values_of : (archive server : Members) → Listed → SettingsValues
+values_of archive server listed = record {
   archive = unwrap_or (parsed (text_at (codes "id") archive)) [];
   replica = number_at (codes "replica") archive;
   store = option_and_then as_str (get_member (codes "store") archive);
+  after_break = after_break_at (codes "broken") archive;
   listen = text_at (codes "listen") server;
   url = text_at (codes "url") server;
   application = text_at (codes "application") server;
-  users = users_in server users;
-  space = space;
+  users = listed.users;
+  space = listed.space;
   connections = number_or 64 (codes "connections") server;
   waiting = number_or 256 (codes "waiting") server;
-  peers = map peer_in peers;
-  door = option_and_then as_str (get_member (codes "listen") door);
+  logins = number_there (codes "logins") server;
+  strict = truth_at (codes "strict") server;
+  peers = listed.peers;
+  door = listed.door;
+  web = listed.web;
+  events = listed.events;
 }
+
+-- the settings of a document with these nodes
+abbrev pub values_in : List PasswordLine → Members → Layout → SettingsValues
+values_in lines document space =
+    values_of (table_at (codes "archive") document) (table_at (codes "server") document)
+    (listed_in lines document space)
+
+-- the path of a user's password file, if it has one
+abbrev pub path_in : Members → Option (List ℕ)
+path_in user = option_and_then as_str (get_member (codes "password_file") user)
+
+-- the paths of the password files that a text names, by the document that it is
+abbrev pub password_paths : Option Members → List (List ℕ)
+password_paths None = []
+password_paths (Some document) = filter_map path_in (tables document User)
 
 -- ---- what a file gives
 
@@ -112,38 +210,43 @@ space_in document =
     (map folder_in (tables document Folder)) (map variable_in (tables document Variable))
 
 -- the settings of a document in which nothing is wrong
-abbrev pub settings_in : Members → Result SettingsValues SettingsFault
-settings_in document =
-    result_map_both
-    (values_of_tables (table_at (codes "archive") document) (table_at (codes "server") document)
-    (table_at (codes "door") document) (tables document User) (tables document Peer)) Space
-    (space_in document)
+abbrev pub settings_in : List PasswordLine → Members → Result SettingsValues SettingsFault
+settings_in lines document =
+    result_map_both (values_in lines document) Space (space_in document)
 
--- the settings that a text gives, by the document that it is, or the first fault
-abbrev pub read_in : Option Members → Result SettingsValues SettingsFault
-read_in None = Err NotToml
-read_in (Some document) =
-    elim (first_refusal document) [
-      | None ↦ settings_in document
+-- the settings that a text gives, by the document that it is, where password files say this, or
+-- the first fault
+abbrev pub read_in : List PasswordLine → Option Members → Result SettingsValues SettingsFault
+read_in lines None = Err NotToml
+read_in lines (Some document) =
+    elim (first_refusal lines document) [
+      | None ↦ settings_in lines document
       | Some Unknown ↦ Err UnknownKey
       | Some Missing ↦ Err MissingKey
       | Some Bad ↦ Err BadValue
     ]
 
 -- that, or memory ran out
-abbrev pub IsReadOrStarved : Option Members → Result SettingsValues SettingsFault → Type 0
-IsReadOrStarved document result = (result ≡ Err OutOfMemory) ⊎ (result ≡ read_in document)
+abbrev pub IsReadOrStarved : List PasswordLine → Option Members
+    → Result SettingsValues SettingsFault → Type 0
+IsReadOrStarved lines document result =
+    (result ≡ Err OutOfMemory) ⊎ (result ≡ read_in lines document)
 
 -- ---- the steps
 
+-- what a fault of the nodes is called here
 abbrev pub space_fault : BuildFault → SettingsFault
 space_fault build.OutOfMemory = OutOfMemory
 space_fault fault = Space fault
 
+-- the nodes of a document, or why they make no space, or memory ran out
 abbrev pub IsSpaceOrStarved : Members → Result Layout SettingsFault → Type 0
 IsSpaceOrStarved document result =
     (result ≡ Err OutOfMemory)
     ⊎ (result ≡ result_map_both (λ space. space) Space (space_in document))
 
-abbrev pub IsAcceptedOrStarved : Members → Result SettingsValues SettingsFault → Type 0
-IsAcceptedOrStarved document result = (result ≡ Err OutOfMemory) ⊎ (result ≡ settings_in document)
+-- the settings of a document in which nothing is wrong, or memory ran out
+abbrev pub IsAcceptedOrStarved : List PasswordLine → Members
+    → Result SettingsValues SettingsFault → Type 0
+IsAcceptedOrStarved lines document result =
+    (result ≡ Err OutOfMemory) ⊎ (result ≡ settings_in lines document)

@@ -6,14 +6,17 @@ ghost use Rattle.std.specs.Cmp.Lexicographic.{pointwise};
 ghost use Rattle.std.specs.Prelude.{nat_eq, is_some, not, option_copied};
 ghost use Rattle.std.specs.BTreeMap.{keys};
 ghost use Rattle.std.specs.List.{list_all, count_by};
-ghost use Rattle.toml.specs.Data.{as_table, string};
+ghost use Rattle.std.specs.Prelude.{false};
+ghost use Rattle.toml.specs.Data.{as_integer, as_table, string};
 ghost use Rattle.toml.specs.View.{view, table_view};
-ghost use Rattle.ua_settings.specs.File.{is_name, is_up_to, fits, keys_in, rules, names_in, text_at};
+ghost use Rattle.std.specs.Option.{option_map_or};
+ghost use Rattle.ua_settings.specs.File.{is_name, is_up_to, is_text, is_held, fits, has_instead, keys_in, rules, names_in, text_at};
 ghost use Rattle.ua_settings.specs.Judging.{is_user_name, is_id, is_replica, is_key, is_missing, is_bad, wrong_key, wrong_from, wrong_at, first_wrong};
 ghost use Rattle.ua_settings.specs.Keys.{rule_of, known_of, spot_of, refusal_of};
 
 use crate::keys::{Holds, Key, Section, Wrong, keys_of};
 use crate::looking::{find, replica, tables_of, text};
+use crate::password::{PasswordLine, line_of};
 use std::alloc::{AllocError, Global};
 use toml::value::Array;
 use toml::{Table, Value};
@@ -26,7 +29,7 @@ const MOST_TEXT: usize = 65_536;
 const MOST_NAME: usize = 256;
 
 /// The kinds of tables, in the order in which a document is judged.
-const SECTIONS: [Section; 8] = [
+const SECTIONS: [Section; 10] = [
     Section::Document,
     Section::Archive,
     Section::Server,
@@ -35,16 +38,19 @@ const SECTIONS: [Section; 8] = [
     Section::Variable,
     Section::Peer,
     Section::Door,
+    Section::Log,
+    Section::Web,
 ];
 
 /// What may be wrong, in the order in which it is judged.
 const WRONGS: [Wrong; 3] = [Wrong::Unknown, Wrong::Missing, Wrong::Bad];
 
-/// The names of the users and the ids of the folders, on which a value may depend.
+/// What a value may depend on: the names of the users, the ids of the folders, and what password files say.
 #[derive(Debug, Drop)]
 pub(crate) struct Known<'a> {
     users: Vec<&'a str>,
     folders: Vec<&'a str>,
+    passwords: &'a [PasswordLine],
 }
 
 /// A key in the table of this number, from 1, among those of a section.
@@ -103,13 +109,55 @@ fn fits_text(known: &Known<'_>, holds: Holds, text: &str) -> bool
         Holds::UserName => is_user_name(known, text),
         Holds::FolderId => is_among(text, known.folders.as_slice()),
         Holds::Access => text == "read" || text == "write",
-        Holds::Replica | Holds::UpTo(_) | Holds::Truth | Holds::OneTable | Holds::Tables => false,
+        Holds::AfterBreak => text == "stop" || text == "reopen",
+        Holds::PasswordFile => !line_of(known.passwords, text).is_empty(),
+        Holds::Replica
+        | Holds::UpTo(_)
+        | Holds::Truth
+        | Holds::Texts
+        | Holds::Replicas
+        | Holds::OneTable
+        | Holds::Tables => false,
     }
+}
+
+/// Whether a value is a text of at most 65,536 bytes.
+fn is_text(value: &Value) -> bool
+    ensures { result ≡ is_text (view value.now) }
+{
+    match value.as_str() {
+        Some(text) => text.len() <= MOST_TEXT,
+        None => false,
+    }
+}
+
+/// Whether a value is the number of a replica.
+fn is_replica_value(value: &Value) -> bool
+    ensures { result ≡ option_map_or is_replica (as_integer (view value.now)) false }
+{
+    match value.as_integer() {
+        Some(number) => is_replica(number),
+        None => false,
+    }
+}
+
+/// Whether each of the values is a text of at most 65,536 bytes.
+fn are_texts(values: &[Value]) -> bool
+    ensures { result ≡ list_all (λ value. is_held Holds.Texts (view value)) values.now }
+{
+    values.iter().all(|value| is_text(value))
+}
+
+/// Whether each of the values is the number of a replica.
+fn are_replicas(values: &[Value]) -> bool
+    ensures { result ≡ list_all (λ value. is_held Holds.Replicas (view value)) values.now }
+{
+    values.iter().all(|value| is_replica_value(value))
 }
 
 /// Whether each of the values is a table.
 fn are_tables(values: &[Value]) -> bool
-    ensures { result ≡ list_all (λ value. is_some (as_table (view value))) values.now }
+    ensures { result ≡ list_all (λ value. is_held Holds.Tables (view value)) values.now }
 {
     values.iter().all(|value| value.is_table())
 }
@@ -132,7 +180,7 @@ fn is_up_to(most: u32, number: i64) -> bool
 }
 
 /// Whether a value is what a key must hold.
-#[tactic(auto, using(crate::proofs::Tables::tables_in_array))]
+#[tactic(auto, using(crate::proofs::Tables::held_in_array))]
 fn fits(known: &Known<'_>, holds: Holds, value: &Value) -> bool
     ensures { result ≡ fits (known_of known.now) holds (view value.now) }
 {
@@ -151,12 +199,22 @@ fn fits(known: &Known<'_>, holds: Holds, value: &Value) -> bool
             Some(values) => are_tables(values.as_slice()),
             None => false,
         },
+        Holds::Texts => match value.as_array() {
+            Some(values) => are_texts(values.as_slice()),
+            None => false,
+        },
+        Holds::Replicas => match value.as_array() {
+            Some(values) => are_replicas(values.as_slice()),
+            None => false,
+        },
         Holds::Text
         | Holds::Id
         | Holds::NodeName
         | Holds::UserName
         | Holds::FolderId
-        | Holds::Access => match value.as_str() {
+        | Holds::Access
+        | Holds::AfterBreak
+        | Holds::PasswordFile => match value.as_str() {
             Some(text) => fits_text(known, holds, text),
             None => false,
         },
@@ -177,19 +235,29 @@ fn has_name(keys: &[Key], name: &str) -> bool
     keys.iter().any(|key| name == key.name)
 }
 
-/// Whether a table has to have this key and lacks it.
+/// Whether a table has the key that may stand in place of this one.
+fn has_instead(table: &Table, key: &Key) -> bool
+    ensures { result ≡ has_instead (table_view table.now) (rule_of key.now) }
+{
+    match key.instead {
+        Some(other) => find(table, other).is_some(),
+        None => false,
+    }
+}
+
+/// Whether a table has to have this key, or the one in its place, and lacks both.
 fn is_missing(table: &Table, key: &Key) -> bool
     ensures { result ≡ is_missing (table_view table.now) (rule_of key.now) }
 {
-    key.required && find(table, key.name).is_none()
+    key.required && !has_instead(table, key) && find(table, key.name).is_none()
 }
 
-/// Whether a table has this key and it doesn't hold what it must.
+/// Whether a table has this key and it doesn't hold what it must, or the one in its place is there too.
 fn is_bad(known: &Known<'_>, table: &Table, key: &Key) -> bool
     ensures { result ≡ is_bad (known_of known.now) (table_view table.now) (rule_of key.now) }
 {
     match find(table, key.name) {
-        Some(value) => !fits(known, key.holds, value),
+        Some(value) => has_instead(table, key) || !fits(known, key.holds, value),
         None => false,
     }
 }
@@ -310,15 +378,21 @@ pub(crate) fn texts<'a>(
     Ok(texts)
 }
 
-/// The names of the users and the ids of the folders.
-fn known_in<'a>(alloc: Global, document: &'a Table) -> Result<Known<'a>, AllocError>
-    ensures { IfOk result (λ known. known_of known ≡ names_in (table_view document.now)) }
+/// The names of the users and the ids of the folders, where password files say this.
+fn known_in<'a>(
+    alloc: Global,
+    document: &'a Table,
+    passwords: &'a [PasswordLine],
+) -> Result<Known<'a>, AllocError>
+    ensures { IfOk result
+        (λ known. known_of known ≡ names_in passwords.now (table_view document.now)) }
 {
     let users = tables_of(alloc, document, Section::User)?;
     let folders = tables_of(alloc, document, Section::Folder)?;
     Ok(Known {
         users: texts(alloc, users.as_slice(), "name")?,
         folders: texts(alloc, folders.as_slice(), "id")?,
+        passwords,
     })
 }
 
@@ -330,9 +404,11 @@ fn wrong_at<'a>(
     document: &'a Table,
     wrong: Wrong,
 ) -> Result<Option<Spot<'a>>, AllocError>
-    requires { known_of known.now ≡ names_in (table_view document.now) }
+    requires { known_of known.now
+        ≡ names_in known.now.passwords.now (table_view document.now) }
     ensures { IfOk result
-        (λ found. option_map spot_of found ≡ wrong_at (table_view document.now) wrong) }
+        (λ found. option_map spot_of found
+        ≡ wrong_at known.now.passwords.now (table_view document.now) wrong) }
 {
     for section in SECTIONS {
         let tables = tables_of(alloc, document, section)?;
@@ -348,11 +424,13 @@ fn wrong_at<'a>(
 pub(crate) fn judge<'a>(
     alloc: Global,
     document: &'a Table,
+    passwords: &'a [PasswordLine],
 ) -> Result<Option<(Wrong, Spot<'a>)>, AllocError>
     ensures { IfOk result
-        (λ found. option_map refusal_of found ≡ first_wrong (table_view document.now)) }
+        (λ found. option_map refusal_of found
+        ≡ first_wrong passwords.now (table_view document.now)) }
 {
-    let known = known_in(alloc, document)?;
+    let known = known_in(alloc, document, passwords)?;
     for wrong in WRONGS {
         match wrong_at(alloc, &known, document, wrong)? {
             Some(spot) => return Ok(Some((wrong, spot))),

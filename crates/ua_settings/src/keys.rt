@@ -19,6 +19,8 @@ pub enum Section {
     Variable,
     Peer,
     Door,
+    Log,
+    Web,
 }
 
 /// What a key must hold.
@@ -42,6 +44,14 @@ pub(crate) enum Holds {
     FolderId,
     /// `read` or `write`.
     Access,
+    /// `stop` or `reopen`.
+    AfterBreak,
+    /// The path of a password file whose first line isn't empty.
+    PasswordFile,
+    /// An array of texts, each of at most 65,536 bytes.
+    Texts,
+    /// An array of numbers of 1 to 64.
+    Replicas,
     OneTable,
     /// An array of tables.
     Tables,
@@ -76,16 +86,28 @@ impl Wrong {
 #[derive(Clone, Copy, Debug)]
 pub(crate) struct Key {
     pub name: &'static str,
+    /// Whether the table has to have it, or the other key that may stand in its place.
     pub required: bool,
+    /// The other key, of which the table has to have this one or that one, and not both.
+    pub instead: Option<&'static str>,
     pub holds: Holds,
 }
 
-/// A key that has to be there, and one that may be.
+/// A key that has to be there, one that may be, and one in whose place another may be.
 macro_rules! key {
     ($name:literal, $holds:ident) => {
         Key {
             name: $name,
             required: true,
+            instead: None,
+            holds: Holds::$holds,
+        }
+    };
+    ($name:literal, $holds:ident, instead $other:literal) => {
+        Key {
+            name: $name,
+            required: true,
+            instead: Some($other),
             holds: Holds::$holds,
         }
     };
@@ -93,6 +115,7 @@ macro_rules! key {
         Key {
             name: $name,
             required: true,
+            instead: None,
             holds: Holds::UpTo($most),
         }
     };
@@ -100,6 +123,7 @@ macro_rules! key {
         Key {
             name: $name,
             required: false,
+            instead: None,
             holds: Holds::UpTo($most),
         }
     };
@@ -107,12 +131,13 @@ macro_rules! key {
         Key {
             name: $name,
             required: false,
+            instead: None,
             holds: Holds::$holds,
         }
     };
 }
 
-static DOCUMENT: [Key; 7] = [
+static DOCUMENT: [Key; 9] = [
     key!("archive", OneTable),
     key!("server", OneTable),
     key!("user", Tables, optional),
@@ -120,15 +145,18 @@ static DOCUMENT: [Key; 7] = [
     key!("variable", Tables, optional),
     key!("peer", Tables, optional),
     key!("door", OneTable, optional),
+    key!("log", OneTable, optional),
+    key!("web", OneTable, optional),
 ];
 
-static ARCHIVE: [Key; 3] = [
+static ARCHIVE: [Key; 4] = [
     key!("id", Id),
     key!("replica", Replica),
     key!("store", Text, optional),
+    key!("broken", AfterBreak, optional),
 ];
 
-static SERVER: [Key; 8] = [
+static SERVER: [Key; 10] = [
     key!("listen", Text),
     key!("url", Text),
     key!("application", Text),
@@ -137,11 +165,14 @@ static SERVER: [Key; 8] = [
     key!("connections", up to 1000, optional),
     key!("waiting", up to 65536, optional),
     key!("anonymous_access", Access, optional),
+    key!("logins", up to 1000, optional),
+    key!("strict", Truth, optional),
 ];
 
-static USER: [Key; 3] = [
+static USER: [Key; 4] = [
     key!("name", UserName),
-    key!("password", Text),
+    key!("password", Text, instead "password_file"),
+    key!("password_file", PasswordFile, optional),
     key!("access", Access, optional),
 ];
 
@@ -155,9 +186,25 @@ static VARIABLE: [Key; 5] = [
     key!("folder", FolderId, optional),
 ];
 
-static PEER: [Key; 2] = [key!("address", Text), key!("every", up to 86400)];
+static PEER: [Key; 3] = [
+    key!("address", Text),
+    key!("every", up to 86400),
+    key!("check", Truth, optional),
+];
 
-static DOOR: [Key; 1] = [key!("listen", Text)];
+static DOOR: [Key; 4] = [
+    key!("listen", Text),
+    key!("from", Texts, optional),
+    key!("replicas", Replicas, optional),
+    key!("ahead", up to 31536000, optional),
+];
+
+static LOG: [Key; 1] = [key!("events", Truth, optional)];
+
+static WEB: [Key; 2] = [
+    key!("listen", Text),
+    key!("connections", up to 1000, optional),
+];
 
 /// The keys of a kind of table.
 pub(crate) fn keys_of(section: Section) -> &'static [Key]
@@ -172,5 +219,7 @@ pub(crate) fn keys_of(section: Section) -> &'static [Key]
         Section::Variable => &VARIABLE,
         Section::Peer => &PEER,
         Section::Door => &DOOR,
+        Section::Log => &LOG,
+        Section::Web => &WEB,
     }
 }

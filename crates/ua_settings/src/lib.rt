@@ -1,17 +1,21 @@
 //! What a server is set to: its endpoint's URL, its application, its namespace, its users, and the peers that it calls.
 #![tactic(auto)]
 
+mod door;
 mod fault;
 mod judging;
 mod keys;
 mod looking;
+mod password;
 mod peers;
 mod place;
 mod reading;
 mod settings;
 
+pub use door::{DoorSettings, WebSettings};
 pub use fault::SettingsFault;
 pub use keys::Section;
+pub use password::{PasswordLine, password_files};
 pub use peers::{PeerCall, Peers};
 pub use place::Place;
-pub use settings::{Parts, Settings};
+pub use settings::{AfterBreak, Parts, Settings};

@@ -14,6 +14,7 @@ ghost use Rattle.ua_settings.specs.Place.{heading, is_shown, plain, shown_key, u
 use crate::judging::{Spot, is_among, judge, texts};
 use crate::keys::Section;
 use crate::looking::{tables_of, text};
+use crate::password::PasswordLine;
 use std::alloc::{AllocError, Global};
 use std::fmt::Write as _;
 use toml::Table;
@@ -42,12 +43,13 @@ impl Place {
     ghost use Rattle.ua_settings.specs.Place.{IsPlaceOf, IsLineNumber, place_in, place_among, place_text};
 
     /// Where a text is refused that `Settings::read` refuses: the line where it is no TOML, else the first key that is
-    /// unknown, missing or bad, else the type or the id that makes no address space. The one error is want of memory.
-    pub fn of(alloc: Global, text: &str) -> Result<Place, AllocError>
-        ensures { IfOk result (IsPlaceOf (parse_document text.now)) }
+    /// unknown, missing or bad, else the type or the id that makes no address space; where password files say this. The one
+    /// error is want of memory.
+    pub fn of(alloc: Global, text: &str, passwords: &[PasswordLine]) -> Result<Place, AllocError>
+        ensures { IfOk result (IsPlaceOf passwords.now (parse_document text.now)) }
     {
         match toml::table_from_str(alloc, text) {
-            Ok(document) => Place::in_document(alloc, &document),
+            Ok(document) => Place::in_document(alloc, &document, passwords),
             Err(error) => Place::in_text(text, &error),
         }
     }
@@ -64,10 +66,15 @@ impl Place {
     }
 
     /// The place in a document.
-    fn in_document(alloc: Global, document: &Table) -> Result<Place, AllocError>
-        ensures { IfOk result (λ place. place ≡ place_in (table_view document.now)) }
+    fn in_document(
+        alloc: Global,
+        document: &Table,
+        passwords: &[PasswordLine],
+    ) -> Result<Place, AllocError>
+        ensures { IfOk result
+            (λ place. place ≡ place_in passwords.now (table_view document.now)) }
     {
-        match judge(alloc, document)? {
+        match judge(alloc, document, passwords)? {
             Some((_, spot)) => Place::at(alloc, spot),
             None => Place::among_nodes(alloc, document),
         }
@@ -139,6 +146,8 @@ fn put_heading(section: Section, number: usize, text: &mut String) -> Result<(),
         Section::Variable => write!(text, "[[variable]] {number}, "),
         Section::Peer => write!(text, "[[peer]] {number}, "),
         Section::Door => text.push_str("[door] "),
+        Section::Log => text.push_str("[log] "),
+        Section::Web => text.push_str("[web] "),
     }
 }
 

@@ -1,6 +1,6 @@
 //! The settings of a server.
 
-ghost use Rattle.std.specs.Prelude.{◌≡◌, ◌⊎◌, IfOk, IfErr, Option, Some};
+ghost use Rattle.std.specs.Prelude.{◌≡◌, ◌⊎◌, IfOk, IfErr, Option, Some, []};
 ghost use Rattle.std.specs.Option.{option_copied};
 ghost use Rattle.toml.specs.Errors.{IsMemory};
 ghost use Rattle.toml.specs.Parse.{parse_document};
@@ -8,8 +8,10 @@ ghost use Rattle.toml.specs.View.{table_view};
 ghost use Rattle.ua_settings.specs.Reading.{IsReadOrStarved};
 ghost use Rattle.ua_settings.specs.Settings.{bare, IsSettingsText};
 
+use crate::door::{DoorSettings, WebSettings};
 use crate::fault::SettingsFault;
 use crate::judging::judge;
+use crate::password::PasswordLine;
 use crate::peers::Peers;
 use crate::reading::read_document;
 use stamp::ReplicaNo;
@@ -27,6 +29,20 @@ pub(crate) const CONNECTIONS: u32 = 64;
 /// How many MiB may wait to be written, where the settings don't say.
 pub(crate) const WAITING: u32 = 256;
 
+/// How many connections are served at the page's address at a time, where the settings don't say.
+pub(crate) const WEB_CONNECTIONS: u32 = 8;
+
+/// What is done once a call of the store found it broken.
+#[derive(Clone, Copy, Debug, PartialEq, Eq)]
+pub enum AfterBreak {
+    /// The server goes on, and answers what asks the archive by Bad_ResourceUnavailable.
+    GoesOn,
+    /// The server stops.
+    Stops,
+    /// The store is closed and opened again, once; where that is refused the server stops.
+    Reopens,
+}
+
 /// What settings are made of.
 #[derive(Debug, Drop)]
 pub struct Parts {
@@ -36,6 +52,8 @@ pub struct Parts {
     pub replica: ReplicaNo,
     /// The file of its store; none for memory.
     pub store: Option<Text>,
+    /// What is done once its store is broken.
+    pub after_break: AfterBreak,
     /// Where the server listens.
     pub listen: Text,
     /// The URL of the server's endpoint.
@@ -50,10 +68,18 @@ pub struct Parts {
     pub connections: u32,
     /// How many MiB may wait to be written, at all connections together, 1 to 65,536.
     pub waiting: u32,
+    /// After how many refused logins from one address in a minute its next ones wait, 1 to 1,000; none: never.
+    pub logins: Option<u32>,
+    /// Whether settings are refused that others may write, or that have a password and that others may read.
+    pub strict: bool,
     /// The peers that are called.
     pub peers: Peers,
     /// Where peers come to; none where they come to the address where clients do.
-    pub door: Option<Text>,
+    pub door: Option<DoorSettings>,
+    /// Where a page for people is served; none: nowhere.
+    pub web: Option<WebSettings>,
+    /// Whether a line is told of each event.
+    pub events: bool,
 }
 
 /// What a server is set to.
@@ -62,6 +88,7 @@ pub struct Settings {
     archive: Uuid,
     replica: ReplicaNo,
     store: Option<Text>,
+    after_break: AfterBreak,
     listen: Text,
     url: Text,
     application: Text,
@@ -69,8 +96,12 @@ pub struct Settings {
     space: Space,
     connections: u32,
     waiting: u32,
+    logins: Option<u32>,
+    strict: bool,
     peers: Peers,
-    door: Option<Text>,
+    door: Option<DoorSettings>,
+    web: Option<WebSettings>,
+    events: bool,
 }
 
 impl Model for Settings {
@@ -83,6 +114,7 @@ impl Model for Settings {
           archive = s.archive;
           replica = s.replica;
           store = s.store;
+          after_break = s.after_break;
           listen = s.listen;
           url = s.url;
           application = s.application;
@@ -90,8 +122,12 @@ impl Model for Settings {
           space = s.space;
           connections = s.connections;
           waiting = s.waiting;
+          logins = s.logins;
+          strict = s.strict;
           peers = s.peers;
           door = s.door;
+          web = s.web;
+          events = s.events;
         } };
 
     ghost invariant = { λ s. IsSettingsText s.url × IsSettingsText s.application };
@@ -124,6 +160,7 @@ impl Settings {
             archive: Uuid::nil(),
             replica,
             store: None,
+            after_break: AfterBreak::GoesOn,
             listen,
             url,
             application,
@@ -131,8 +168,12 @@ impl Settings {
             space,
             connections: CONNECTIONS,
             waiting: WAITING,
+            logins: None,
+            strict: false,
             peers: Peers::new(alloc),
             door: None,
+            web: None,
+            events: false,
         })
     }
 
@@ -140,12 +181,26 @@ impl Settings {
     ///
     /// Errors: `NotToml` where `toml` refuses the text; then `UnknownKey`, `MissingKey` and `BadValue`, each over the
     /// whole text, in this order; then `Space` for what the folders and variables lack to be an address space;
-    /// `OutOfMemory` where it is met.
+    /// `OutOfMemory` where it is met. A user's `password_file` is a `BadValue` here: see `read_with`.
     pub fn read(alloc: Global, text: &str) -> Result<Settings, SettingsFault>
-        ensures { IsReadOrStarved (parse_document text.now) result }
+        ensures { IsReadOrStarved [] (parse_document text.now) result }
+    {
+        Settings::read_with(alloc, text, &[])
+    }
+
+    /// The settings that a text gives, where password files say this. A user has the first line of its `password_file` for
+    /// a password; one that isn't among these, or whose line is empty, is a `BadValue`, as is a user with both.
+    ///
+    /// Errors are those of `read`.
+    pub fn read_with(
+        alloc: Global,
+        text: &str,
+        passwords: &[PasswordLine],
+    ) -> Result<Settings, SettingsFault>
+        ensures { IsReadOrStarved passwords.now (parse_document text.now) result }
     {
         match toml::table_from_str(alloc, text) {
-            Ok(document) => read_judged(alloc, &document),
+            Ok(document) => read_judged(alloc, &document, passwords),
             Err(error) => Err(fault_of(&error)),
         }
     }
@@ -160,6 +215,7 @@ impl Settings {
             archive: parts.archive,
             replica: parts.replica,
             store: parts.store,
+            after_break: parts.after_break,
             listen: parts.listen,
             url: parts.url,
             application: parts.application,
@@ -167,8 +223,12 @@ impl Settings {
             space: parts.space,
             connections: parts.connections,
             waiting: parts.waiting,
+            logins: parts.logins,
+            strict: parts.strict,
             peers: parts.peers,
             door: parts.door,
+            web: parts.web,
+            events: parts.events,
         }
     }
 
@@ -254,14 +314,52 @@ impl Settings {
         &self.peers
     }
 
-    /// Where peers come to; none where they come to the address where clients do.
-    pub fn door(&self) -> Option<&str>
+    /// What is done once its store is broken.
+    pub fn after_break(&self) -> AfterBreak
+        ensures { result ≡ self.now.after_break }
+    {
+        self.after_break
+    }
+
+    /// After how many refused logins from one address in a minute its next ones wait; none: never.
+    pub fn logins(&self) -> Option<u32>
+        ensures { result ≡ self.now.logins }
+    {
+        self.logins
+    }
+
+    /// Whether settings are refused that others may write, or that have a password and that others may read.
+    pub fn is_strict(&self) -> bool
+        ensures { result ≡ self.now.strict }
+    {
+        self.strict
+    }
+
+    /// Where peers come to, and who is taken there; none where they come to the address where clients do.
+    pub fn door(&self) -> Option<&DoorSettings>
         ensures { option_copied result ≡ self.now.door }
     {
         match &self.door {
             None => None,
-            Some(address) => Some(address.as_str()),
+            Some(door) => Some(door),
         }
+    }
+
+    /// Where a page for people is served; none: nowhere.
+    pub fn web(&self) -> Option<&WebSettings>
+        ensures { option_copied result ≡ self.now.web }
+    {
+        match &self.web {
+            None => None,
+            Some(web) => Some(web),
+        }
+    }
+
+    /// Whether a line is told of each event.
+    pub fn tells_events(&self) -> bool
+        ensures { result ≡ self.now.events }
+    {
+        self.events
     }
 }
 
@@ -277,12 +375,16 @@ fn fault_of(error: &toml::de::Error) -> SettingsFault
     }
 }
 
-/// The settings that a document gives.
-fn read_judged(alloc: Global, document: &Table) -> Result<Settings, SettingsFault>
-    ensures { IsReadOrStarved (Some (table_view document.now)) result }
+/// The settings that a document gives, where password files say this.
+fn read_judged(
+    alloc: Global,
+    document: &Table,
+    passwords: &[PasswordLine],
+) -> Result<Settings, SettingsFault>
+    ensures { IsReadOrStarved passwords.now (Some (table_view document.now)) result }
 {
-    match judge(alloc, document)? {
+    match judge(alloc, document, passwords)? {
         Some((wrong, _)) => Err(wrong.fault()),
-        None => read_document(alloc, document),
+        None => read_document(alloc, document, passwords),
     }
 }

@@ -1,4 +1,4 @@
-use Rattle.std.proofs.Common.{arith, [], refl}
+use Rattle.std.proofs.Common.{arith, [], refl, inl}
 use Rattle.multiplex.specs.Turns.{state}
 use Rattle.multiplex.proofs.Counts.{none_more}
 use Rattle.multiplex.proofs.Rounding.{coming_none}
@@ -32,3 +32,13 @@ returns-else-is_coming-clause-turns g c =
     g.H.Handler.behavior c.args.round.limits c.args.accepted here here
     (λ k below free. c.in-None.ensures.none k (omega arith) below free)
     ([], refl, coming_none)
+
+pub returns-then-is_all-clause-turns : goal.returns-then-is_all-clause-turns
+returns-then-is_all-clause-turns g c =
+    ([], refl, coming_none, inl (c.is_all.ensures.0 c.if-is_all.true))
+
+pub returns-then-is_all-clause-most : goal.returns-then-is_all-clause-most
+returns-then-is_all-clause-most g c = none_more c.args.round.limits.connections c.args.accepted
+
+pub make_place-requires : goal.make_place-requires
+make_place-requires g c = λ k below free. c.in-None.ensures.none k (omega arith) below free

@@ -30,5 +30,5 @@ returns-in-Some g c = (
   c.in-Some.ensures.0,
   c.in_ok-call.ensures,
   c.in-Some.ensures.2,
-  rw (c.calling.ensures, c.new-slot.ensures, c.in-Some.ensures.1, c.new-out.ensures.items) refl,
+  rw (c.new.ensures, c.begin-stay.ensures, c.in-Some.ensures.1, c.new-out.ensures.items) refl,
 )

@@ -67,7 +67,7 @@ loop-preserved g c = record {
             c.serve_round-busy.result now
             (state c.args.source.now c.args.slots.now c.args.world.now first)
             (state c.loop.source c.loop.slots world last) (state c.wait-now.new.self c.loop.slots
-            world now)
+            c.pass.new.world now)
             (state c.accept_next-accepted.new.source c.accept_next-accepted.new.slots
             c.accept_next-accepted.new.world now)
             (state c.call_next.new.source c.call_next.new.slots c.call_next.new.world now)
@@ -76,6 +76,8 @@ loop-preserved g c = record {
             before (record {
               rest = c.loop.invariant.rest;
               waited = c.wait-now.ensures;
+              longest_turn = c.loop.longest_turn;
+              passes = c.pass.ensures;
               others =
                   refl;
             })

@@ -7,18 +7,18 @@ use Rattle.ua_settings.proofs.Plans.{ids_planned, folders_planned, plan_short, s
 use Rattle.ua_settings.proofs.reading.build_space.Goals as goal
 
 pub build-requires-clause-ids : goal.build-requires-clause-ids
-build-requires-clause-ids c = ids_planned
-    (table_view c.args.document.now) c.requires.sound c.args.folders.now c.args.variables.now
+build-requires-clause-ids c = ids_planned c.requires.sound.0
+    (table_view c.args.document.now) c.requires.sound.1 c.args.folders.now c.args.variables.now
     c.requires.folders c.requires.variables
 
 pub build-requires-clause-folders : goal.build-requires-clause-folders
-build-requires-clause-folders c = folders_planned
-    (table_view c.args.document.now) c.requires.sound c.args.folders.now c.args.variables.now
+build-requires-clause-folders c = folders_planned c.requires.sound.0
+    (table_view c.args.document.now) c.requires.sound.1 c.args.folders.now c.args.variables.now
     c.requires.folders c.requires.variables
 
 pub build-requires-clause-texts : goal.build-requires-clause-texts
 build-requires-clause-texts c =
-    plan_short (table_view c.args.document.now) c.requires.sound c.args.folders.now
+    plan_short c.requires.sound.0 (table_view c.args.document.now) c.requires.sound.1 c.args.folders.now
     c.args.variables.now c.requires.folders c.requires.variables _ refl refl
     (c.text.ensures ∙ ap (text_at (codes "namespace")) c.requires.same)
 

@@ -8,5 +8,5 @@ invariant-loop-table l = l.users ≡ record {
   anonymous = l.anonymous;
   anonymous_access = l.fn.anonymous_access;
   named =
-      map (λ user. user_in (table_view user.now)) (take l.table-index l.tables);
+      map (λ user. user_in l.passwords (table_view user.now)) (take l.table-index l.tables);
 }

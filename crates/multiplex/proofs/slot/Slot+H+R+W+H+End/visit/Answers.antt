@@ -14,12 +14,15 @@ returns-clause-steps g c =
     more g.R.NonBlockingRead.input g.W.NonBlockingWrite.output g.H.Handler.behavior 0 0 0 1 1 1
     false all all room now v v w _ _ _ (λ done. inr done)
     (c.wake_if.ensures.steps v room now)
+    (more g.R.NonBlockingRead.input g.W.NonBlockingWrite.output g.H.Handler.behavior 0 0 0 1 1 1
+    false all all room now v v w _ _ _ (λ done. inr done)
+    (c.release.ensures.steps v room)
     (more g.R.NonBlockingRead.input g.W.NonBlockingWrite.output g.H.Handler.behavior 1 1 0 0 0 1
     advanced wrote all room now v w w _ _ _ c.either.ensures.some
     c.advance-advanced.ensures.steps
     (more g.R.NonBlockingRead.input g.W.NonBlockingWrite.output g.H.Handler.behavior 0 0 1 0 0 0
     wrote false wrote room now w w w _ _ _ (λ done. inl done)
-    (c.write_next-wrote.ensures.steps w room) (c.stop_if_idle.ensures.steps w room)))
+    (c.write_next-wrote.ensures.steps w room) (c.stop_if_idle.ensures.steps w room))))
 
 pub returns-clause-rest : goal.returns-clause-rest
 returns-clause-rest g c none =

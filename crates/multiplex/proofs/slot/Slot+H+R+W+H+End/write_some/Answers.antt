@@ -1,4 +1,4 @@
-use Rattle.std.proofs.Common.{length, take, drop, ◌+◌, ◌-◌}
+use Rattle.std.proofs.Common.{length, take, drop, ◌+◌, ◌-◌, ap, ◌∙◌}
 use Rattle.std.proofs.KnownBytes.{Keeps-refl}
 use Rattle.multiplex.specs.declared.handler.SlotEnd.TheVariants.{WriteFailed}
 use Rattle.multiplex.proofs.Stepping.{some_taken, wrote, found_full, stopped, first_of}
@@ -13,7 +13,7 @@ returns-in-Written-clause-steps g c v room =
     c.try_write.new.self (take c.in-Written.n (take (length i.out.items - i.sent)
     (drop i.sent i.out.items)))
     (drop (i.sent + c.in-Written.n) i.out.items) (some_taken c.in-Written.n _ did.0 did.1)
-    c.self.view_is
+    c.self.view_is (ap (λ s. s.held) c.self.view_is ∙ c.requires.free)
     (first_of i.sent c.in-Written.n i.out.items) did.2
 
 pub returns-in-WouldBlock-clause-steps : goal.returns-in-WouldBlock-clause-steps
