@@ -5,6 +5,5 @@ pub mod Browsing
 pub mod UserSpaces
 pub mod Reading
 pub mod Updating
-pub mod Auditing
 pub mod Services
 pub mod Telling

@@ -2,7 +2,6 @@
 -- answer of its service, or the code that refuses it, and the sessions and the content that this
 -- leaves.
 use Rattle.std.specs.Prelude.{◌≡◌, ℕ, List, [], ◌∷◌, Option, Result, Ok, Err, IfOk, ok_or, if◌then◌else◌}
-use Rattle.std.specs.Result.{result_unwrap_or}
 use Rattle.ua_binary.specs.declared.codes.Status.{Status}
 use Rattle.ua_binary.specs.declared.codes.TheConstants.Status.{BAD_OUT_OF_MEMORY, BAD_DECODING_ERROR}
 use Rattle.ua_binary.specs.declared.values.NodeId.{NodeId}
@@ -11,7 +10,7 @@ use Rattle.ua_session.specs.declared.fault.SessionFault.{SessionFault}
 use Rattle.ua_session.specs.Fault.{session_fault_status}
 use Rattle.ua_session.specs.declared.identity.Access.TheVariants as may
 use Rattle.ua_session.specs.Users.{Claim, access_of}
-use Rattle.ua_session.specs.Sessions.{SessionsState, with_audit, create_answer, activate_answer, close_answer, user_at, with_new, with_user, without_session}
+use Rattle.ua_session.specs.Sessions.{SessionsState, create_answer, activate_answer, close_answer, user_at, with_new, with_user, without_session}
 use Rattle.ua_services.specs.Attributes.{ReadAsked}
 use Rattle.ua_services.specs.Browsing.{BrowseFields}
 use Rattle.ua_services.specs.History.{HistoryAsked}
@@ -20,14 +19,13 @@ use Rattle.ua_settings.specs.Settings.{SettingsValues}
 use Rattle.records.specs.Contents.{Content}
 use Rattle.archive.specs.Store.{Store, StepResult, Done, NoMemory}
 use Rattle.archive.specs.Steps.{Fallible, give, step, and_then}
-use Rattle.historian.specs.Answers.{Answer, Endpoints, Created, Activated, Closed, Updated, Response}
+use Rattle.historian.specs.Answers.{Answer, Endpoints, Created, Activated, Closed, Response}
 use Rattle.historian.specs.Requests.{Call, GetEndpoints, CreateSession, ActivateSession, CloseSession, Browse, Read, HistoryRead, HistoryUpdate, Request, request_in}
 use Rattle.historian.specs.Endpoints.{endpoint_of, takes_transport}
 use Rattle.historian.specs.Browsing.{browse}
 use Rattle.historian.specs.Reading.{Served, read, read_history}
 use Rattle.historian.specs.Updating.{update_history}
 use Rattle.historian.specs.UserSpaces.{space_for}
-use Rattle.historian.specs.Auditing.{activation_event, update_event}
 
 -- a server: its settings, and the number and the id of its replica of the archive
 pub record ServerConfig : Type 0 where
@@ -96,18 +94,12 @@ create_for config timeout sessions R =
     step
     (λ mark. (called sessions (created config timeout sessions) (create_answer sessions) mark, R))
 
--- what an activation by this claim came to, which is kept for a log
-abbrev pub noting_activation : Claim → Response × SessionsState → Response × SessionsState
-noting_activation claim (response, sessions) =
-    (response, with_audit (activation_event claim response) sessions)
-
 -- a session is activated as whom this identity is allowed, which takes memory
 abbrev pub activate_for : ServerConfig → NodeId → Claim → SessionsState → Content
     → Fallible MessageOutcome
 activate_for config token claim sessions R =
     let answer = activate_answer sessions token config.settings.users claim in
-    step
-    (λ mark. (noting_activation claim (called sessions (activated token sessions) answer mark), R))
+    step (λ mark. (called sessions (activated token sessions) answer mark, R))
 
 -- a session is closed
 abbrev pub close_for : NodeId → SessionsState → Content → Fallible MessageOutcome
@@ -136,24 +128,6 @@ abbrev pub update_for : ServerConfig → Ticks → List Details → Content → 
 update_for config now details R user =
     update_history config.own (space_for config.settings user) user now details R
 
--- the sessions, of which the one of this token asked for these updates and was answered so; where
--- the settings ask for it, that is kept for a log
-abbrev pub noting_updates : SettingsValues → NodeId → List Details → Response → SessionsState
-    → SessionsState
-noting_updates settings token details (Ok (Updated results)) sessions =
-    let user = result_unwrap_or (user_at sessions token) [] in
-    if settings.events then with_audit (update_event settings.space user details results) sessions
-    else sessions
-noting_updates settings token details response sessions = sessions
-
--- HistoryUpdates for the user who activated the session of this token
-abbrev pub update_noted : ServerConfig → Ticks → NodeId → List Details → SessionsState → Content
-    → Fallible MessageOutcome
-update_noted config now token details sessions R =
-    and_then (for_user token (update_for config now details) sessions R)
-    (λ ((response, left), S).
-    give ((response, noting_updates config.settings token details response left), S))
-
 -- What a service answers, and what it leaves: a session more, a session's user, a session less,
 -- which takes no memory; the last four want a session that was activated.
 abbrev pub served : ServerConfig → Ticks → NodeId → Call → SessionsState → Content
@@ -165,7 +139,7 @@ served config now token CloseSession = close_for token
 served config now token (Browse nodes) = for_user token (browse_for config nodes)
 served config now token (Read asked) = for_user token (read_for config now asked)
 served config now token (HistoryRead asked) = for_user token (history_for config asked)
-served config now token (HistoryUpdate details) = update_noted config now token details
+served config now token (HistoryUpdate details) = for_user token (update_for config now details)
 
 -- who activated the session of this token, if somebody did, may only read
 abbrev pub OnlyReads : SettingsValues → SessionsState → NodeId → Type 0

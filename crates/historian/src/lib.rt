@@ -3,7 +3,6 @@
 #![tactic(auto)]
 
 mod answer;
-mod auditing;
 mod browsing;
 mod endpoints;
 mod histories;

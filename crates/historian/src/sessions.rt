@@ -8,7 +8,6 @@ ghost use Rattle.historian.specs.Services.{ServerConfig, answered_call};
 ghost use Rattle.historian.specs.Telling.{IsEncodable, PerformsHere};
 
 use crate::answer::Answer;
-use crate::auditing::activation_event;
 use crate::endpoints::{all_endpoints, takes_transport};
 use crate::requests::{activation_request, closing_request, creation_request, endpoints_request};
 use std::alloc::Global;
@@ -70,7 +69,7 @@ pub(crate) fn create_session(
 
 /// ActivateSession (Part 4, 5.7.3): the session of this token has the user whom the identity is allowed as.
 /// `BAD_SESSION_ID_INVALID`, `BAD_IDENTITY_TOKEN_INVALID` and `BAD_IDENTITY_TOKEN_REJECTED` as `Sessions::activate` has
-/// them. Who asked, and what was answered, is kept in the sessions for a log.
+/// them.
 pub(crate) fn activate_session(
     settings: &Settings,
     sessions: &mut Sessions,
@@ -84,14 +83,9 @@ pub(crate) fn activate_session(
     ensures short { IfOk result IsEncodable }
 {
     let asked = activation_request(request)?;
-    let refused = match sessions.activate(token, asked.user_identity, settings.users()) {
-        Ok(_) => None,
-        Err(fault) => Some(fault.code()),
-    };
-    sessions.note(activation_event(asked.user_identity, refused));
-    match refused {
-        None => Ok(Answer::Activated),
-        Some(status) => Err(status),
+    match sessions.activate(token, asked.user_identity, settings.users()) {
+        Ok(_) => Ok(Answer::Activated),
+        Err(fault) => Err(fault.code()),
     }
 }
 

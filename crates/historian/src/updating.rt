@@ -18,7 +18,6 @@ ghost use Rattle.historian.specs.Telling.{IsEncodable, Comes, Performs};
 ghost use Rattle.historian.specs.UserSpaces.{space_for, user_space_of};
 
 use crate::answer::Answer;
-use crate::auditing::{add_results, audits_of};
 use crate::browsing::list_refusal;
 use crate::requests::history_update_request;
 use crate::server::Server;
@@ -29,7 +28,7 @@ use hist_update::{Request, delete_at, delete_raw, update_data};
 use std::alloc::{AllocError, Global};
 use ua_binary::{Listing, NodeIdRef, Status, Text, Ticks};
 use ua_services::{HistoryUpdateDetails, HistoryUpdateResult};
-use ua_session::{Access, AuditEvent, AuditName, Sessions};
+use ua_session::{Access, Sessions};
 use ua_variant::ValueType;
 
 /// The most details of a HistoryUpdate.
@@ -47,7 +46,7 @@ fn refused(alloc: Global, status: Status) -> HistoryUpdateResult
 }
 
 /// The node of which details ask an update; none for details of another type.
-pub(crate) fn node_asked<'a>(details: &HistoryUpdateDetails<'a>) -> Option<NodeIdRef<'a>>
+fn node_asked<'a>(details: &HistoryUpdateDetails<'a>) -> Option<NodeIdRef<'a>>
     ensures { option_map node_of result ≡ node_asked (details_of details.now) }
 {
     match details {
@@ -235,11 +234,10 @@ fn update_all<A: Archive>(
 /// details, in order. `BAD_NOTHING_TO_DO` for none, `BAD_TOO_MANY_OPERATIONS` for more. Each of the details has a status of
 /// its own: `BAD_HISTORY_OPERATION_UNSUPPORTED` for another type of details, `BAD_NODE_ID_UNKNOWN`,
 /// `BAD_HISTORY_OPERATION_UNSUPPORTED` where the node isn't archived, `BAD_USER_ACCESS_DENIED` for a user who may only read,
-/// `BAD_OUT_OF_MEMORY`, and then those of `update_data`, `delete_raw` and `delete_at`. Where the settings ask for it, what each
-/// of them came to is kept in the sessions for a log; memory for that is had before the first one is done.
+/// `BAD_OUT_OF_MEMORY`, and then those of `update_data`, `delete_raw` and `delete_at`.
 pub(crate) fn update_history<A: Archive>(
     server: &mut Server<A>,
-    sessions: &mut Sessions,
+    sessions: &Sessions,
     now: Ticks,
     request: ServiceRequest<'_>,
 ) -> Result<Answer, Status>
@@ -247,26 +245,11 @@ pub(crate) fn update_history<A: Archive>(
         (A.state server.new.replica.archive)
         (answered_call (site_of server.old.settings (A.state server.old.replica.archive)) now
         (node_of request.entry.token) (call_in service.HistoryUpdate request.entry.body)
-        sessions.old) sessions.new result }
+        sessions.now) sessions.now result }
     ensures settings { server.new.settings ≡ server.old.settings }
     ensures short { IfOk result IsEncodable }
 {
     let asked = history_update_request(server.alloc, request.body)?;
     let user = sessions.user_of(request.token)?;
-    if !server.settings.tells_events() {
-        return update_all(server, user, now, &asked.details);
-    }
-    let name = AuditName::of(user);
-    let Ok(mut audits) = audits_of(server.alloc, server.settings.space(), &asked.details) else {
-        return Err(Status::BAD_OUT_OF_MEMORY);
-    };
-    let answer = update_all(server, user, now, &asked.details);
-    if let Ok(Answer::Updated(results)) = &answer {
-        add_results(&mut audits, results);
-        sessions.note(AuditEvent::Update {
-            user: name,
-            updates: Listing::of(audits),
-        });
-    }
-    answer
+    update_all(server, user, now, &asked.details)
 }

@@ -2,7 +2,6 @@
 //! was activated.
 #![tactic(auto)]
 
-mod audit;
 mod fault;
 mod identity;
 mod laws;
@@ -10,7 +9,6 @@ mod session;
 mod sessions;
 mod users;
 
-pub use audit::{AuditEvent, AuditName, UpdateAudit, UpdateKind};
 pub use fault::SessionFault;
 pub use identity::{Access, Identity};
 pub use laws::{
