@@ -27,7 +27,6 @@ use Rattle.ua_settings.specs.Judging.{is_short}
 use Rattle.ua_settings.specs.Reading.{folder_in, variable_in, user_in, users_in, table_at, truth_at, access_at, listed_in, values_of, values_in, space_fault, space_in, IsSpaceOrStarved, IsAcceptedOrStarved}
 use Rattle.ua_session.specs.Users.{Allowed}
 use Rattle.ua_settings.specs.declared.door.DoorSettings.{DoorSettings}
-use Rattle.ua_settings.specs.declared.door.WebSettings.{WebSettings}
 use Rattle.ua_settings.specs.declared.peers.PeerCall.{PeerCall}
 use Rattle.ua_settings.specs.declared.reading.Listed.{Listed}
 use Rattle.ua_settings.specs.declared.password.PasswordLine.{PasswordLine}
@@ -253,26 +252,19 @@ users_same lines document server anonymous access named s a may n =
 -- what the tables list, by its parts
 pub same_lists : (lines : List PasswordLine) (document : Members) (space : Layout)
     (users : Allowed) (peers : List PeerCall) (door : Option DoorSettings)
-    (web : Option WebSettings) (events : Bool)
     → users ≡ (listed_in lines document space).users
     → peers ≡ (listed_in lines document space).peers
     → door ≡ (listed_in lines document space).door
-    → web ≡ (listed_in lines document space).web
-    → events ≡ (listed_in lines document space).events
     → (let listed : Listed = record {
       users = users;
       peers = peers;
       door = door;
-      web = web;
-      events = events;
       space = space;
     } in listed) ≡ listed_in lines document space
-same_lists lines document space users peers door web events u p d w e =
+same_lists lines document space users peers door u p d =
     λ i. record {
       users = u i;
       peers = p i;
       door = d i;
-      web = w i;
-      events = e i;
       space = space;
     }

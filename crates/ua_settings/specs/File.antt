@@ -7,9 +7,9 @@ use Rattle.std.specs.Cmp.Lexicographic.{pointwise}
 use Rattle.toml.specs.Data.{Data, Items, no_items, item, Members, no_members, member, get_member, as_str, as_integer, as_bool, as_array, as_table}
 use Rattle.uuid.specs.Text.{parsed}
 use Rattle.ua_settings.specs.declared.keys.Section.{Section}
-use Rattle.ua_settings.specs.declared.keys.Section.TheVariants.{Document, Archive, Server, User, Folder, Variable, Peer, Door, Log, Web}
+use Rattle.ua_settings.specs.declared.keys.Section.TheVariants.{Document, Archive, Server, User, Folder, Variable, Peer, Door}
 use Rattle.ua_settings.specs.declared.keys.Holds.{Holds}
-use Rattle.ua_settings.specs.declared.keys.Holds.TheVariants.{Text, Id, Replica, UpTo, Truth, NodeName, UserName, FolderId, Access, AfterBreak, PasswordFile, Texts, Replicas, OneTable, Tables}
+use Rattle.ua_settings.specs.declared.keys.Holds.TheVariants.{Text, Id, Replica, UpTo, Truth, NodeName, UserName, FolderId, Access, PasswordFile, Texts, OneTable, Tables}
 use Rattle.ua_settings.specs.declared.keys.Wrong.{Wrong}
 use Rattle.ua_settings.specs.declared.password.PasswordLine.{PasswordLine}
 use Rattle.ua_settings.specs.declared.keys.Wrong.TheVariants.{Unknown, Missing, Bad}
@@ -39,14 +39,13 @@ document_keys =
     required (codes "archive") OneTable ∷ required (codes "server") OneTable
     ∷ optional (codes "user") Tables ∷ optional (codes "folder") Tables
     ∷ optional (codes "variable") Tables ∷ optional (codes "peer") Tables
-    ∷ optional (codes "door") OneTable ∷ optional (codes "log") OneTable
-    ∷ optional (codes "web") OneTable ∷ []
+    ∷ optional (codes "door") OneTable ∷ []
 
 -- those of the table `archive`
 abbrev pub archive_keys : List Rule
 archive_keys =
     required (codes "id") Id ∷ required (codes "replica") Replica ∷ optional (codes "store") Text
-    ∷ optional (codes "broken") AfterBreak ∷ []
+    ∷ []
 
 -- those of the table `server`
 abbrev pub server_keys : List Rule
@@ -54,8 +53,7 @@ server_keys =
     required (codes "listen") Text ∷ required (codes "url") Text
     ∷ required (codes "application") Text ∷ required (codes "namespace") Text
     ∷ required (codes "anonymous") Truth ∷ optional (codes "connections") (UpTo 1000)
-    ∷ optional (codes "waiting") (UpTo 65536) ∷ optional (codes "anonymous_access") Access
-    ∷ optional (codes "logins") (UpTo 1000) ∷ optional (codes "strict") Truth ∷ []
+    ∷ optional (codes "waiting") (UpTo 65536) ∷ optional (codes "anonymous_access") Access ∷ []
 
 -- those of a table of a user
 abbrev pub user_keys : List Rule
@@ -71,15 +69,11 @@ variable_keys =
 
 -- those of the table `door`
 abbrev pub door_keys : List Rule
-door_keys =
-    required (codes "listen") Text ∷ optional (codes "from") Texts
-    ∷ optional (codes "replicas") Replicas ∷ optional (codes "ahead") (UpTo 31536000) ∷ []
+door_keys = required (codes "listen") Text ∷ optional (codes "from") Texts ∷ []
 
 -- those of a table of a peer
 abbrev pub peer_keys : List Rule
-peer_keys =
-    required (codes "address") Text ∷ required (codes "every") (UpTo 86400)
-    ∷ optional (codes "check") Truth ∷ []
+peer_keys = required (codes "address") Text ∷ required (codes "every") (UpTo 86400) ∷ []
 
 -- the keys of each kind of table, and what each holds
 abbrev pub rules : Section → List Rule
@@ -91,13 +85,11 @@ rules Folder = required (codes "id") Text ∷ required (codes "name") Text ∷ [
 rules Variable = variable_keys
 rules Peer = peer_keys
 rules Door = door_keys
-rules Log = optional (codes "events") Truth ∷ []
-rules Web = required (codes "listen") Text ∷ optional (codes "connections") (UpTo 1000) ∷ []
 
 -- the kinds of tables, in the order in which a document is judged
 abbrev pub sections : List Section
 sections =
-    Document ∷ Archive ∷ Server ∷ User ∷ Folder ∷ Variable ∷ Peer ∷ Door ∷ Log ∷ Web ∷ []
+    Document ∷ Archive ∷ Server ∷ User ∷ Folder ∷ Variable ∷ Peer ∷ Door ∷ []
 
 -- ---- the tables of a document
 
@@ -130,10 +122,6 @@ tables document Variable = many_tables (get_member (codes "variable") document)
 tables document Peer = many_tables (get_member (codes "peer") document)
 tables document Door =
     option_to_list (option_and_then as_table (get_member (codes "door") document))
-tables document Log =
-    option_to_list (option_and_then as_table (get_member (codes "log") document))
-tables document Web =
-    option_to_list (option_and_then as_table (get_member (codes "web") document))
 
 -- the text at a key, empty where there is none
 abbrev pub text_at : List ℕ → Members → List ℕ
@@ -188,10 +176,6 @@ is_folder names id = list_any (λ folder. pointwise nat_eq folder id) names.fold
 abbrev pub is_access : List ℕ → Bool
 is_access text = pointwise nat_eq text (codes "read") || pointwise nat_eq text (codes "write")
 
--- what is done once the store is broken, as it is spelled
-abbrev pub is_after_break : List ℕ → Bool
-is_after_break text = pointwise nat_eq text (codes "stop") || pointwise nat_eq text (codes "reopen")
-
 -- the path of a password file whose first line isn't empty
 abbrev pub is_password_file : Names → List ℕ → Bool
 is_password_file names path = nat_le 1 (length (line_of names.passwords path))
@@ -200,10 +184,9 @@ is_password_file names path = nat_le 1 (length (line_of names.passwords path))
 abbrev pub is_text : Data → Bool
 is_text value = option_map_or (λ text. nat_le (length text) 65536) (as_str value) false
 
--- what an array may hold: texts of at most 65,536 bytes, numbers of replicas, or tables
+-- what an array may hold: texts of at most 65,536 bytes, or tables
 abbrev pub is_held : Holds → Data → Bool
 is_held Texts value = is_text value
-is_held Replicas value = option_map_or is_replica (as_integer value) false
 is_held holds value = is_some (as_table value)
 
 -- an array of these alone
@@ -221,10 +204,8 @@ fits names NodeName value = option_map_or is_name (as_str value) false
 fits names UserName value = option_map_or (is_user_name names) (as_str value) false
 fits names FolderId value = option_map_or (is_folder names) (as_str value) false
 fits names Access value = option_map_or is_access (as_str value) false
-fits names AfterBreak value = option_map_or is_after_break (as_str value) false
 fits names PasswordFile value = option_map_or (is_password_file names) (as_str value) false
 fits names Texts value = option_map_or (are_held Texts) (as_array value) false
-fits names Replicas value = option_map_or (are_held Replicas) (as_array value) false
 fits names OneTable value = is_some (as_table value)
 fits names Tables value = option_map_or (are_held Tables) (as_array value) false
 

@@ -16,11 +16,8 @@ use Rattle.ua_settings.specs.declared.keys.Section.TheVariants.{User, Folder, Va
 use Rattle.ua_settings.specs.declared.keys.Wrong.TheVariants.{Unknown, Missing, Bad}
 use Rattle.ua_settings.specs.declared.password.PasswordLine.{PasswordLine}
 use Rattle.ua_settings.specs.declared.door.DoorSettings.{DoorSettings}
-use Rattle.ua_settings.specs.declared.door.WebSettings.{WebSettings}
-use Rattle.ua_settings.specs.declared.settings.AfterBreak.{AfterBreak}
-use Rattle.ua_settings.specs.declared.settings.AfterBreak.TheVariants.{GoesOn, Stops, Reopens}
 use Rattle.ua_settings.specs.declared.reading.Listed.{Listed}
-use Rattle.ua_settings.specs.File.{is_replica, items_in, line_of, tables, text_at, first_refusal}
+use Rattle.ua_settings.specs.File.{items_in, line_of, tables, text_at, first_refusal}
 use Rattle.ua_settings.specs.Settings.{SettingsValues}
 use Rattle.ua_session.specs.Users.{Allowed}
 use Rattle.ua_session.specs.declared.identity.Access.{Access}
@@ -104,24 +101,11 @@ peer_in peer =
     record {
       address = text_at (codes "address") peer;
       every = number_at (codes "every") peer;
-      check = truth_at (codes "check") peer;
     }
 
 -- the texts of an array
 abbrev pub texts_in : Items → List (List ℕ)
 texts_in items = filter_map as_str (items_in items)
-
--- the number of a replica that a value is
-abbrev pub replica_in : Data → Option ℕ
-replica_in value =
-    elim (as_integer value) [
-      | Some (pos n) ↦ if is_replica (pos n) then Some n else None
-      | _ ↦ None
-    ]
-
--- the numbers of replicas in an array
-abbrev pub replicas_in : Items → List ℕ
-replicas_in items = filter_map replica_in (items_in items)
 
 -- where peers come to, and who is taken there, by a table
 abbrev pub door_in : Members → DoorSettings
@@ -129,24 +113,7 @@ door_in door =
     record {
       listen = text_at (codes "listen") door;
       from = option_map texts_in (option_and_then as_array (get_member (codes "from") door));
-      replicas =
-          option_map replicas_in (option_and_then as_array (get_member (codes "replicas") door));
-      ahead = number_there (codes "ahead") door;
     }
-
--- where a page is served, by a table; 8 connections at a time where it doesn't say
-abbrev pub web_in : Members → WebSettings
-web_in web =
-    record {
-      listen = text_at (codes "listen") web;
-      connections = number_or 8 (codes "connections") web;
-    }
-
--- what is done once the store is broken, by the text at a key: nothing where none is there
-abbrev pub after_break_at : List ℕ → Members → AfterBreak
-after_break_at key members =
-    if pointwise nat_eq (text_at key members) (codes "stop") then Stops else
-    if pointwise nat_eq (text_at key members) (codes "reopen") then Reopens else GoesOn
 
 -- the table at a key, if there is one
 abbrev pub table_there : List ℕ → Members → Option Members
@@ -158,8 +125,6 @@ listed_in lines document space = record {
   users = users_in lines (table_at (codes "server") document) (tables document User);
   peers = map peer_in (tables document Peer);
   door = option_map door_in (table_there (codes "door") document);
-  web = option_map web_in (table_there (codes "web") document);
-  events = truth_at (codes "events") (table_at (codes "log") document);
   space = space;
 }
 
@@ -170,7 +135,6 @@ values_of archive server listed = record {
   archive = unwrap_or (parsed (text_at (codes "id") archive)) [];
   replica = number_at (codes "replica") archive;
   store = option_and_then as_str (get_member (codes "store") archive);
-  after_break = after_break_at (codes "broken") archive;
   listen = text_at (codes "listen") server;
   url = text_at (codes "url") server;
   application = text_at (codes "application") server;
@@ -178,12 +142,8 @@ values_of archive server listed = record {
   space = listed.space;
   connections = number_or 64 (codes "connections") server;
   waiting = number_or 256 (codes "waiting") server;
-  logins = number_there (codes "logins") server;
-  strict = truth_at (codes "strict") server;
   peers = listed.peers;
   door = listed.door;
-  web = listed.web;
-  events = listed.events;
 }
 
 -- the settings of a document with these nodes

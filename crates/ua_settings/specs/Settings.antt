@@ -1,26 +1,22 @@
 -- What a server is set to.
-use Rattle.std.specs.Prelude.{◌≤◌, List, [], ℕ, length, replicate, codes, true, false, None}
+use Rattle.std.specs.Prelude.{◌≤◌, List, [], ℕ, length, replicate, codes, true, None}
 use Rattle.ua_session.specs.declared.identity.Access.TheVariants.{Write}
 use Rattle.ua_settings.specs.declared.settings.Parts.{Parts}
-use Rattle.ua_settings.specs.declared.settings.AfterBreak.TheVariants.{GoesOn}
 
--- the archive's id, the number of this replica of it, the file of its store, none for memory, and
--- what is done once that is broken; where the server listens, the URL of its endpoint, the URI of
--- the application; who may use it; its nodes; how many connections it serves at a time, how many
--- MiB may wait to be written, and when logins wait; whether the settings' file is to be kept from
--- others; the peers that it calls, where peers come to it, if not to the address where clients do,
--- and where people do; whether events are told
+-- the archive's id, the number of this replica of it, and the file of its store, none for memory;
+-- where the server listens, the URL of its endpoint, the URI of the application; who may use it;
+-- its nodes; how many connections it serves at a time, and how many MiB may wait to be written;
+-- the peers that it calls, and where peers come to it, if not to the address where clients do
 abbrev pub SettingsValues : Type 0
 SettingsValues = Parts
 
 -- without settings: replica 1 of the archive whose id is all zeros, in memory; any user without a
--- name; no variables; no peers; no page
+-- name; no variables; no peers
 unfoldable pub bare : SettingsValues
 bare = record {
   archive = replicate 16 0;
   replica = 1;
   store = None;
-  after_break = GoesOn;
   listen = codes "127.0.0.1:4840";
   url = codes "opc.tcp://localhost:4840";
   application = codes "urn:uahist";
@@ -28,12 +24,8 @@ bare = record {
   space = record { namespace = codes "urn:uahist:archive"; folders = []; variables = [] };
   connections = 64;
   waiting = 256;
-  logins = None;
-  strict = false;
   peers = [];
   door = None;
-  web = None;
-  events = false;
 }
 
 -- a text of settings has at most 65,536 bytes

@@ -3,7 +3,7 @@ use Rattle.std.specs.Prelude.{◌≡◌, true, codes, nat_eq, List, ℕ, IfSome,
 use Rattle.std.specs.List.{list_any, AllByRecursion}
 use Rattle.std.specs.Cmp.Lexicographic.{pointwise}
 use Rattle.toml.specs.Data.{Members, get_member, as_str, as_integer, as_table}
-use Rattle.ua_settings.specs.declared.keys.Section.TheVariants.{User, Folder, Variable, Peer, Door, Web}
+use Rattle.ua_settings.specs.declared.keys.Section.TheVariants.{User, Folder, Variable, Peer}
 use Rattle.ua_settings.specs.declared.password.PasswordLine.{PasswordLine}
 use Rattle.ua_settings.specs.File.{tables, text_at, is_name, is_up_to, names_in}
 use Rattle.ua_settings.specs.Judging.{is_id, is_replica, is_short, test}
@@ -26,7 +26,6 @@ pub record IsSoundServer (server : Members) : Type 0 where
   pub namespace : is_short (text_at (codes "namespace") server) ≡ true
   pub connections : IsUpTo 1000 (codes "connections") server
   pub waiting : IsUpTo 65536 (codes "waiting") server
-  pub logins : IsUpTo 1000 (codes "logins") server
 
 pub record IsSoundUser (user : Members) : Type 0 where
   pub name : is_name (text_at (codes "name") user) ≡ true
@@ -37,12 +36,6 @@ pub record IsSoundFolder (folder : Members) : Type 0 where
 
 pub record IsSoundPeer (peer : Members) : Type 0 where
   pub every : IsUpTo 86400 (codes "every") peer
-
-pub record IsSoundDoor (door : Members) : Type 0 where
-  pub ahead : IsUpTo 31536000 (codes "ahead") door
-
-pub record IsSoundWeb (web : Members) : Type 0 where
-  pub connections : IsUpTo 1000 (codes "connections") web
 
 pub record IsSoundVariable (folders : List (List ℕ)) (variable : Members) : Type 0 where
   pub id : is_name (text_at (codes "id") variable) ≡ true
@@ -61,5 +54,3 @@ pub record IsSound (lines : List PasswordLine) (document : Members) : Type 0 whe
   pub variables : AllByRecursion (IsSoundVariable (names_in lines document).folders)
       (tables document Variable)
   pub peers : AllByRecursion IsSoundPeer (tables document Peer)
-  pub door : AllByRecursion IsSoundDoor (tables document Door)
-  pub web : AllByRecursion IsSoundWeb (tables document Web)

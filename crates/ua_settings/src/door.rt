@@ -1,6 +1,5 @@
-//! Where peers come to, and the page for people.
+//! Where peers come to.
 
-use stamp::ReplicaNo;
 use ua_binary::{Listing, Text};
 
 /// An address where peers alone come to, and who is taken there.
@@ -10,17 +9,4 @@ pub struct DoorSettings {
     pub listen: Text,
     /// The addresses and networks from which a peer is taken; none: from everywhere.
     pub from: Option<Listing<Text>>,
-    /// The numbers of the replicas whose records are taken; none: all.
-    pub replicas: Option<Listing<ReplicaNo>>,
-    /// How many seconds a record's tick may be ahead of this machine's clock, 1 to 31,536,000; none: any.
-    pub ahead: Option<u32>,
-}
-
-/// An address where a page for people is served.
-#[derive(Debug, Drop)]
-pub struct WebSettings {
-    /// The address.
-    pub listen: Text,
-    /// How many connections are served there at a time, 1 to 1,000.
-    pub connections: u32,
 }

@@ -29,7 +29,7 @@ const MOST_TEXT: usize = 65_536;
 const MOST_NAME: usize = 256;
 
 /// The kinds of tables, in the order in which a document is judged.
-const SECTIONS: [Section; 10] = [
+const SECTIONS: [Section; 8] = [
     Section::Document,
     Section::Archive,
     Section::Server,
@@ -38,8 +38,6 @@ const SECTIONS: [Section; 10] = [
     Section::Variable,
     Section::Peer,
     Section::Door,
-    Section::Log,
-    Section::Web,
 ];
 
 /// What may be wrong, in the order in which it is judged.
@@ -109,13 +107,11 @@ fn fits_text(known: &Known<'_>, holds: Holds, text: &str) -> bool
         Holds::UserName => is_user_name(known, text),
         Holds::FolderId => is_among(text, known.folders.as_slice()),
         Holds::Access => text == "read" || text == "write",
-        Holds::AfterBreak => text == "stop" || text == "reopen",
         Holds::PasswordFile => !line_of(known.passwords, text).is_empty(),
         Holds::Replica
         | Holds::UpTo(_)
         | Holds::Truth
         | Holds::Texts
-        | Holds::Replicas
         | Holds::OneTable
         | Holds::Tables => false,
     }
@@ -131,28 +127,11 @@ fn is_text(value: &Value) -> bool
     }
 }
 
-/// Whether a value is the number of a replica.
-fn is_replica_value(value: &Value) -> bool
-    ensures { result ≡ option_map_or is_replica (as_integer (view value.now)) false }
-{
-    match value.as_integer() {
-        Some(number) => is_replica(number),
-        None => false,
-    }
-}
-
 /// Whether each of the values is a text of at most 65,536 bytes.
 fn are_texts(values: &[Value]) -> bool
     ensures { result ≡ list_all (λ value. is_held Holds.Texts (view value)) values.now }
 {
     values.iter().all(|value| is_text(value))
-}
-
-/// Whether each of the values is the number of a replica.
-fn are_replicas(values: &[Value]) -> bool
-    ensures { result ≡ list_all (λ value. is_held Holds.Replicas (view value)) values.now }
-{
-    values.iter().all(|value| is_replica_value(value))
 }
 
 /// Whether each of the values is a table.
@@ -203,17 +182,12 @@ fn fits(known: &Known<'_>, holds: Holds, value: &Value) -> bool
             Some(values) => are_texts(values.as_slice()),
             None => false,
         },
-        Holds::Replicas => match value.as_array() {
-            Some(values) => are_replicas(values.as_slice()),
-            None => false,
-        },
         Holds::Text
         | Holds::Id
         | Holds::NodeName
         | Holds::UserName
         | Holds::FolderId
         | Holds::Access
-        | Holds::AfterBreak
         | Holds::PasswordFile => match value.as_str() {
             Some(text) => fits_text(known, holds, text),
             None => false,

@@ -19,8 +19,6 @@ pub enum Section {
     Variable,
     Peer,
     Door,
-    Log,
-    Web,
 }
 
 /// What a key must hold.
@@ -44,14 +42,10 @@ pub(crate) enum Holds {
     FolderId,
     /// `read` or `write`.
     Access,
-    /// `stop` or `reopen`.
-    AfterBreak,
     /// The path of a password file whose first line isn't empty.
     PasswordFile,
     /// An array of texts, each of at most 65,536 bytes.
     Texts,
-    /// An array of numbers of 1 to 64.
-    Replicas,
     OneTable,
     /// An array of tables.
     Tables,
@@ -137,7 +131,7 @@ macro_rules! key {
     };
 }
 
-static DOCUMENT: [Key; 9] = [
+static DOCUMENT: [Key; 7] = [
     key!("archive", OneTable),
     key!("server", OneTable),
     key!("user", Tables, optional),
@@ -145,18 +139,15 @@ static DOCUMENT: [Key; 9] = [
     key!("variable", Tables, optional),
     key!("peer", Tables, optional),
     key!("door", OneTable, optional),
-    key!("log", OneTable, optional),
-    key!("web", OneTable, optional),
 ];
 
-static ARCHIVE: [Key; 4] = [
+static ARCHIVE: [Key; 3] = [
     key!("id", Id),
     key!("replica", Replica),
     key!("store", Text, optional),
-    key!("broken", AfterBreak, optional),
 ];
 
-static SERVER: [Key; 10] = [
+static SERVER: [Key; 8] = [
     key!("listen", Text),
     key!("url", Text),
     key!("application", Text),
@@ -165,8 +156,6 @@ static SERVER: [Key; 10] = [
     key!("connections", up to 1000, optional),
     key!("waiting", up to 65536, optional),
     key!("anonymous_access", Access, optional),
-    key!("logins", up to 1000, optional),
-    key!("strict", Truth, optional),
 ];
 
 static USER: [Key; 4] = [
@@ -186,25 +175,9 @@ static VARIABLE: [Key; 5] = [
     key!("folder", FolderId, optional),
 ];
 
-static PEER: [Key; 3] = [
-    key!("address", Text),
-    key!("every", up to 86400),
-    key!("check", Truth, optional),
-];
+static PEER: [Key; 2] = [key!("address", Text), key!("every", up to 86400)];
 
-static DOOR: [Key; 4] = [
-    key!("listen", Text),
-    key!("from", Texts, optional),
-    key!("replicas", Replicas, optional),
-    key!("ahead", up to 31536000, optional),
-];
-
-static LOG: [Key; 1] = [key!("events", Truth, optional)];
-
-static WEB: [Key; 2] = [
-    key!("listen", Text),
-    key!("connections", up to 1000, optional),
-];
+static DOOR: [Key; 2] = [key!("listen", Text), key!("from", Texts, optional)];
 
 /// The keys of a kind of table.
 pub(crate) fn keys_of(section: Section) -> &'static [Key]
@@ -219,7 +192,5 @@ pub(crate) fn keys_of(section: Section) -> &'static [Key]
         Section::Variable => &VARIABLE,
         Section::Peer => &PEER,
         Section::Door => &DOOR,
-        Section::Log => &LOG,
-        Section::Web => &WEB,
     }
 }

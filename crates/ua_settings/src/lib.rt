@@ -12,10 +12,10 @@ mod place;
 mod reading;
 mod settings;
 
-pub use door::{DoorSettings, WebSettings};
+pub use door::DoorSettings;
 pub use fault::SettingsFault;
 pub use keys::Section;
 pub use password::{PasswordLine, password_files};
 pub use peers::{PeerCall, Peers};
 pub use place::Place;
-pub use settings::{AfterBreak, Parts, Settings};
+pub use settings::{Parts, Settings};

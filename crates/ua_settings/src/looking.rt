@@ -7,12 +7,11 @@ ghost use Rattle.toml.specs.View.{view, table_view};
 ghost use Rattle.ua_settings.specs.File.{tables, text_at, many_tables, items_in};
 ghost use Rattle.ua_settings.specs.Judging.{is_replica};
 ghost use Rattle.std.specs.List.{filter_map};
-ghost use Rattle.ua_settings.specs.Reading.{number_or, number_there, access_at, after_break_at, replica_in};
+ghost use Rattle.ua_settings.specs.Reading.{number_or, number_there, access_at};
 ghost use Rattle.ua_settings.specs.Sound.{IsUpTo};
 ghost use Rattle.toml.specs.Data.{as_array};
 
 use crate::keys::Section;
-use crate::settings::AfterBreak;
 use stamp::ReplicaNo;
 use std::alloc::{AllocError, Global};
 use toml::{Table, Value};
@@ -69,17 +68,6 @@ pub(crate) fn access(table: &Table, key: &str) -> Access
     }
 }
 
-/// What is done once the store is broken, by the text at a key.
-pub(crate) fn after_break(table: &Table, key: &str) -> AfterBreak
-    ensures { result ≡ after_break_at key.now (table_view table.now) }
-{
-    match text(table, key) {
-        "stop" => AfterBreak::Stops,
-        "reopen" => AfterBreak::Reopens,
-        _ => AfterBreak::GoesOn,
-    }
-}
-
 /// The number at a key.
 pub(crate) fn number(table: &Table, key: &str) -> Option<i64>
     ensures { result ≡ option_and_then as_integer (get_member key.now (table_view table.now)) }
@@ -132,30 +120,6 @@ pub(crate) fn texts_in(alloc: Global, values: &[Value]) -> Result<Vec<Text>, All
         }
     }
     Ok(texts)
-}
-
-/// The replica whose number a value is.
-fn replica_in(value: &Value) -> Option<ReplicaNo>
-    ensures { result ≡ replica_in (view value.now) }
-{
-    match value.as_integer() {
-        Some(number) => replica(number),
-        None => None,
-    }
-}
-
-/// The replicas whose numbers these values are.
-pub(crate) fn replicas_in(alloc: Global, values: &[Value]) -> Result<Vec<ReplicaNo>, AllocError>
-    ensures { IfOk result
-        (λ replicas. replicas.items ≡ filter_map (λ value. replica_in (view value)) values.now) }
-{
-    let mut replicas = Vec::new(alloc);
-    for value in values {
-        if let Some(replica) = replica_in(value) {
-            replicas.push(replica)?;
-        }
-    }
-    Ok(replicas)
 }
 
 /// The table at a key.
@@ -248,7 +212,5 @@ pub(crate) fn tables_of<'a>(
         Section::Variable => many(alloc, document, "variable"),
         Section::Peer => many(alloc, document, "peer"),
         Section::Door => one(alloc, document, "door"),
-        Section::Log => one(alloc, document, "log"),
-        Section::Web => one(alloc, document, "web"),
     }
 }

@@ -14,8 +14,6 @@ pub struct PeerCall {
     pub address: Text,
     /// How many seconds lie between the beginnings of two calls, 1 to 86,400.
     pub every: u32,
-    /// Whether a call first compares the last records of each replica that both hold.
-    pub check: bool,
 }
 
 /// The peers that a server calls by itself.
@@ -46,19 +44,15 @@ impl Peers {
     }
 
     /// Adds a peer. The one error is `OutOfMemory`, which changes nothing.
-    pub fn add(&mut self, address: &str, every: u32, check: bool) -> Result<(), SettingsFault>
+    pub fn add(&mut self, address: &str, every: u32) -> Result<(), SettingsFault>
         ensures ok { OnOk result
             (self.new
-            ≡ self.old ++ record { address = address.now; every = every; check = check } ∷ []) }
+            ≡ self.old ++ record { address = address.now; every = every } ∷ []) }
         ensures err { IfErr result
             (λ fault. (fault ≡ SettingsFault.OutOfMemory) × (self.new ≡ self.old)) }
     {
         let address = Text::from_str(self.alloc, address)?;
-        self.calls.push(PeerCall {
-            address,
-            every,
-            check,
-        })?;
+        self.calls.push(PeerCall { address, every })?;
         Ok(())
     }
 

@@ -146,8 +146,6 @@ fn put_heading(section: Section, number: usize, text: &mut String) -> Result<(),
         Section::Variable => write!(text, "[[variable]] {number}, "),
         Section::Peer => write!(text, "[[peer]] {number}, "),
         Section::Door => text.push_str("[door] "),
-        Section::Log => text.push_str("[log] "),
-        Section::Web => text.push_str("[web] "),
     }
 }
 

@@ -10,19 +10,19 @@ ghost use Rattle.ua_space.specs.declared.plan.Plan.{Plan};
 ghost use Rattle.ua_space.specs.Lent.{entry_of, folder_of};
 ghost use Rattle.ua_settings.specs.File.{tables, text_at};
 ghost use Rattle.ua_settings.specs.Judging.{is_id, is_replica, test};
-ghost use Rattle.ua_settings.specs.Reading.{folder_in, variable_in, number_at, table_at, table_there, truth_at, password_in, user_in, peer_in, door_in, web_in, texts_in, replicas_in, listed_in, values_of, IsAcceptedOrStarved, IsSpaceOrStarved, space_fault};
-ghost use Rattle.ua_settings.specs.Sound.{IsSound, IsSoundArchive, IsSoundUser, IsSoundServer, IsSoundPeer, IsSoundDoor, IsSoundWeb};
+ghost use Rattle.ua_settings.specs.Reading.{folder_in, variable_in, number_at, table_at, table_there, password_in, user_in, peer_in, door_in, texts_in, listed_in, values_of, IsAcceptedOrStarved, IsSpaceOrStarved, space_fault};
+ghost use Rattle.ua_settings.specs.Sound.{IsSound, IsSoundArchive, IsSoundUser, IsSoundServer, IsSoundPeer};
 
-use crate::door::{DoorSettings, WebSettings};
+use crate::door::DoorSettings;
 use crate::fault::SettingsFault;
 use crate::keys::Section;
 use crate::looking::{
-    access, after_break, find_text, has_array, items, number, number_or, number_there, replica,
-    replicas_in, table_at, tables_of, text, texts_in, truth,
+    access, find_text, has_array, items, number, number_or, replica, table_at, tables_of, text,
+    texts_in, truth,
 };
 use crate::password::{PasswordLine, line_of};
 use crate::peers::Peers;
-use crate::settings::{CONNECTIONS, Parts, Settings, WAITING, WEB_CONNECTIONS};
+use crate::settings::{CONNECTIONS, Parts, Settings, WAITING};
 use stamp::ReplicaNo;
 use std::alloc::{AllocError, Global};
 use toml::Table;
@@ -108,7 +108,7 @@ fn read_peers(alloc: Global, tables: &[&Table]) -> Result<Peers, SettingsFault>
     let mut peers = Peers::new(alloc);
     for table in tables {
         let every = number_or(table, "every", 86_400, 0);
-        match peers.add(text(table, "address"), every, truth(table, "check")) {
+        match peers.add(text(table, "address"), every) {
             Ok(()) => {}
             Err(_) => return Err(SettingsFault::OutOfMemory),
         }
@@ -255,37 +255,18 @@ fn read_networks(alloc: Global, door: &Table) -> Result<Option<Listing<Text>>, A
     }
 }
 
-/// The replicas whose records are taken at a door.
-fn read_replicas(alloc: Global, door: &Table) -> Result<Option<Listing<ReplicaNo>>, AllocError>
-    ensures { IfOk result
-        (λ replicas. replicas
-        ≡ option_map replicas_in
-        (option_and_then as_array (get_member (codes "replicas") (table_view door.now)))) }
-{
-    if has_array(door, "replicas") {
-        let replicas = replicas_in(alloc, items(door, "replicas"))?;
-        Ok(Some(Listing::of(replicas)))
-    } else {
-        Ok(None)
-    }
-}
-
 /// Where peers come to, and who is taken there, by a table.
 fn read_door_in(alloc: Global, door: &Table) -> Result<DoorSettings, AllocError>
-    requires { IsSoundDoor (table_view door.now) }
     ensures { IfOk result (λ settings. settings ≡ door_in (table_view door.now)) }
 {
     Ok(DoorSettings {
         listen: Text::from_str(alloc, text(door, "listen"))?,
         from: read_networks(alloc, door)?,
-        replicas: read_replicas(alloc, door)?,
-        ahead: number_there(door, "ahead", 31_536_000),
     })
 }
 
 /// Where peers come to, and who is taken there.
 fn read_door(alloc: Global, document: &Table) -> Result<Option<DoorSettings>, AllocError>
-    requires { AllByRecursion IsSoundDoor (tables (table_view document.now) Section.Door) }
     ensures { IfOk result
         (λ door. door ≡ option_map door_in (table_there (codes "door") (table_view document.now))) }
 {
@@ -295,47 +276,12 @@ fn read_door(alloc: Global, document: &Table) -> Result<Option<DoorSettings>, Al
     }
 }
 
-/// Where a page is served, by a table.
-fn read_web_in(alloc: Global, web: &Table) -> Result<WebSettings, AllocError>
-    requires { IsSoundWeb (table_view web.now) }
-    ensures { IfOk result (λ settings. settings ≡ web_in (table_view web.now)) }
-{
-    Ok(WebSettings {
-        listen: Text::from_str(alloc, text(web, "listen"))?,
-        connections: number_or(web, "connections", 1_000, WEB_CONNECTIONS),
-    })
-}
-
-/// Where a page is served.
-fn read_web(alloc: Global, document: &Table) -> Result<Option<WebSettings>, AllocError>
-    requires { AllByRecursion IsSoundWeb (tables (table_view document.now) Section.Web) }
-    ensures { IfOk result
-        (λ web. web ≡ option_map web_in (table_there (codes "web") (table_view document.now))) }
-{
-    match table_at(document, "web") {
-        None => Ok(None),
-        Some(web) => Ok(Some(read_web_in(alloc, web)?)),
-    }
-}
-
-/// Whether events are told.
-fn tells_events(document: &Table) -> bool
-    ensures { result ≡ truth_at (codes "events") (table_at (codes "log") (table_view document.now)) }
-{
-    match table_at(document, "log") {
-        None => false,
-        Some(log) => truth(log, "events"),
-    }
-}
-
 /// What the tables of a document list, beside those of the archive and the server.
 #[derive(Drop)]
 pub(crate) struct Listed {
     pub(crate) users: Users,
     pub(crate) peers: Peers,
     pub(crate) door: Option<DoorSettings>,
-    pub(crate) web: Option<WebSettings>,
-    pub(crate) events: bool,
     pub(crate) space: Space,
 }
 
@@ -357,7 +303,6 @@ fn settings_of(
         archive: read_id(archive),
         replica: read_replica(archive),
         store: read_store(alloc, archive)?,
-        after_break: after_break(archive, "broken"),
         listen: Text::from_str(alloc, text(server, "listen"))?,
         url: Text::from_str(alloc, text(server, "url"))?,
         application: Text::from_str(alloc, text(server, "application"))?,
@@ -365,12 +310,8 @@ fn settings_of(
         space: listed.space,
         connections: number_or(server, "connections", 1_000, CONNECTIONS),
         waiting: number_or(server, "waiting", 65_536, WAITING),
-        logins: number_there(server, "logins", 1_000),
-        strict: truth(server, "strict"),
         peers: listed.peers,
         door: listed.door,
-        web: listed.web,
-        events: listed.events,
     }))
 }
 
@@ -402,8 +343,6 @@ fn list_of(
         )?,
         peers: read_peers(alloc, peers.as_slice())?,
         door: read_door(alloc, document)?,
-        web: read_web(alloc, document)?,
-        events: tells_events(document),
         space,
     })
 }

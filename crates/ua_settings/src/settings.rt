@@ -8,7 +8,7 @@ ghost use Rattle.toml.specs.View.{table_view};
 ghost use Rattle.ua_settings.specs.Reading.{IsReadOrStarved};
 ghost use Rattle.ua_settings.specs.Settings.{bare, IsSettingsText};
 
-use crate::door::{DoorSettings, WebSettings};
+use crate::door::DoorSettings;
 use crate::fault::SettingsFault;
 use crate::judging::judge;
 use crate::password::PasswordLine;
@@ -29,20 +29,6 @@ pub(crate) const CONNECTIONS: u32 = 64;
 /// How many MiB may wait to be written, where the settings don't say.
 pub(crate) const WAITING: u32 = 256;
 
-/// How many connections are served at the page's address at a time, where the settings don't say.
-pub(crate) const WEB_CONNECTIONS: u32 = 8;
-
-/// What is done once a call of the store found it broken.
-#[derive(Clone, Copy, Debug, PartialEq, Eq)]
-pub enum AfterBreak {
-    /// The server goes on, and answers what asks the archive by Bad_ResourceUnavailable.
-    GoesOn,
-    /// The server stops.
-    Stops,
-    /// The store is closed and opened again, once; where that is refused the server stops.
-    Reopens,
-}
-
 /// What settings are made of.
 #[derive(Debug, Drop)]
 pub struct Parts {
@@ -52,8 +38,6 @@ pub struct Parts {
     pub replica: ReplicaNo,
     /// The file of its store; none for memory.
     pub store: Option<Text>,
-    /// What is done once its store is broken.
-    pub after_break: AfterBreak,
     /// Where the server listens.
     pub listen: Text,
     /// The URL of the server's endpoint.
@@ -68,18 +52,10 @@ pub struct Parts {
     pub connections: u32,
     /// How many MiB may wait to be written, at all connections together, 1 to 65,536.
     pub waiting: u32,
-    /// After how many refused logins from one address in a minute its next ones wait, 1 to 1,000; none: never.
-    pub logins: Option<u32>,
-    /// Whether settings are refused that others may write, or that have a password and that others may read.
-    pub strict: bool,
     /// The peers that are called.
     pub peers: Peers,
     /// Where peers come to; none where they come to the address where clients do.
     pub door: Option<DoorSettings>,
-    /// Where a page for people is served; none: nowhere.
-    pub web: Option<WebSettings>,
-    /// Whether a line is told of each event.
-    pub events: bool,
 }
 
 /// What a server is set to.
@@ -88,7 +64,6 @@ pub struct Settings {
     archive: Uuid,
     replica: ReplicaNo,
     store: Option<Text>,
-    after_break: AfterBreak,
     listen: Text,
     url: Text,
     application: Text,
@@ -96,12 +71,8 @@ pub struct Settings {
     space: Space,
     connections: u32,
     waiting: u32,
-    logins: Option<u32>,
-    strict: bool,
     peers: Peers,
     door: Option<DoorSettings>,
-    web: Option<WebSettings>,
-    events: bool,
 }
 
 impl Model for Settings {
@@ -114,7 +85,6 @@ impl Model for Settings {
           archive = s.archive;
           replica = s.replica;
           store = s.store;
-          after_break = s.after_break;
           listen = s.listen;
           url = s.url;
           application = s.application;
@@ -122,12 +92,8 @@ impl Model for Settings {
           space = s.space;
           connections = s.connections;
           waiting = s.waiting;
-          logins = s.logins;
-          strict = s.strict;
           peers = s.peers;
           door = s.door;
-          web = s.web;
-          events = s.events;
         } };
 
     ghost invariant = { λ s. IsSettingsText s.url × IsSettingsText s.application };
@@ -160,7 +126,6 @@ impl Settings {
             archive: Uuid::nil(),
             replica,
             store: None,
-            after_break: AfterBreak::GoesOn,
             listen,
             url,
             application,
@@ -168,12 +133,8 @@ impl Settings {
             space,
             connections: CONNECTIONS,
             waiting: WAITING,
-            logins: None,
-            strict: false,
             peers: Peers::new(alloc),
             door: None,
-            web: None,
-            events: false,
         })
     }
 
@@ -215,7 +176,6 @@ impl Settings {
             archive: parts.archive,
             replica: parts.replica,
             store: parts.store,
-            after_break: parts.after_break,
             listen: parts.listen,
             url: parts.url,
             application: parts.application,
@@ -223,12 +183,8 @@ impl Settings {
             space: parts.space,
             connections: parts.connections,
             waiting: parts.waiting,
-            logins: parts.logins,
-            strict: parts.strict,
             peers: parts.peers,
             door: parts.door,
-            web: parts.web,
-            events: parts.events,
         }
     }
 
@@ -314,27 +270,6 @@ impl Settings {
         &self.peers
     }
 
-    /// What is done once its store is broken.
-    pub fn after_break(&self) -> AfterBreak
-        ensures { result ≡ self.now.after_break }
-    {
-        self.after_break
-    }
-
-    /// After how many refused logins from one address in a minute its next ones wait; none: never.
-    pub fn logins(&self) -> Option<u32>
-        ensures { result ≡ self.now.logins }
-    {
-        self.logins
-    }
-
-    /// Whether settings are refused that others may write, or that have a password and that others may read.
-    pub fn is_strict(&self) -> bool
-        ensures { result ≡ self.now.strict }
-    {
-        self.strict
-    }
-
     /// Where peers come to, and who is taken there; none where they come to the address where clients do.
     pub fn door(&self) -> Option<&DoorSettings>
         ensures { option_copied result ≡ self.now.door }
@@ -343,23 +278,6 @@ impl Settings {
             None => None,
             Some(door) => Some(door),
         }
-    }
-
-    /// Where a page for people is served; none: nowhere.
-    pub fn web(&self) -> Option<&WebSettings>
-        ensures { option_copied result ≡ self.now.web }
-    {
-        match &self.web {
-            None => None,
-            Some(web) => Some(web),
-        }
-    }
-
-    /// Whether a line is told of each event.
-    pub fn tells_events(&self) -> bool
-        ensures { result ≡ self.now.events }
-    {
-        self.events
     }
 }
 
