@@ -1,18 +1,15 @@
 -- Whatever comes to the door of clients, or is answered there, no peer does or is
 -- (`a_clients_door_takes_no_peer`).
-use Rattle.std.proofs.Common.{◌≡◌, ℕ, ℤ, Bool, true, false, List, ◌++◌, length, nat_lt, Some, None, refl, sym, subst, cond}
+use Rattle.std.proofs.Common.{◌≡◌, ℕ, ℤ, Bool, true, false, List, ◌++◌, length, nat_lt, Some, None, refl, sym, subst}
 use Rattle.std.specs.Prelude.{Option, if◌then◌else◌}
 use Rattle.archive.specs.Store.{Store}
 use Rattle.ua_connection.specs.Client.{new_client}
-use Rattle.ua_peers.specs.Peers.{responding}
 use Rattle.conversation.specs.declared.door.Door.{Door}
 use Rattle.conversation.specs.declared.door.Door.TheVariants.{Clients}
 use Rattle.conversation.specs.declared.other_end.OtherEnd.{OtherEnd}
-use Rattle.conversation.specs.declared.other_end.OtherEnd.TheVariants.{Unknown, Client, Peer, Over}
+use Rattle.conversation.specs.declared.other_end.OtherEnd.TheVariants.{Unknown, Client, Peer, Stranger, Over}
 use Rattle.conversation.specs.declared.world.World.{World}
 use Rattle.conversation.specs.OtherEnds.{ConversationEnding, known_by, unless_over}
-use Rattle.multiplex.specs.declared.stay.Stay.{Stay}
-use Rattle.conversation.specs.Events.{Telling}
 use Rattle.conversation.specs.Receiving.{TakesBytes}
 use Rattle.conversation.specs.Answering.{AnswersFirst}
 use Rattle.conversation.specs.ClientsDoors.{IsAtClientsDoor}
@@ -41,16 +38,18 @@ bytes-at-door (Unknown door letters) new bytes made None at takes =
     subst IsAtClientsDoor (sym takes.1) (known-client door (letters ++ bytes) at)
 bytes-at-door (Client link) new bytes made None at takes = subst IsAtClientsDoor (sym takes.1) tt
 bytes-at-door (Peer peer) new bytes made None at takes = absurd at
-bytes-at-door (Over moved) new bytes made None at takes = subst IsAtClientsDoor (sym takes.1) tt
+bytes-at-door Stranger new bytes made None at takes = subst IsAtClientsDoor (sym takes.1) tt
+bytes-at-door Over new bytes made None at takes = subst IsAtClientsDoor (sym takes.1) tt
 
 pub answer-at-door : {A C L : Type 0} (state : A → Store) (gave : C → List ℤ → C → Type 0)
-    (told : Telling L) (stay : Stay) (v w : World A C L) (old new : OtherEnd) (made : List ℕ)
-    (ending : Option ConversationEnding) → IsAtClientsDoor old
-    → AnswersFirst state gave told stay v old made ending w new → IsAtClientsDoor new
-answer-at-door state gave told stay v w (Unknown door letters) new made ending at answers =
+    (v w : World A C L) (old new : OtherEnd) (made : List ℕ) (ending : Option ConversationEnding)
+    → IsAtClientsDoor old → AnswersFirst state gave v old made ending w new → IsAtClientsDoor new
+answer-at-door state gave v w (Unknown door letters) new made ending at answers =
     subst IsAtClientsDoor (sym answers.3) at
-answer-at-door state gave told stay v w (Client link) new made ending at answers =
+answer-at-door state gave v w (Client link) new made ending at answers =
     subst IsAtClientsDoor (sym answers.leaves) (left ending (Client answers.later) tt)
-answer-at-door state gave told stay v w (Peer peer) new made ending at answers = absurd at
-answer-at-door state gave told stay v w (Over moved) new made ending at answers =
+answer-at-door state gave v w (Peer peer) new made ending at answers = absurd at
+answer-at-door state gave v w Stranger new made ending at answers =
+    subst IsAtClientsDoor (sym answers.3) tt
+answer-at-door state gave v w Over new made ending at answers =
     subst IsAtClientsDoor (sym answers.3) tt

@@ -1,3 +1,4 @@
 pub mod Alone
 pub mod ClientsDoor
 pub mod Framing
+pub mod Spelled

@@ -3,7 +3,6 @@ use Rattle.std.specs.Prelude.{◌≡◌, ◌⊎◌, ℕ, ℤ, ◌+◌, ◌≤◌
 use Rattle.std.specs.Option.{option_map}
 use Rattle.std.specs.Result.{result_map_both}
 use Rattle.archive.specs.Store.{Store}
-use Rattle.multiplex.specs.declared.stay.Stay.{Stay}
 use Rattle.exchange.specs.Dialogs.{DialogState}
 use Rattle.exchange.specs.Frames.{frame_header}
 use Rattle.counted_io.specs.declared.fault.ServeFault.{ServeFault}
@@ -16,11 +15,9 @@ use Rattle.ua_peers.specs.declared.peers.PeerEnded.{PeerEnded}
 use Rattle.conversation.specs.declared.ended.Ended.TheVariants as ended
 use Rattle.conversation.specs.declared.other_end.PeerDialog.{PeerDialog}
 use Rattle.conversation.specs.declared.other_end.OtherEnd.{OtherEnd}
-use Rattle.conversation.specs.declared.other_end.OtherEnd.TheVariants.{Client, Peer}
+use Rattle.conversation.specs.declared.other_end.OtherEnd.TheVariants.{Client, Peer, Stranger, Over}
 use Rattle.conversation.specs.declared.world.World.{World}
 use Rattle.conversation.specs.OtherEnds.{ConversationEnding, peer_at, unless_over}
-use Rattle.conversation.specs.Events.{Telling, TellsAudit, new_audit}
-use Rattle.conversation.specs.Logins.{after_answer}
 
 -- nothing whole stands first
 abbrev pub IsIncomplete : OtherEnd → Type 0
@@ -39,20 +36,17 @@ abbrev pub peer_ending : Option (Result PeerEnded ServeFault) → Option Convers
 peer_ending = option_map (result_map_both ended.Peer (λ fault. fault))
 
 -- what stood first on a client's connection was answered, by one step over an archive; what the
--- server is set to stays, and the log is told of the audit event that it brought
+-- server is set to stays, and nothing is told
 pub record AnswersClient {A C L : Type 0} (state : A → Store) (gave : C → List ℤ → C → Type 0)
-    (told : Telling L) (stay : Stay) (v : World A C L) (link : ConnectionState) (made : List ℕ)
-    (ending : Option ConversationEnding) (w : World A C L) (next : OtherEnd) : Type 0 where
+    (v : World A C L) (link : ConnectionState) (made : List ℕ) (ending : Option ConversationEnding)
+    (w : World A C L) (next : OtherEnd) : Type 0 where
   pub used : Environment
   pub ends : Option ClientEnding
   pub later : ConnectionState
   pub settings : w.server.settings ≡ v.server.settings
   pub clock : gave v.clock used.readings w.clock
-  pub log : TellsAudit told stay v.log
-      (new_audit link.client.sessions later.client.sessions) w.log
-  pub logins : w.logins
-      ≡ after_answer v.server.settings.logins stay
-      (new_audit link.client.sessions later.client.sessions) v.logins
+  pub log : w.log ≡ v.log
+  pub from : w.from ≡ v.from
   pub advances : Advances v.server.settings (state v.server.replica.archive)
       (state w.server.replica.archive) link used made ends later
   pub ended_so : ending ≡ client_ending ends
@@ -67,8 +61,8 @@ Tells said ends made ending =
 
 -- the frame that stood first in a peer's dialog, if it was whole, was answered over an archive;
 -- what the server is set to stays, the time isn't asked for, and nothing is told
-pub record AnswersPeer {A C L : Type 0} (state : A → Store) (stay : Stay) (v : World A C L)
-    (peer : PeerDialog) (made : List ℕ) (ending : Option ConversationEnding) (w : World A C L)
+pub record AnswersPeer {A C L : Type 0} (state : A → Store) (v : World A C L) (peer : PeerDialog)
+    (made : List ℕ) (ending : Option ConversationEnding) (w : World A C L)
     (next : OtherEnd) : Type 0 where
   pub said : List ℕ
   pub rest : List ℕ
@@ -77,20 +71,22 @@ pub record AnswersPeer {A C L : Type 0} (state : A → Store) (stay : Stay) (v :
   pub settings : w.server.settings ≡ v.server.settings
   pub clock : w.clock ≡ v.clock
   pub log : w.log ≡ v.log
-  pub logins : w.logins ≡ after_answer v.server.settings.logins stay None v.logins
+  pub from : w.from ≡ v.from
   pub talks : Talks peer.dialog (state v.server.replica.archive) (state w.server.replica.archive)
       peer.frames.waiting said rest ends last
   pub one : ends ≡ None → last.taken ≤ peer.dialog.taken + 1
   pub tells : Tells said ends made ending
   pub leaves : next ≡ unless_over ending (Peer (peer_at last rest))
 
--- what stood first was answered over a world, if it was whole; where nobody is known nothing is
-abbrev pub AnswersFirst : {A C L : Type 0} → (A → Store) → (C → List ℤ → C → Type 0) → Telling L
-    → Stay → World A C L → OtherEnd → (made : List ℕ) → Option ConversationEnding → World A C L
-    → OtherEnd → Type 0
-AnswersFirst state gave told stay v (Client link) made ending w new =
-    AnswersClient state gave told stay v link made ending w new
-AnswersFirst state gave told stay v (Peer peer) made ending w new =
-    AnswersPeer state stay v peer made ending w new
-AnswersFirst state gave told stay v other made ending w new =
+-- what stood first was answered over a world, if it was whole; with a stranger it is over, and where
+-- nobody is known nothing is answered
+abbrev pub AnswersFirst : {A C L : Type 0} → (A → Store) → (C → List ℤ → C → Type 0) → World A C L
+    → OtherEnd → (made : List ℕ) → Option ConversationEnding → World A C L → OtherEnd → Type 0
+AnswersFirst state gave v (Client link) made ending w new =
+    AnswersClient state gave v link made ending w new
+AnswersFirst state gave v (Peer peer) made ending w new =
+    AnswersPeer state v peer made ending w new
+AnswersFirst state gave v Stranger made ending w new =
+    (made ≡ []) × (ending ≡ Some (Ok ended.Stranger)) × (w ≡ v) × (new ≡ Over)
+AnswersFirst state gave v other made ending w new =
     (made ≡ []) × (ending ≡ None) × (w ≡ v) × (new ≡ other)

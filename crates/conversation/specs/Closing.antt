@@ -1,24 +1,33 @@
--- What is told of a connection that ended.
+-- What is told of connections: how each ended, and that one failed before it could be used.
 use Rattle.std.specs.Prelude.{◌≡◌, ℕ, List, Option, None, Some, Result, Ok, Err, slice_get}
 use Rattle.multiplex.specs.declared.handler.SlotEnd.{SlotEnd}
-use Rattle.multiplex.specs.declared.stay.Stay.{Stay}
-use Rattle.multiplex.specs.declared.stay.Party.TheVariants.{Accepted, Called}
 use Rattle.multiplex.specs.declared.handler.SlotEnd.TheVariants.{Finished, EndOfInput, ReadFailed, WriteFailed, IdleTimeout, Displaced}
+use Rattle.multiplex.specs.declared.stay.Party.{Party}
+use Rattle.multiplex.specs.declared.stay.Party.TheVariants.{Accepted, Called}
 use Rattle.exchange.specs.declared.fault.ExchangeFault.TheVariants.{Frame}
 use Rattle.counted_io.specs.declared.fault.ServeFault.{ServeFault}
 use Rattle.counted_io.specs.declared.fault.ServeFault.TheVariants.{Read, Write}
 use Rattle.ua_peers.specs.declared.peers.PeerEnded.{PeerEnded}
 use Rattle.ua_peers.specs.declared.peers.PeerEnded.TheVariants as parted
 use Rattle.ua_peers.specs.declared.calling.SyncFault.{SyncFault}
-use Rattle.ua_peers.specs.declared.calling.Synced.{Synced}
 use Rattle.ua_peers.specs.declared.calling.SyncFault.TheVariants.{Connection, Exchange, Peer}
 use Rattle.ua_settings.specs.declared.peers.PeerCall.{PeerCall}
-use Rattle.conversation.specs.declared.ended.Ended.{Ended}
 use Rattle.conversation.specs.declared.ended.Ended.TheVariants as ended
 use Rattle.conversation.specs.declared.other_end.OtherEnd.{OtherEnd}
 use Rattle.conversation.specs.declared.world.World.{World}
-use Rattle.conversation.specs.OtherEnds.{ConversationEnding, moved_by}
-use Rattle.conversation.specs.Events.{Telling, Tells, Parted, CallEnded}
+use Rattle.conversation.specs.OtherEnds.{ConversationEnding}
+
+-- what the calls of a log do: it was told that a connection ended by this fault; that one failed at
+-- this time before it could be used; and how a call of a peer ended, of this number and address
+pub record LogCalls (L : Type 0) : Type 1 where
+  pub told : L → ServeFault → L → Type 0
+  pub told_failed : L → (now : ℕ) → L → Type 0
+  pub told_call : L → (callee : ℕ) → (address : List ℕ) → Result (Unit {0}) SyncFault → L → Type 0
+
+-- the record of these three
+abbrev pub log_calls : {L : Type 0} → (L → ServeFault → L → Type 0) → (L → ℕ → L → Type 0)
+    → (L → ℕ → List ℕ → Result (Unit {0}) SyncFault → L → Type 0) → LogCalls L
+log_calls told failed call = record { told = told; told_failed = failed; told_call = call }
 
 -- the fault by which a connection ended, if it did; one that was silent for too long, or made place
 -- for another, ended as by a read that failed
@@ -43,28 +52,47 @@ parted_outcome (parted.Failed fault) = Err (Exchange fault)
 abbrev pub call_outcome : SlotEnd ConversationEnding → Result (Unit {0}) SyncFault
 call_outcome (Finished (Ok (ended.Peer end))) = parted_outcome end
 call_outcome (Finished (Ok (ended.Client end))) = Err (Exchange Frame)
+call_outcome (Finished (Ok ended.Stranger)) = Err (Exchange Frame)
 call_outcome (Finished (Err fault)) = Err (Connection fault)
 call_outcome EndOfInput = Err (Exchange Frame)
 call_outcome WriteFailed = Err (Connection Write)
 call_outcome other = Err (Connection Read)
 
+-- the log alone changed, and so
+abbrev pub ChangesLog : {A C L : Type 0} → (L → L → Type 0) → World A C L → World A C L → Type 0
+ChangesLog so v w = (w ≡ record v { log = w.log }) × so v.log w.log
+
 -- it was told how a call of a peer ended, of this number, if there is one
-abbrev pub TellsCallOf : {A C L : Type 0} → Telling L → (callee : ℕ) → Result (Unit {0}) SyncFault
-    → Synced → World A C L → World A C L → Option PeerCall → Type 0
-TellsCallOf told callee outcome moved v w None = w ≡ v
-TellsCallOf told callee outcome moved v w (Some peer) =
-    Tells told v (CallEnded callee peer.address outcome moved) w
+abbrev pub TellsCallOf : {A C L : Type 0} → LogCalls L → World A C L → (callee : ℕ)
+    → Result (Unit {0}) SyncFault → World A C L → Option PeerCall → Type 0
+TellsCallOf calls v callee outcome w None = w ≡ v
+TellsCallOf calls v callee outcome w (Some peer) =
+    ChangesLog (λ old new. calls.told_call old callee peer.address outcome new) v w
 
 -- it was told how a call of the peer of this number in the settings ended, if there is one
-abbrev pub TellsCall : {A C L : Type 0} → Telling L → World A C L → (callee : ℕ)
-    → Result (Unit {0}) SyncFault → Synced → World A C L → Type 0
-TellsCall told v callee outcome moved w =
-    TellsCallOf told callee outcome moved v w (slice_get v.server.settings.peers callee)
+abbrev pub TellsCall : {A C L : Type 0} → LogCalls L → World A C L → (callee : ℕ)
+    → Result (Unit {0}) SyncFault → World A C L → Type 0
+TellsCall calls v callee outcome w =
+    TellsCallOf calls v callee outcome w (slice_get v.server.settings.peers callee)
 
--- it was told how a connection ended: one that came, and a call of a peer
-abbrev pub TellsEnd : {A C L : Type 0} → Telling L → Stay → World A C L → OtherEnd
+-- it was told by which fault a connection ended, if it did
+abbrev pub TellsFaultOf : {A C L : Type 0} → LogCalls L → World A C L → World A C L
+    → Option ServeFault → Type 0
+TellsFaultOf calls v w None = w ≡ v
+TellsFaultOf calls v w (Some fault) = ChangesLog (λ old new. calls.told old fault new) v w
+
+-- the number of the peer that was called, if the connection is a call
+abbrev pub callee_of : Party → Option ℕ
+callee_of party = elim party [ Called callee ↦ Some callee | Accepted origin ↦ None ]
+
+-- it was told how a connection that was accepted ended, if it ended by a fault: of a peer's dialog
+-- nothing, since the peer was told; of a call it was told how that ended
+abbrev pub TellsEnd : {A C L : Type 0} → LogCalls L → (callee : Option ℕ) → World A C L → OtherEnd
     → SlotEnd ConversationEnding → World A C L → Type 0
-TellsEnd told stay v other ending w = elim stay.party [
-  | Called callee ↦ TellsCall told v callee (call_outcome ending) (moved_by other) w
-  | Accepted origin ↦ Tells told v (Parted stay ending (moved_by other)) w
-]
+TellsEnd calls (Some callee) v other ending w = TellsCall calls v callee (call_outcome ending) w
+TellsEnd calls None v other ending w = TellsFaultOf calls v w (connection_fault ending)
+
+-- it was told that a connection failed before it could be used
+abbrev pub TellsFailed : {A C L : Type 0} → LogCalls L → World A C L → (now : ℕ) → World A C L
+    → Type 0
+TellsFailed calls v now w = ChangesLog (λ old new. calls.told_failed old now new) v w

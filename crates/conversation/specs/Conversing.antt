@@ -1,34 +1,38 @@
 -- What is said on a connection, as the loop over many of them knows it.
-use Rattle.std.specs.Prelude.{◌≡◌, ℤ, List, [], None}
+use Rattle.std.specs.Prelude.{◌≡◌, ℤ, List, [], Option, if◌then◌else◌}
 use Rattle.archive.specs.Store.{Store}
 use Rattle.multiplex.specs.Behavior.{Behavior}
+use Rattle.multiplex.specs.declared.stay.Origin.{Origin}
 use Rattle.conversation.specs.declared.other_end.OtherEnd.{OtherEnd}
-use Rattle.conversation.specs.declared.other_end.OtherEnd.TheVariants.{Unknown}
+use Rattle.conversation.specs.declared.other_end.OtherEnd.TheVariants.{Unknown, Stranger}
 use Rattle.conversation.specs.declared.world.World.{World}
-use Rattle.conversation.specs.Doors.{door_of_listener}
+use Rattle.conversation.specs.declared.networks.Network.{Network}
+use Rattle.conversation.specs.Doors.{door_of_listener, is_stranger}
 use Rattle.conversation.specs.OtherEnds.{ConversationEnding, is_established}
 use Rattle.conversation.specs.Receiving.{TakesBytes}
 use Rattle.conversation.specs.Answering.{IsIncomplete, AnswersFirst}
-use Rattle.conversation.specs.Events.{Telling, Tells, Passes, Connected, AcceptFailed}
-use Rattle.conversation.specs.Logins.{delay_of}
-use Rattle.conversation.specs.Closing.{TellsEnd}
+use Rattle.conversation.specs.Closing.{LogCalls, callee_of, TellsEnd, TellsFailed}
 use Rattle.conversation.specs.Starting.{StartsCall}
 use Rattle.conversation.specs.Moves.{Moves}
 
--- a connection begins with nobody known at its other end, at the door of its listener, or is a call
--- of a peer; the log is told of each, and of each end
+-- who is at the other end of a connection that came from there, before its first byte
+abbrev pub first_end : (from : Option (List Network)) → Origin → OtherEnd
+first_end from origin =
+    if is_stranger from origin then Stranger else Unknown (door_of_listener origin.listener) []
+
+-- a connection begins with a stranger or with nobody known at its other end, at the door of its
+-- listener, or is a call of a peer; no answer waits, and nothing hangs on the time
 abbrev pub behavior_over : {A C L : Type 0} → (A → Store) → (C → List ℤ → C → Type 0)
-    → Telling L → Behavior OtherEnd (World A C L) ConversationEnding
-behavior_over state gave told = record {
-  passes = Passes told;
-  begins = λ origin v other w.
-      (other ≡ Unknown (door_of_listener origin.listener) []) × Tells told v (Connected origin) w;
-  calls = StartsCall state told;
+    → LogCalls L → Behavior OtherEnd (World A C L) ConversationEnding
+behavior_over state gave log = record {
+  passes = λ v now longest_turn w. w ≡ v;
+  begins = λ origin v other w. (other ≡ first_end v.from origin) × (w ≡ v);
+  calls = StartsCall state log;
   receives = TakesBytes;
-  answers = AnswersFirst state gave told;
-  delay = λ stay v other. delay_of v.logins;
-  closes = TellsEnd told;
-  fails_accept = λ v now w. Tells told v (AcceptFailed now) w;
+  answers = λ stay. AnswersFirst state gave;
+  delay = λ stay v other. 0;
+  closes = λ stay. TellsEnd log (callee_of stay.party);
+  fails_accept = TellsFailed log;
   needs_more = IsIncomplete;
   is_established = is_established;
   moves = Moves state;

@@ -1,9 +1,12 @@
 -- Who is taken on a connection, by where it came to.
-use Rattle.std.specs.Prelude.{ℕ, ◌==◌, Bool, true, false, ◌||◌, List, codes, None, Some, if◌then◌else◌}
+use Rattle.std.specs.Prelude.{ℕ, ◌==◌, Bool, true, false, not, ◌||◌, List, codes, Option, None, Some, if◌then◌else◌}
 use Rattle.exchange.specs.Frames.{begins}
+use Rattle.multiplex.specs.declared.stay.Origin.{Origin}
 use Rattle.ua_settings.specs.Settings.{SettingsValues}
 use Rattle.conversation.specs.declared.door.Door.{Door}
 use Rattle.conversation.specs.declared.door.Door.TheVariants.{Both, Clients, Peers}
+use Rattle.conversation.specs.declared.networks.Network.{Network}
+use Rattle.conversation.specs.Networks.{is_taken}
 
 -- by the number of the listener that it came from
 abbrev pub door_of_listener : ℕ → Door
@@ -26,3 +29,11 @@ is_peers door came = elim door [
   | Clients ↦ false
   | Peers ↦ true
 ]
+
+-- a connection came to the door of peers from where none is taken
+abbrev pub is_stranger : (from : Option (List Network)) → Origin → Bool
+is_stranger from origin =
+    elim (door_of_listener origin.listener) [
+      | Peers ↦ not (is_taken from origin.address)
+      | _ ↦ false
+    ]

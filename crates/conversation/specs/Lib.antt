@@ -1,8 +1,7 @@
+pub mod Networks
 pub mod Doors
 pub mod OtherEnds
 pub mod Receiving
-pub mod Events
-pub mod Logins
 pub mod Answering
 pub mod Closing
 pub mod Starting
@@ -12,3 +11,4 @@ pub mod Growing
 pub mod Adding
 pub mod Alone
 pub mod ClientsDoors
+pub mod Strangers

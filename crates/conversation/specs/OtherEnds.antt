@@ -6,12 +6,11 @@ use Rattle.ua_session.specs.Sessions.{has_user}
 use Rattle.ua_connection.specs.Client.{new_client}
 use Rattle.ua_peers.specs.Peers.{responding}
 use Rattle.ua_peers.specs.Talking.{IsReady}
-use Rattle.ua_peers.specs.declared.calling.Synced.{Synced}
 use Rattle.conversation.specs.declared.ended.Ended.{Ended}
 use Rattle.conversation.specs.declared.door.Door.{Door}
 use Rattle.conversation.specs.declared.other_end.PeerDialog.{PeerDialog}
 use Rattle.conversation.specs.declared.other_end.OtherEnd.{OtherEnd}
-use Rattle.conversation.specs.declared.other_end.OtherEnd.TheVariants.{Unknown, Client, Peer, Over}
+use Rattle.conversation.specs.declared.other_end.OtherEnd.TheVariants.{Unknown, Client, Peer, Stranger, Over}
 use Rattle.conversation.specs.Doors.{is_peers}
 
 -- how a connection ended, or the fault that ended it
@@ -42,24 +41,13 @@ with_bytes other bytes = elim other [
   | Peer peer ↦ Peer (record peer {
     frames = record peer.frames { waiting = peer.frames.waiting ++ bytes };
   })
-  | Over moved ↦ Over moved
-]
-
--- no record
-abbrev pub none_moved : Synced
-none_moved = record { learned = 0; sent = 0 }
-
--- how many records of its dialog were moved; a client has none
-abbrev pub moved_by : OtherEnd → Synced
-moved_by other = elim other [
-  | Peer peer ↦ record { learned = peer.dialog.learned; sent = peer.dialog.sent }
-  | Over moved ↦ moved
-  | _ ↦ none_moved
+  | Stranger ↦ Stranger
+  | Over ↦ Over
 ]
 
 -- the other end behind an answer, which may have ended the connection
 abbrev pub unless_over : Option ConversationEnding → OtherEnd → OtherEnd
-unless_over ending other = elim ending [ None ↦ other | Some end ↦ Over (moved_by other) ]
+unless_over ending other = elim ending [ None ↦ other | Some end ↦ Over ]
 
 -- a session of it was activated, or a whole frame of it came
 abbrev pub is_established : OtherEnd → Bool

@@ -1,7 +1,6 @@
 //! What stands first in what came, and its answer.
 
 ghost use Rattle.std.specs.Prelude.{◌≡◌, ◌++◌, ◌+◌, ◌≤◌, List, ℕ, [], true, false, None, Ok};
-ghost use Rattle.std.specs.Option.{option_copied};
 ghost use Rattle.multiplex.specs.Progress.{end_in};
 ghost use Rattle.multiplex.specs.declared.handler.Progress.TheVariants.{NeedsMore as Lacks};
 ghost use Rattle.exchange.specs.Frames.{frame_header};
@@ -10,23 +9,19 @@ ghost use Rattle.ua_connection.specs.declared.turn.Step.TheVariants.{NeedsInput}
 ghost use Rattle.ua_peers.specs.Talking.{ending_of as peer_ending_of};
 ghost use Rattle.ua_peers.specs.Peers.{Talks};
 ghost use Rattle.conversation.specs.OtherEnds.{unless_over, is_established, IsUsable};
-ghost use Rattle.ua_session.specs.Sessions.{SessionsState};
-ghost use Rattle.conversation.specs.Events.{new_audit};
 ghost use Rattle.conversation.specs.Answering.{IsIncomplete, client_ending, peer_ending, AnswersClient, AnswersPeer, AnswersFirst};
 ghost use Rattle.conversation.specs.declared.other_end.OtherEnd.TheVariants.{Client, Peer};
 
 use crate::ended::Ended;
-use crate::log::Log;
-use crate::other_end::{OtherEnd, PeerDialog, moved_by};
+use crate::other_end::{OtherEnd, PeerDialog};
 use crate::world::World;
 use archive::Archive;
 use counted_io::ServeFault;
 use exchange::{ExchangeFault, State};
 use historian::Server;
-use multiplex::{Progress, Stay};
+use multiplex::Progress;
 use ua_connection::{Clock, Connection, Step};
 use ua_peers::{PeerEnded, take_first};
-use ua_session::AuditEvent;
 
 /// What a step of a client's connection is to it.
 fn client_progress(step: Result<Step, ServeFault>) -> Progress<Result<Ended, ServeFault>>
@@ -42,39 +37,19 @@ fn client_progress(step: Result<Step, ServeFault>) -> Progress<Result<Ended, Ser
     }
 }
 
-/// The audit event that a client's connection brought since there were so many, if it brought one.
-fn new_audit(connection: &Connection, before: u64) -> Option<&AuditEvent>
-    ensures { (old : SessionsState) → old.audits ≡ before
-        → option_copied result ≡ new_audit old connection.now.client.sessions }
-{
-    if connection.audits() == before {
-        None
-    } else {
-        connection.last_audit()
-    }
-}
-
-/// Answers the chunk that stands first on a client's connection, if it is whole. What it did in a session is told.
-fn answer_client<A: Archive, C: Clock, L: Log>(
-    stay: Stay,
+/// Answers the chunk that stands first on a client's connection, if it is whole.
+fn answer_client<A: Archive, C: Clock, L>(
     world: &mut World<A, C, L>,
     connection: &mut Connection,
     out: &mut Vec<u8>,
 ) -> Progress<Result<Ended, ServeFault>>
     ensures answers { (made : List ℕ) × (out.new.items ≡ out.old.items ++ made)
-        × AnswersClient A.state C.gave L.told stay world.old connection.old made (end_in result)
-        world.new (unless_over (end_in result) (Client connection.new)) }
+        × AnswersClient A.state C.gave world.old connection.old made (end_in result) world.new
+        (unless_over (end_in result) (Client connection.new)) }
     ensures lacks { result ≡ Lacks
         → (out.new.items ≡ out.old.items) × NeedsBytes connection.new }
 {
-    let audits = connection.audits();
     let step = connection.advance(&mut world.server, &mut world.clock, out);
-    let event = new_audit(connection, audits);
-    let limit = world.server.settings.logins();
-    world.logins.note_answer(limit, stay, event);
-    if let Some(event) = event {
-        world.log.tell_audit(stay, event);
-    }
     client_progress(step)
 }
 
@@ -154,21 +129,18 @@ pub(crate) fn append(bytes: Vec<u8>, out: &mut Vec<u8>) -> bool
 
 /// Answers the frame that stands first in a peer's dialog, if it is whole.
 fn answer_peer<A: Archive, C, L>(
-    stay: Stay,
     world: &mut World<A, C, L>,
     peer: &mut PeerDialog,
     out: &mut Vec<u8>,
 ) -> Progress<Result<Ended, ServeFault>>
     requires { IsUsable (Peer peer.old) }
     ensures answers { (made : List ℕ) × (out.new.items ≡ out.old.items ++ made)
-        × AnswersPeer A.state stay world.old peer.old made (end_in result) world.new
+        × AnswersPeer A.state world.old peer.old made (end_in result) world.new
         (unless_over (end_in result) (Peer peer.new)) }
     ensures sound { end_in result ≡ None → IsUsable (Peer peer.new) }
     ensures lacks { result ≡ Lacks
         → (out.new.items ≡ out.old.items) × (frame_header peer.new.frames.waiting ≡ Ok None) }
 {
-    let limit = world.server.settings.logins();
-    world.logins.note_answer(limit, stay, None);
     let mut said = Vec::new(world.server.alloc);
     let progress = take_frame(&mut world.server, peer, &mut said);
     if append(said, out) {
@@ -187,7 +159,7 @@ fn leave_at_end(
     ensures left { other.new ≡ unless_over (end_in progress) other.old }
 {
     match progress {
-        Progress::Ended(_) => *other = OtherEnd::Over(moved_by(other)),
+        Progress::Ended(_) => *other = OtherEnd::Over,
         Progress::NeedsMore => {}
         Progress::Answered => {}
     }
@@ -195,29 +167,31 @@ fn leave_at_end(
 }
 
 /// Answers what stands first in what the other end brought, if it is whole.
-pub(crate) fn answer_first<A: Archive, C: Clock, L: Log>(
-    stay: Stay,
+pub(crate) fn answer_first<A: Archive, C: Clock, L>(
     world: &mut World<A, C, L>,
     other: &mut OtherEnd,
     out: &mut Vec<u8>,
 ) -> Progress<Result<Ended, ServeFault>>
     requires { IsUsable other.old }
     ensures answers { (made : List ℕ) × (out.new.items ≡ out.old.items ++ made)
-        × AnswersFirst A.state C.gave L.told stay world.old other.old made (end_in result) world.new
-        other.new }
+        × AnswersFirst A.state C.gave world.old other.old made (end_in result) world.new other.new }
     ensures sound { IsUsable other.new }
     ensures lacks { result ≡ Lacks → (out.new.items ≡ out.old.items) × IsIncomplete other.new }
 {
     match other {
         OtherEnd::Client(connection) => {
-            let progress = answer_client(stay, world, connection, out);
+            let progress = answer_client(world, connection, out);
             leave_at_end(other, progress)
         }
         OtherEnd::Peer(peer) => {
-            let progress = answer_peer(stay, world, peer, out);
+            let progress = answer_peer(world, peer, out);
             leave_at_end(other, progress)
         }
-        OtherEnd::Unknown { .. } | OtherEnd::Over(_) => Progress::NeedsMore,
+        OtherEnd::Stranger => {
+            *other = OtherEnd::Over;
+            Progress::Ended(Ok(Ended::Stranger))
+        }
+        OtherEnd::Unknown { .. } | OtherEnd::Over => Progress::NeedsMore,
     }
 }
 
@@ -228,6 +202,6 @@ pub(crate) fn is_established(other: &OtherEnd) -> bool
     match other {
         OtherEnd::Client(connection) => connection.has_user(),
         OtherEnd::Peer(peer) => peer.is_heard,
-        OtherEnd::Unknown { .. } | OtherEnd::Over(_) => false,
+        OtherEnd::Unknown { .. } | OtherEnd::Stranger | OtherEnd::Over => false,
     }
 }

@@ -20,7 +20,7 @@ pub(crate) fn start_call<A: Archive, C, L>(
     ensures settings { world.new.server.settings ≡ world.old.server.settings }
     ensures clock { world.new.clock ≡ world.old.clock }
     ensures log { world.new.log ≡ world.old.log }
-    ensures logins { world.new.logins ≡ world.old.logins }
+    ensures from { world.new.from ≡ world.old.from }
     ensures asks { (made : List ℕ) × (out.new.items ≡ out.old.items ++ made)
         × AsksPeer (A.state world.old.server.replica.archive)
         (A.state world.new.server.replica.archive) made

@@ -1,7 +1,8 @@
 //! What is told of a connection that ended.
 
 ghost use Rattle.std.specs.Prelude.{◌≡◌};
-ghost use Rattle.conversation.specs.Closing.{connection_fault, call_outcome, parted_outcome, TellsCall};
+ghost use Rattle.conversation.specs.declared.other_end.OtherEnd.{OtherEnd};
+ghost use Rattle.conversation.specs.Closing.{log_calls, connection_fault, call_outcome, parted_outcome, TellsCall, TellsEnd};
 
 use crate::ended::Ended;
 use crate::log::Log;
@@ -9,11 +10,10 @@ use crate::world::World;
 use counted_io::ServeFault;
 use exchange::ExchangeFault;
 use multiplex::SlotEnd;
-use ua_peers::{PeerEnded, SyncFault, Synced};
+use ua_peers::{PeerEnded, SyncFault};
 
-/// The fault by which a connection ended, if it did: one that was silent for too long, or made place for another, ended as by
-/// a read that failed.
-pub fn connection_fault(ending: SlotEnd<Result<Ended, ServeFault>>) -> Option<ServeFault>
+/// The fault by which a connection ended, if it did.
+fn connection_fault(ending: SlotEnd<Result<Ended, ServeFault>>) -> Option<ServeFault>
     ensures { result ≡ connection_fault ending }
 {
     match ending {
@@ -42,7 +42,7 @@ pub(crate) fn call_outcome(ending: SlotEnd<Result<Ended, ServeFault>>) -> Result
 {
     match ending {
         SlotEnd::Finished(Ok(Ended::Peer(parted))) => parted_outcome(parted),
-        SlotEnd::Finished(Ok(Ended::Client(_))) | SlotEnd::EndOfInput => {
+        SlotEnd::Finished(Ok(Ended::Client(_) | Ended::Stranger)) | SlotEnd::EndOfInput => {
             Err(SyncFault::Exchange(ExchangeFault::Frame))
         }
         SlotEnd::Finished(Err(fault)) => Err(SyncFault::Connection(fault)),
@@ -58,13 +58,23 @@ pub(crate) fn tell_call<A, C, L: Log>(
     world: &mut World<A, C, L>,
     callee: usize,
     outcome: Result<(), SyncFault>,
-    moved: Synced,
 )
-    ensures { TellsCall L.told world.old callee outcome moved world.new }
+    ensures { TellsCall (log_calls L.told L.told_failed L.told_call) world.old callee outcome world.new }
 {
     if let Some(peer) = world.server.settings.peers().as_slice().get(callee) {
-        world
-            .log
-            .tell_call(callee, peer.address.as_str(), outcome, moved);
+        world.log.tell_call(callee, peer.address.as_str(), outcome);
+    }
+}
+
+/// Tells by which fault a connection that was accepted ended, if it did.
+pub(crate) fn tell_end<A, C, L: Log>(
+    world: &mut World<A, C, L>,
+    ending: SlotEnd<Result<Ended, ServeFault>>,
+)
+    ensures { (other : OtherEnd)
+        → TellsEnd (log_calls L.told L.told_failed L.told_call) None world.old other ending world.new }
+{
+    if let Some(fault) = connection_fault(ending) {
+        world.log.tell(fault);
     }
 }

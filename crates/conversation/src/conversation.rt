@@ -2,11 +2,11 @@
 
 use crate::answering::{answer_first, is_established};
 use crate::calling::start_call;
-use crate::closing::{call_outcome, tell_call};
-use crate::door::Door;
+use crate::closing::{call_outcome, tell_call, tell_end};
+use crate::door::{Door, is_stranger};
 use crate::ended::Ended;
 use crate::log::Log;
-use crate::other_end::{Letters, NONE_MOVED, OtherEnd, PeerDialog, moved_by};
+use crate::other_end::{Letters, OtherEnd, PeerDialog};
 use crate::receiving::{take_bytes, tell_starved};
 use crate::world::World;
 use archive::Archive;
@@ -43,30 +43,31 @@ impl<A, C, L> Model for Conversation<A, C, L> {
 impl<A: Archive, C: Clock, L: Log> Handler for Conversation<A, C, L> {
     ghost use Rattle.conversation.specs.Conversing.{behavior_over};
     ghost use Rattle.conversation.specs.Adding.{moves_over};
-    ghost use Rattle.conversation.specs.Closing.{TellsEnd};
+    ghost use Rattle.conversation.specs.Closing.{log_calls, callee_of, TellsEnd};
 
     type World = World<A, C, L>;
 
     type End = Result<Ended, ServeFault>;
 
-    ghost behavior = { behavior_over A.state C.gave L.told };
+    ghost behavior = { behavior_over A.state C.gave (log_calls L.told L.told_failed L.told_call) };
 
-    ghost moves_add_up = { moves_over A.state C.gave L.told };
+    ghost moves_add_up = { moves_over A.state C.gave (log_calls L.told L.told_failed L.told_call) };
 
-    /// It is this time; the log is told of it.
-    fn pass(world: &mut World<A, C, L>, now: u64, longest_turn: u64) {
-        world.logins.now = now;
-        world.log.pass(now, longest_turn);
-    }
+    /// Nothing hangs on the time.
+    fn pass(world: &mut World<A, C, L>, now: u64, longest_turn: u64) {}
 
-    /// Nothing came yet, and nobody is known; the log is told that somebody came. It takes no memory.
+    /// Nothing came yet, and nobody is known, but for strangers at the door of peers. It takes no memory.
     fn begin(alloc: Global, origin: Origin, world: &mut World<A, C, L>) -> Self {
-        world.log.tell_connected(origin);
-        Conversation {
-            other: OtherEnd::Unknown {
+        let other = if is_stranger(&world.from, origin) {
+            OtherEnd::Stranger
+        } else {
+            OtherEnd::Unknown {
                 door: Door::of_listener(origin.listener),
                 letters: Letters::new(alloc),
-            },
+            }
+        };
+        Conversation {
+            other,
             alloc,
             world: PhantomData,
         }
@@ -91,7 +92,7 @@ impl<A: Archive, C: Clock, L: Log> Handler for Conversation<A, C, L> {
                 world: PhantomData,
             }),
             Err(fault) => {
-                tell_call(world, callee, Err(SyncFault::Exchange(fault)), NONE_MOVED);
+                tell_call(world, callee, Err(SyncFault::Exchange(fault)));
                 None
             }
         }
@@ -104,23 +105,23 @@ impl<A: Archive, C: Clock, L: Log> Handler for Conversation<A, C, L> {
             return None;
         }
         let end = tell_starved(&self.other, out);
-        self.other = OtherEnd::Over(moved_by(&self.other));
+        self.other = OtherEnd::Over;
         Some(end)
     }
 
-    /// Answers a client's chunk, or a peer's frame, where it is whole. The log is told what a client did in a session.
+    /// Answers a client's chunk, or a peer's frame, where it is whole. With a stranger it is over.
     fn answer(
         &mut self,
         stay: Stay,
         world: &mut World<A, C, L>,
         out: &mut Vec<u8>,
     ) -> Progress<Result<Ended, ServeFault>> {
-        answer_first(stay, world, &mut self.other, out)
+        answer_first(world, &mut self.other, out)
     }
 
-    /// The answer to an activation waits a second where too many were refused to those who are there.
-    fn delay(&self, _stay: Stay, world: &World<A, C, L>) -> u64 {
-        world.logins.delay()
+    /// No answer waits.
+    fn delay(&self, stay: Stay, world: &World<A, C, L>) -> u64 {
+        0
     }
 
     /// Whether its other end is a client with a session that was activated, or a peer of whom a whole frame came.
@@ -128,19 +129,19 @@ impl<A: Archive, C: Clock, L: Log> Handler for Conversation<A, C, L> {
         is_established(&self.other)
     }
 
-    /// Tells how a call ended, or a connection that was accepted.
+    /// Tells how a call ended, and of a connection that was accepted the fault by which it did, if it is one.
     fn close(
         self,
         stay: Stay,
         world: &mut World<A, C, L>,
         ending: SlotEnd<Result<Ended, ServeFault>>,
     )
-        ensures { TellsEnd L.told stay world.old self ending world.new }
+        ensures { TellsEnd (log_calls L.told L.told_failed L.told_call) (callee_of stay.party) world.old self
+            ending world.new }
     {
-        let moved = moved_by(&self.other);
         match stay.party {
-            Party::Called(callee) => tell_call(world, callee, call_outcome(ending), moved),
-            Party::Accepted(_) => world.log.tell_parted(stay, ending, moved),
+            Party::Called(callee) => tell_call(world, callee, call_outcome(ending)),
+            Party::Accepted(_) => tell_end(world, ending),
         }
     }
 

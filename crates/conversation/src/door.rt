@@ -1,8 +1,11 @@
 //! Who is taken on a connection.
 
 ghost use Rattle.std.specs.Prelude.{◌≡◌};
-ghost use Rattle.conversation.specs.Doors.{door_of_listener, door_of, listener_of, is_peers};
+ghost use Rattle.conversation.specs.Doors.{door_of_listener, door_of, listener_of, is_peers, is_stranger};
 
+use crate::networks::{Network, is_taken};
+use multiplex::Origin;
+use ua_binary::Listing;
 use ua_settings::Settings;
 
 /// Who is taken on a connection, by where it came to.
@@ -59,5 +62,15 @@ impl Door {
             Door::Clients => false,
             Door::Peers => true,
         }
+    }
+}
+
+/// Whether a connection came to the door of peers from where none is taken.
+pub(crate) fn is_stranger(from: &Option<Listing<Network>>, origin: Origin) -> bool
+    ensures { result ≡ is_stranger from.now origin }
+{
+    match Door::of_listener(origin.listener) {
+        Door::Peers => !is_taken(from, origin.address),
+        Door::Clients | Door::Both => false,
     }
 }

@@ -10,4 +10,6 @@ pub enum Ended {
     Client(Served),
     /// A peer's.
     Peer(PeerEnded),
+    /// That of somebody who came to the door of peers from where none is taken. Nothing was read or written.
+    Stranger,
 }

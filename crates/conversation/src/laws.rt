@@ -3,6 +3,8 @@
 ghost use Rattle.std.specs.Prelude.{◌≡◌, []};
 ghost use Rattle.conversation.specs.Alone.{ClientAloneIsAnswered};
 ghost use Rattle.conversation.specs.ClientsDoors.{IsAtClientsDoor, NoPeerComes, NoPeerIsAnswered};
+ghost use Rattle.conversation.specs.Closing.{log_calls};
+ghost use Rattle.conversation.specs.Strangers.{StrangersAreTurnedAway};
 ghost use Rattle.conversation.specs.declared.door.Door.TheVariants.{Clients};
 ghost use Rattle.conversation.specs.declared.other_end.OtherEnd.TheVariants.{Unknown};
 
@@ -22,7 +24,7 @@ pub fn a_client_alone_is_answered<
     L: Log,
 >()
     ensures { ClientAloneIsAnswered R.input W.output A.state C.gave
-        L.told }
+        (log_calls L.told L.told_failed L.told_call) }
 {}
 
 /// At the door of clients nobody is a peer: neither who comes there, whatever bytes are brought, nor who is answered. So no
@@ -31,5 +33,12 @@ pub fn a_clients_door_takes_no_peer<A: Archive, C: Clock, L: Log>()
     ensures begins { IsAtClientsDoor (Unknown Clients []) }
     ensures receives { NoPeerComes }
     ensures answers { NoPeerIsAnswered A.state C.gave
-        L.told }
+        (log_calls L.told L.told_failed L.told_call) }
+{}
+
+/// Who comes to the door of peers from where none is taken is turned away at the first turn: nothing of it is read, nothing is
+/// said, and nothing changes.
+pub fn a_stranger_is_not_heard<A: Archive, C: Clock, L: Log>()
+    ensures { StrangersAreTurnedAway A.state C.gave
+        (log_calls L.told L.told_failed L.told_call) }
 {}

@@ -1,51 +1,33 @@
 //! What is told of connections.
 
-ghost use Rattle.std.specs.Prelude.{◌≡◌};
-ghost use Rattle.conversation.specs.Events.{Telling, Passed, Connected, Audited, Parted, AcceptFailed, CallEnded};
+ghost use Rattle.std.specs.Prelude.{ℕ, List, Result};
+ghost use Rattle.counted_io.specs.declared.fault.ServeFault.{ServeFault};
+ghost use Rattle.ua_peers.specs.declared.calling.SyncFault.{SyncFault};
 
-use crate::ended::Ended;
 use counted_io::ServeFault;
-use multiplex::{Origin, SlotEnd, Stay};
-use ua_peers::{SyncFault, Synced};
-use ua_session::AuditEvent;
+use ua_peers::SyncFault;
 
-/// What is told what comes about on the connections of a server, event by event.
+/// What tells how connections ended, and how calls did.
 pub trait Log {
-    /// Between these two states it was told of this.
-    ghost told: { Telling Self };
+    /// Between these two states it was told that a connection ended by this fault.
+    ghost told: { Self → ServeFault → Self → Type 0 };
 
-    /// Tells what time it is, and how long the longest turn so far took, in milliseconds.
-    fn pass(&mut self, now: u64, longest_turn: u64)
-        ensures { told self.old (Passed now longest_turn) self.new };
+    /// Between these two states it was told that a connection failed before it could be used, at this time.
+    ghost told_failed: { Self → (now : ℕ) → Self → Type 0 };
 
-    /// Tells that a connection came.
-    fn tell_connected(&mut self, origin: Origin)
-        ensures { told self.old (Connected origin) self.new };
+    /// Between these two states it was told how a call of the peer of this number and address ended.
+    ghost told_call: { Self → (callee : ℕ) → (address : List ℕ) → Result (Unit {0}) SyncFault
+        → Self → Type 0 };
 
-    /// Tells what was done in a session of a client.
-    fn tell_audit(&mut self, stay: Stay, event: &AuditEvent)
-        ensures { told self.old (Audited stay event.now) self.new };
-
-    /// Tells how a connection that came ended, and how many records of its dialog were moved.
-    fn tell_parted(
-        &mut self,
-        stay: Stay,
-        ending: SlotEnd<Result<Ended, ServeFault>>,
-        moved: Synced,
-    )
-        ensures { told self.old (Parted stay ending moved) self.new };
+    /// Tells that a connection ended by a fault.
+    fn tell(&mut self, fault: ServeFault)
+        ensures { told self.old fault self.new };
 
     /// Tells that a connection failed before it could be used, at this time in milliseconds.
     fn tell_failed(&mut self, now: u64)
-        ensures { told self.old (AcceptFailed now) self.new };
+        ensures { told_failed self.old now self.new };
 
-    /// Tells how a call of the peer of this number in the settings ended, and how many records were moved.
-    fn tell_call(
-        &mut self,
-        callee: usize,
-        address: &str,
-        outcome: Result<(), SyncFault>,
-        moved: Synced,
-    )
-        ensures { told self.old (CallEnded callee address.now outcome moved) self.new };
+    /// Tells how a call of a peer ended.
+    fn tell_call(&mut self, callee: usize, address: &str, outcome: Result<(), SyncFault>)
+        ensures { told_call self.old callee address.now outcome self.new };
 }

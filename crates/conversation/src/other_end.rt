@@ -1,20 +1,10 @@
 //! Who is at the other end of a connection.
 
-ghost use Rattle.std.specs.Prelude.{◌≡◌};
-ghost use Rattle.conversation.specs.OtherEnds.{moved_by};
-
 use crate::door::Door;
 use exchange::{Dialog, Frames};
 use std::alloc::Global;
 use std::marker::Model;
 use ua_connection::Connection;
-use ua_peers::Synced;
-
-/// No record.
-pub(crate) const NONE_MOVED: Synced = Synced {
-    learned: 0,
-    sent: 0,
-};
 
 /// The first letters of a connection.
 #[derive(Drop)]
@@ -81,20 +71,8 @@ pub(crate) enum OtherEnd {
     Client(Connection),
     /// A peer.
     Peer(PeerDialog),
-    /// The connection is over; so many records of its dialog were moved.
-    Over(Synced),
-}
-
-/// How many records of its dialog were moved; a client has none.
-pub(crate) fn moved_by(other: &OtherEnd) -> Synced
-    ensures { result ≡ moved_by other.now }
-{
-    match other {
-        OtherEnd::Peer(peer) => Synced {
-            learned: peer.dialog.learned(),
-            sent: peer.dialog.sent(),
-        },
-        OtherEnd::Over(moved) => *moved,
-        OtherEnd::Unknown { .. } | OtherEnd::Client(_) => NONE_MOVED,
-    }
+    /// Somebody who came to the door of peers from where none is taken.
+    Stranger,
+    /// The connection is over.
+    Over,
 }

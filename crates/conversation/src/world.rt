@@ -1,9 +1,10 @@
 //! What answers are made over.
 
-use crate::logins::Logins;
+use crate::networks::Network;
 use historian::Server;
+use ua_binary::Listing;
 
-/// A server, its clock, its log, and what is known of logins, which its connections share.
+/// A server, its clock and its log, which its connections share.
 #[derive(Drop)]
 pub struct World<A, C, L> {
     /// What it is set to, and what it holds.
@@ -12,6 +13,6 @@ pub struct World<A, C, L> {
     pub clock: C,
     /// What is told of them.
     pub log: L,
-    /// Which activations were refused of late.
-    pub logins: Logins,
+    /// From where peers are taken at an address of their own; none: from everywhere.
+    pub from: Option<Listing<Network>>,
 }

@@ -14,6 +14,7 @@ returns-in-Ok g c =
         settings = begun.settings;
         clock = begun.clock;
         log = begun.log;
+        from = begun.from;
         asks = asks;
         begins = (
           λ i. Some (Peer (record {
