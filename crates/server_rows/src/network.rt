@@ -3,7 +3,7 @@
 use crate::ends::{Narrow, Slow};
 use counted_io::ServeFault;
 use multiplex::{
-    Arrival, Call, NonBlockingRead, NonBlockingWrite, ReadAttempt, Source, WriteAttempt,
+    Arrival, Call, NonBlockingRead, NonBlockingWrite, Origin, ReadAttempt, Source, WriteAttempt,
 };
 use std::alloc::Global;
 use std::io::{Read, Write};
@@ -126,7 +126,10 @@ impl<'a> Source for Clients<'a> {
             Some(Some(client)) => {
                 let (reader, end) = client.ends(self.alloc);
                 Arrival::Connection {
-                    listener: 0,
+                    origin: Origin {
+                        listener: 0,
+                        address: None,
+                    },
                     reader: Mouth(reader),
                     writer: Ear { number, end },
                 }

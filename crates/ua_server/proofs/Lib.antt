@@ -12,3 +12,5 @@ pub mod DumpingParts
 pub mod EitherParts
 pub mod Hexing
 pub mod SingleParts
+pub mod FromWhere
+pub mod Passwords

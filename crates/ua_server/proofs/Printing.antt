@@ -5,7 +5,7 @@ use Rattle.std.specs.Prelude.{Option, Result}
 use Rattle.ua_server.specs.declared.hexed.HexFault.{HexFault}
 use Rattle.ua_server.specs.declared.hexed.HexFault.TheVariants as hexed
 use Rattle.ua_server.specs.declared.program.ProgramFault.{ProgramFault}
-use Rattle.ua_server.specs.declared.program.ProgramFault.TheVariants.{Line, File, Settings, BadHex, Address, DoorAddress, PeerAddress, Connection}
+use Rattle.ua_server.specs.declared.program.ProgramFault.TheVariants.{Line, File, Settings, BadHex, Address, DoorAddress, DoorNetwork, PeerAddress, Connection}
 use Rattle.ua_server.specs.declared.program.ProgramFault.TheVariants as program
 use Rattle.ua_peers.specs.declared.calling.Synced.{Synced}
 use Rattle.ua_peers.specs.declared.calling.SyncFault.{SyncFault}
@@ -31,11 +31,32 @@ unset : {H A L R W : Type 0} (machine : Machine H A L R W) (path : Option (List 
     (fault : LineFault) (old new : H) → SettingsAt machine path (Err (Line fault)) old new
     → IsUnbegun fault × (new ≡ old)
 unset machine None fault old new so = so
-unset machine (Some path) fault old new (None, read, so) = absurd (cc)
-unset machine (Some path) fault old new
-    (Some text, read, (Ok settings, place, starved, told, same)) = absurd cc
-unset machine (Some path) fault old new
-    (Some text, read, (Err cause, place, starved, told, same)) = absurd cc
+unset machine (Some path) fault old new (None, between, read, (so, same)) = absurd cc
+unset machine (Some path) fault old new (Some text, between, read, inl (so, same)) = absurd cc
+unset machine (Some path) fault old new (
+  Some text,
+  between,
+  read,
+  inr (
+    Ok (Some lines),
+    reads,
+    (Ok settings, place, starved, told, same),
+  ),
+) = absurd cc
+unset machine (Some path) fault old new (
+  Some text,
+  between,
+  read,
+  inr (
+    Ok (Some lines),
+    reads,
+    (Err cause, place, starved, told, same),
+  ),
+) = absurd cc
+unset machine (Some path) fault old new (Some text, between, read, inr (Ok None, reads, same)) =
+    absurd cc
+unset machine (Some path) fault old new (Some text, between, read, inr (Err e, reads, same)) =
+    absurd cc
 
 -- and then nothing was opened
 unopened : {H A L R W : Type 0} (machine : Machine H A L R W) (held : A → Store)
@@ -153,6 +174,8 @@ line-done found known gave told line old new (Err Address) free is so =
     inl (free, (line, is, so))
 line-done found known gave told line old new (Err DoorAddress) free is so =
     inl (free, (line, is, so))
+line-done found known gave told line old new (Err (DoorNetwork number)) free is so =
+    inl (free, (line, is, so))
 line-done found known gave told line old new (Err (PeerAddress number)) free is so =
     inl (free, (line, is, so))
 line-done found known gave told line old new (Err (Connection fault)) free is so =
@@ -179,6 +202,8 @@ text-shown found known gave told old new (Err (program.Store fault)) may so = le
 text-shown found known gave told old new (Err BadHex) may so = let is = so.1.0 in absurd cc
 text-shown found known gave told old new (Err Address) may so = let is = so.1.0 in absurd cc
 text-shown found known gave told old new (Err DoorAddress) may so = let is = so.1.0 in absurd cc
+text-shown found known gave told old new (Err (DoorNetwork number)) may so =
+    let is = so.1.0 in absurd cc
 text-shown found known gave told old new (Err (PeerAddress number)) may so =
     let is = so.1.0 in absurd cc
 text-shown found known gave told old new (Err (Connection fault)) may so = inr (may, so)

@@ -1,7 +1,7 @@
 -- What is told where a server can't listen, or an address of its settings is none (`Listens`,
 -- `IsServingFault`).
 use Rattle.std.proofs.Common.{◌≡◌, ◌∙◌, ◌⊎◌, ℕ, inl, inr, refl, sym, ap, subst}
-use Rattle.std.specs.Prelude.{Result, Ok, Err}
+use Rattle.std.specs.Prelude.{Err}
 use Rattle.ua_settings.specs.Settings.{SettingsValues}
 use Rattle.counted_io.specs.declared.fault.ServeFault.TheVariants.{OutOfMemory}
 use Rattle.conversation.specs.declared.door.Door.{Door}
@@ -12,7 +12,7 @@ use Rattle.ua_server.specs.declared.program.ProgramFault.TheVariants as program
 use Rattle.ua_server.specs.Host.{KnownMachine}
 use Rattle.ua_server.specs.Listening.{IsListening, HasNoAddress, door_fault}
 use Rattle.ua_server.specs.Network.{Serving, Readings, IsServingFault}
-use Rattle.ua_server.specs.Program.{IsRefusedPlace, FindsNoPlace, Listens}
+use Rattle.ua_server.specs.Program.{IsRefusedPlace, Listens}
 use Rattle.ua_server.specs.Telling.{Known}
 
 -- why nothing is listened at: memory was wanting, or an address is none, and nothing was asked for;
@@ -34,6 +34,7 @@ module _ {C E : Type 0} (known : KnownMachine) (gave : Readings C) (told : Known
       → new ≡ record old { host = new.host } → At fault
   no-address program.Address none same stays = (inl (none, same), stays)
   no-address program.DoorAddress none same stays = (inl (none, same), stays)
+  no-address (program.DoorNetwork number) none same stays = (inl (none, same), stays)
   no-address (program.PeerAddress number) none same stays = (inl (none, same), stays)
   no-address (program.Line fault) none same stays = absurd none
   no-address program.File none same stays = absurd none
@@ -73,6 +74,7 @@ none-serving : (settings : SettingsValues) (fault : ProgramFault) → HasNoAddre
     → IsServingFault fault
 none-serving settings program.Address none = tt
 none-serving settings program.DoorAddress none = tt
+none-serving settings (program.DoorNetwork number) none = tt
 none-serving settings (program.PeerAddress number) none = tt
 none-serving settings (program.Line fault) none = absurd none
 none-serving settings program.File none = absurd none

@@ -6,4 +6,5 @@ pub mod Listening
 pub mod Host
 pub mod Network
 pub mod Dumping
+pub mod Passwords
 pub mod Program

@@ -1,15 +1,17 @@
--- Where a server listens, and whom it calls, as its settings say.
-use Rattle.std.specs.Prelude.{◌≡◌, ℕ, ◌+◌, List, [], ◌∷◌, Option, None, Some, slice_get, take}
+-- Where a server listens, from where it takes peers, and whom it calls, as its settings say.
+use Rattle.std.specs.Prelude.{◌≡◌, ℕ, ◌+◌, List, [], ◌∷◌, Option, None, Some, option_map, option_and_then, slice_get, take}
 use Rattle.std.specs.Net.Grammar.{IsSocketText}
 use Rattle.std.specs.declared.net.socket_addr.SocketAddr.{SocketAddr}
 use Rattle.ua_settings.specs.declared.peers.PeerCall.{PeerCall}
 use Rattle.ua_settings.specs.Settings.{SettingsValues}
+use Rattle.conversation.specs.Networks.{IsNetworkText, IsNoNetwork}
+use Rattle.conversation.specs.declared.networks.Network.{Network}
 use Rattle.conversation.specs.declared.door.Door.{Door}
 use Rattle.conversation.specs.declared.door.Door.TheVariants.{Both, Clients, Peers}
 use Rattle.ua_server.specs.declared.listening.Callee.{Callee}
 use Rattle.ua_server.specs.declared.listening.Listening.{Listening}
 use Rattle.ua_server.specs.declared.program.ProgramFault.{ProgramFault}
-use Rattle.ua_server.specs.declared.program.ProgramFault.TheVariants.{Address, DoorAddress, PeerAddress}
+use Rattle.ua_server.specs.declared.program.ProgramFault.TheVariants.{Address, DoorAddress, DoorNetwork, PeerAddress}
 
 -- a text spells no address
 abbrev pub IsNoAddress : List ℕ → Type 0
@@ -29,10 +31,32 @@ AreCallees (peer ∷ peers) (callee ∷ callees) =
     × AreCallees peers callees
 AreCallees peers callees = ⊥
 
--- where a server listens, and whom it calls
+-- the address where peers alone come to, as the settings spell it
+abbrev pub listen_at : SettingsValues → Option (List ℕ)
+listen_at settings = option_map (λ door. door.listen) settings.door
+
+-- the networks from which peers are taken there, as the settings spell them
+abbrev pub networks_at : SettingsValues → Option (List (List ℕ))
+networks_at settings = option_and_then (λ door. door.from) settings.door
+
+-- each of these networks, in order, as its text spells it
+abbrev pub AreNetworks : List (List ℕ) → List Network → Type 0
+AreNetworks [] [] = Unit {0}
+AreNetworks (text ∷ texts) (network ∷ networks) =
+    IsNetworkText text network × AreNetworks texts networks
+AreNetworks texts networks = ⊥
+
+-- from where peers are taken, where the settings say
+abbrev pub IsFrom : Option (List (List ℕ)) → Option (List Network) → Type 0
+IsFrom None from = from ≡ None
+IsFrom (Some texts) (Some networks) = AreNetworks texts networks
+IsFrom (Some texts) None = ⊥
+
+-- where a server listens, from where it takes peers, and whom it calls
 pub record IsListening (settings : SettingsValues) (listening : Listening) : Type 0 where
   pub clients : IsSocketText settings.listen listening.clients
-  pub peers : IsDoorAddress settings.door listening.peers
+  pub peers : IsDoorAddress (listen_at settings) listening.peers
+  pub from : IsFrom (networks_at settings) listening.from
   pub callees : AreCallees settings.peers listening.callees.items
 
 -- the first peer whose address is none has this number, from 1
@@ -46,18 +70,40 @@ abbrev pub IsNoDoor : Option (List ℕ) → Type 0
 IsNoDoor None = ⊥
 IsNoDoor (Some text) = IsNoAddress text
 
+-- the first network that is none has this number, from 1
+abbrev pub IsWrongNetwork : List (List ℕ) → (number : ℕ) → Type 0
+IsWrongNetwork texts number =
+    (place : ℕ) × (text : List ℕ) × (number ≡ place + 1) × (slice_get texts place ≡ Some text)
+    × IsNoNetwork text × ((before : List Network) × AreNetworks (take place texts) before)
+
+-- a network from which peers are to be taken is none, as this fault tells
+abbrev pub IsNoNetworkAt : Option (List (List ℕ)) → ProgramFault → Type 0
+IsNoNetworkAt None fault = ⊥
+IsNoNetworkAt (Some texts) fault =
+    (number : ℕ) × (fault ≡ DoorNetwork number) × IsWrongNetwork texts number
+
 -- the address where clients come to is one
 abbrev pub HasListen : SettingsValues → Type 0
 HasListen settings = (address : SocketAddr) × IsSocketText settings.listen address
 
--- the fault tells the first text of the settings that is to spell an address and spells none: where
--- clients come to before where peers do, and these before the peers that are called
+-- the address where peers come to is one, if the settings have one
+abbrev pub HasDoor : SettingsValues → Type 0
+HasDoor settings = (door : Option SocketAddr) × IsDoorAddress (listen_at settings) door
+
+-- the networks from which peers are taken are such, if the settings have some
+abbrev pub HasFrom : SettingsValues → Type 0
+HasFrom settings = (from : Option (List Network)) × IsFrom (networks_at settings) from
+
+-- the fault tells the first text of the settings that is to spell an address or a network and spells
+-- none: where clients come to before where peers do, from where these are taken behind it, and then
+-- the peers that are called
 abbrev pub HasNoAddress : SettingsValues → ProgramFault → Type 0
 HasNoAddress settings Address = IsNoAddress settings.listen
-HasNoAddress settings DoorAddress = HasListen settings × IsNoDoor settings.door
+HasNoAddress settings DoorAddress = HasListen settings × IsNoDoor (listen_at settings)
+HasNoAddress settings (DoorNetwork number) =
+    HasListen settings × HasDoor settings × IsNoNetworkAt (networks_at settings) (DoorNetwork number)
 HasNoAddress settings (PeerAddress number) =
-    HasListen settings × ((door : Option SocketAddr) × IsDoorAddress settings.door door)
-    × IsWrongPeer settings.peers number
+    HasListen settings × HasDoor settings × HasFrom settings × IsWrongPeer settings.peers number
 HasNoAddress settings fault = ⊥
 
 -- what is told where a door's address can't be listened at

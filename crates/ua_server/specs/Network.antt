@@ -1,5 +1,5 @@
 -- Connections over a network, many at once.
-use Rattle.std.specs.Prelude.{◌≡◌, ◌⊎◌, ℕ, ◌*◌, ◌^◌, ◌-◌, ℤ, List, Option, Some, Bool}
+use Rattle.std.specs.Prelude.{◌≡◌, ℕ, ◌*◌, ◌^◌, ◌-◌, ℤ, List, Some, Bool}
 use Rattle.archive.specs.Store.{Store}
 use Rattle.ua_settings.specs.Settings.{SettingsValues}
 use Rattle.counted_io.specs.declared.fault.ServeFault.{ServeFault}
@@ -16,8 +16,9 @@ use Rattle.conversation.specs.Closing.{log_calls}
 use Rattle.conversation.specs.Conversing.{behavior_over}
 use Rattle.ua_server.specs.declared.log.ErrorLog.{ErrorLog}
 use Rattle.ua_server.specs.declared.program.ProgramFault.{ProgramFault}
-use Rattle.ua_server.specs.declared.program.ProgramFault.TheVariants.{Address, DoorAddress, PeerAddress, Connection}
+use Rattle.ua_server.specs.declared.program.ProgramFault.TheVariants.{Address, DoorAddress, DoorNetwork, PeerAddress, Connection}
 use Rattle.ua_server.specs.Host.{KnownMachine}
+use Rattle.ua_server.specs.Listening.{IsFrom, networks_at}
 use Rattle.ua_server.specs.Telling.{Known, fresh_log, LogsFault, LogsFailed, LogsCall}
 
 -- how a clock goes from one state to another and gives readings
@@ -86,6 +87,7 @@ pub record ServesMany {C E : Type 0} (known : KnownMachine) (gave : Readings C) 
   pub settings_are : first.world.server.settings ≡ settings
   pub from : first.source ≡ source
   pub fresh : first.world.log ≡ fresh_log old.errors
+  pub peers_from : IsFrom (networks_at settings) first.world.from
   pub free : AreAllFree first.slots
   pub served : HasServed known.effects known.input known.output (conversations known.held gave told)
       (limits_of settings count) first last done
@@ -96,6 +98,7 @@ IsServingFault fault =
     elim fault [
       | Address ↦ Unit {0}
       | DoorAddress ↦ Unit {0}
+      | DoorNetwork number ↦ Unit {0}
       | PeerAddress number ↦ Unit {0}
       | Connection OutOfMemory ↦ Unit {0}
       | _ ↦ ⊥

@@ -19,7 +19,9 @@ use Rattle.ua_settings.specs.declared.fault.SettingsFault.TheVariants as refused
 use Rattle.ua_settings.specs.Settings.{SettingsValues, bare}
 use Rattle.ua_settings.specs.declared.place.Place.{Place}
 use Rattle.ua_settings.specs.Place.{IsPlaceOf, place_text}
-use Rattle.ua_settings.specs.Reading.{IsReadOrStarved}
+use Rattle.ua_settings.specs.Reading.{IsReadOrStarved, password_paths}
+use Rattle.ua_settings.specs.declared.password.PasswordLine.{PasswordLine}
+use Rattle.ua_server.specs.Passwords.{ReadsPasswords}
 use Rattle.archive.specs.declared.fault.StoreFault.{StoreFault}
 use Rattle.archive.specs.Store.{Store}
 use Rattle.archive.specs.Beginning.{HoldsNothing}
@@ -49,38 +51,58 @@ use Rattle.command_line.specs.Line.{AsksForText, IsLine, MayAskForText, uahist}
 -- ---- settings
 
 -- the text of where a document is refused, cut behind 180 bytes
-abbrev pub TellsPlace : Option Members → List ℕ → Type 0
-TellsPlace document told =
-    (place : Place) × IsPlaceOf document place × (told ≡ cut_to 180 (place_text place))
+abbrev pub TellsPlace : List PasswordLine → Option Members → List ℕ → Type 0
+TellsPlace lines document told =
+    (place : Place) × IsPlaceOf lines document place × (told ≡ cut_to 180 (place_text place))
 
--- the settings that a text gives, or want of memory; a refusal may tell its place, want of memory
--- not
-abbrev pub IsSetIn : List ℕ → Result SettingsValues ProgramFault → Type 0
-IsSetIn text result =
+-- the settings that a text gives, where password files say this, or want of memory; a refusal may
+-- tell its place, want of memory not
+abbrev pub IsSetIn : List PasswordLine → List ℕ → Result SettingsValues ProgramFault → Type 0
+IsSetIn lines text result =
     (read : Result SettingsValues SettingsFault) × (place : Option (List ℕ))
-    × IsReadOrStarved (parse_document text) read
+    × IsReadOrStarved lines (parse_document text) read
     × IfSome place
-    (λ told. TellsPlace (parse_document text) told × (read ≡ Err refused.OutOfMemory → ⊥))
+    (λ told. TellsPlace lines (parse_document text) told × (read ≡ Err refused.OutOfMemory → ⊥))
     × (result ≡ result_map_both (λ settings. settings) (λ fault. Settings fault place) read)
 
+-- the settings of a text, as the password files that it names were read
+abbrev pub IsSetBy : List ℕ → Result (Option (List PasswordLine)) (Unit {0})
+    → Result SettingsValues ProgramFault → Type 0
+IsSetBy text (Ok (Some lines)) result = IsSetIn lines text result
+IsSetBy text (Ok None) result = result ≡ Err File
+IsSetBy text (Err starved) result = result ≡ Err (Settings refused.OutOfMemory None)
+
 -- what tells where a text is refused by this fault; want of memory has no place
-abbrev pub IsFaultPlace : List ℕ → SettingsFault → Option (List ℕ) → Type 0
-IsFaultPlace text fault place =
-    IfSome place (λ told. TellsPlace (parse_document text) told × (fault ≡ refused.OutOfMemory → ⊥))
+abbrev pub IsFaultPlace : List PasswordLine → List ℕ → SettingsFault → Option (List ℕ) → Type 0
+IsFaultPlace lines text fault place = IfSome place
+    (λ told. TellsPlace lines (parse_document text) told × (fault ≡ refused.OutOfMemory → ⊥))
 
 -- the settings of a run without a file, or memory for them was wanting
 abbrev pub IsBare : Result SettingsValues ProgramFault → Type 0
 IsBare result =
     elim result [ Ok settings ↦ settings ≡ bare | Err (Line NoMemory) ↦ Unit {0} | Err fault ↦ ⊥ ]
 
+-- the settings that the text of the file at this path gives, once the password files that it names
+-- were read; File where one can't be, or want of memory
+abbrev pub SetsBy : {H A L R W : Type 0} → Machine H A L R W → (path text : List ℕ)
+    → Result SettingsValues ProgramFault → (old new : H) → Type 0
+SetsBy machine path text result old new =
+    ((result ≡ Err (Settings refused.OutOfMemory None)) × (new ≡ old))
+    ⊎ ((read : Result (Option (List PasswordLine)) (Unit {0}))
+    × ReadsPasswords machine path (password_paths (parse_document text)) read old new
+    × IsSetBy text read result)
+
 -- The settings of a server that is given this path. Without a path they are those without a file,
 -- and no file is read. A file that can't be read is the fault File.
 abbrev pub SettingsAt : {H A L R W : Type 0} → Machine H A L R W → Option (List ℕ)
     → Result SettingsValues ProgramFault → (old new : H) → Type 0
 SettingsAt machine None result old new = IsBare result × (new ≡ old)
-SettingsAt machine (Some path) result old new =
-    (text : Option (List ℕ)) × machine.reads old path text new
-    × elim text [ None ↦ result ≡ Err File | Some known ↦ IsSetIn known result ]
+SettingsAt {H} machine (Some path) result old new =
+    (text : Option (List ℕ)) × (between : H) × machine.reads old path text between
+    × elim text [
+      | None ↦ (result ≡ Err File) × (new ≡ between)
+      | Some known ↦ SetsBy machine path known result between new
+    ]
 
 -- the archive of the settings, or why it can't be opened: that of their file, or one in memory that
 -- holds nothing, and then no file is opened

@@ -7,7 +7,7 @@ use Rattle.std.specs.Result.{result_err}
 use Rattle.std.specs.Io.KnownBytes.{Appends}
 use Rattle.counted_io.specs.Fault.{serve_fault_number as connection_number}
 use Rattle.ua_server.specs.declared.program.ProgramFault.{ProgramFault}
-use Rattle.ua_server.specs.declared.program.ProgramFault.TheVariants.{Line, File, Settings, Store, BadHex, Address, DoorAddress, PeerAddress, Connection, Call, Exchange, Peer}
+use Rattle.ua_server.specs.declared.program.ProgramFault.TheVariants.{Line, File, Settings, Store, BadHex, Address, DoorAddress, DoorNetwork, PeerAddress, Connection, Call, Exchange, Peer}
 use Rattle.ua_peers.specs.declared.calling.Synced.{Synced}
 use Rattle.command_line.specs.Line.{line_text_of}
 use Rattle.counted_io.specs.Bytes.{AppendsPart, counted}
@@ -45,16 +45,19 @@ words_of (Store fault) = codes "store refused"
 words_of BadHex = codes "bad hex"
 words_of Address = codes "address refused"
 words_of DoorAddress = codes "door's address refused"
+words_of (DoorNetwork number) = codes "door's network refused"
 words_of (PeerAddress number) = codes "peer's address refused"
 words_of (Connection fault) = codes "connection ended"
 words_of (Call fault) = codes "connection ended"
 words_of (Exchange fault) = codes "exchange ended"
 words_of (Peer number) = codes "exchange ended"
 
--- its number, if it has one; a peer may give any, and a peer's address has that of its table
+-- its number, if it has one; a peer may give any, a peer's address has that of its table, and a
+-- network that of its place in the list
 abbrev pub number_told : ProgramFault → Option ℕ
 number_told (Settings fault place) = Some (settings_number fault)
 number_told (Store fault) = Some (store_number fault)
+number_told (DoorNetwork number) = Some number
 number_told (PeerAddress number) = Some number
 number_told (Connection fault) = Some (connection_number fault)
 number_told (Call fault) = Some (connection_number fault)

@@ -16,11 +16,12 @@ use crate::host::Host;
 use crate::listening::listening_of;
 use crate::log::ErrorLog;
 use crate::program::ProgramFault;
-use conversation::{Conversation, Door, World};
+use conversation::{Conversation, Door, Network, World};
 use counted_io::ServeFault;
 use multiplex::{Limits, serve};
 use std::alloc::{AllocError, Global};
 use std::io::Write;
+use ua_binary::Listing;
 use ua_connection::Clock;
 use ua_settings::Settings;
 
@@ -60,15 +61,16 @@ fn door_fault(door: Door) -> ProgramFault
     }
 }
 
-/// What gives the connections that come to the addresses of these settings, and calls their peers.
+/// What gives the connections that come to the addresses of these settings, and calls their peers; and from where peers are
+/// taken.
 fn listen_at<H: Host>(
     alloc: Global,
     settings: &Settings,
     host: &mut H,
-) -> Result<H::Source, ProgramFault>
+) -> Result<(H::Source, Option<Listing<Network>>), ProgramFault>
     ensures ok { IfOk result
-        (λ source. (listening : Listening) × IsListening settings.now listening
-        × H.means.listens host.old listening (Ok source) host.new) }
+        (λ had. (listening : Listening) × IsListening settings.now listening
+        × H.means.listens host.old listening (Ok had.0) host.new × (had.1 ≡ listening.from)) }
     ensures refused { IfErr result
         (λ fault. ((fault ≡ Connection OutOfMemory) × (host.new ≡ host.old))
         ⊎ (HasNoAddress settings.now fault × (host.new ≡ host.old))
@@ -80,7 +82,7 @@ fn listen_at<H: Host>(
         Err(fault) => return Err(fault),
     };
     match host.listen(&listening) {
-        Ok(source) => Ok(source),
+        Ok(source) => Ok((source, listening.from)),
         Err(door) => Err(door_fault(door)),
     }
 }
@@ -106,7 +108,8 @@ pub(crate) fn serve_at<H: Host, C: Clock, E: Write>(
     let Ok(mut slots) = free_slots(alloc, limits.accept_slots.saturating_add(callees)) else {
         return Err(ProgramFault::Connection(ServeFault::OutOfMemory));
     };
-    let mut source = listen_at(alloc, &world.server.settings, host)?;
+    let (mut source, from) = listen_at(alloc, &world.server.settings, host)?;
+    world.from = from;
     serve::<H::Source, Conversation<H::Archive, C, ErrorLog<E>>>(
         alloc,
         &mut source,

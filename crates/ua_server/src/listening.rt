@@ -2,15 +2,17 @@
 
 ghost use Rattle.std.specs.Prelude.{◌≡◌, ◌⊎◌, MatchOption, MatchResult, IfOk, IfErr, ℕ};
 ghost use Rattle.std.specs.Net.Grammar.{IsSocketText};
-ghost use Rattle.ua_server.specs.Listening.{IsNoAddress, IsDoorAddress, IsNoDoor, HasNoAddress, IsWrongPeer, AreCallees, IsListening};
-ghost use Rattle.ua_server.specs.declared.program.ProgramFault.TheVariants.{Connection, DoorAddress, PeerAddress};
+ghost use Rattle.ua_server.specs.Listening.{IsNoAddress, IsDoorAddress, IsNoDoor, AreNetworks, IsWrongNetwork, IsFrom, IsNoNetworkAt, networks_at, listen_at, HasNoAddress, IsWrongPeer, AreCallees, IsListening};
+ghost use Rattle.ua_server.specs.declared.program.ProgramFault.TheVariants.{Connection, DoorAddress, DoorNetwork, PeerAddress};
 ghost use Rattle.counted_io.specs.declared.fault.ServeFault.TheVariants.{OutOfMemory};
 
 use crate::program::ProgramFault;
+use conversation::Network;
 use counted_io::ServeFault;
 use std::alloc::Global;
 use std::net::SocketAddr;
-use ua_settings::{PeerCall, Settings};
+use ua_binary::{Listing, Text};
+use ua_settings::{DoorSettings, PeerCall, Settings};
 
 /// A peer that is called when it is due.
 #[derive(Clone, Copy, Debug)]
@@ -27,6 +29,8 @@ pub struct Listening {
     pub clients: SocketAddr,
     /// Where peers come to; none where they come to the address where clients do.
     pub peers: Option<SocketAddr>,
+    /// From where they are taken there; none: from everywhere.
+    pub from: Option<Listing<Network>>,
     /// The peers that are called, in the order of the settings.
     pub callees: Vec<Callee>,
 }
@@ -43,15 +47,63 @@ fn address_of(text: &str) -> Option<SocketAddr>
 
 /// The address where peers alone come to.
 fn door_of(settings: &Settings) -> Result<Option<SocketAddr>, ProgramFault>
-    ensures { MatchResult result (IsDoorAddress settings.now.door)
-        (λ fault. (fault ≡ DoorAddress) × IsNoDoor settings.now.door) }
+    ensures { MatchResult result (IsDoorAddress (listen_at settings.now))
+        (λ fault. (fault ≡ DoorAddress) × IsNoDoor (listen_at settings.now)) }
 {
-    let Some(text) = settings.door() else {
+    let Some(door) = settings.door() else {
         return Ok(None);
     };
-    match address_of(text) {
+    match address_of(door.listen.as_str()) {
         Some(address) => Ok(Some(address)),
         None => Err(ProgramFault::DoorAddress),
+    }
+}
+
+/// The networks that these texts spell. `DoorNetwork` tells the first that spells none, from 1.
+fn networks_in(alloc: Global, texts: &[Text]) -> Result<Listing<Network>, ProgramFault>
+    ensures ok { IfOk result (λ networks. AreNetworks texts.now networks) }
+    ensures err { IfErr result
+        (λ fault. (fault ≡ Connection OutOfMemory)
+        ⊎ ((number : ℕ) × (fault ≡ DoorNetwork number) × IsWrongNetwork texts.now number)) }
+{
+    let mut networks = Vec::new(alloc);
+    for (i, text) in texts.iter().enumerate() {
+        let Some(network) = Network::parse(text.as_str()) else {
+            return Err(ProgramFault::DoorNetwork(i as u64 + 1));
+        };
+        match networks.push(network) {
+            Ok(()) => {}
+            Err(_) => return Err(ProgramFault::Connection(ServeFault::OutOfMemory)),
+        }
+    }
+    Ok(Listing::of(networks))
+}
+
+/// From where peers are taken at a door.
+fn from_at(alloc: Global, door: &DoorSettings) -> Result<Option<Listing<Network>>, ProgramFault>
+    ensures ok { IfOk result (λ from. IsFrom door.now.from from) }
+    ensures err { IfErr result
+        (λ fault. (fault ≡ Connection OutOfMemory) ⊎ IsNoNetworkAt door.now.from fault) }
+{
+    let Some(texts) = &door.from else {
+        return Ok(None);
+    };
+    match networks_in(alloc, texts.as_slice()) {
+        Ok(networks) => Ok(Some(networks)),
+        Err(fault) => Err(fault),
+    }
+}
+
+/// From where peers are taken.
+fn from_of(alloc: Global, settings: &Settings) -> Result<Option<Listing<Network>>, ProgramFault>
+    ensures ok { IfOk result (λ from. IsFrom (networks_at settings.now) from) }
+    ensures err { IfErr result
+        (λ fault. (fault ≡ Connection OutOfMemory)
+        ⊎ IsNoNetworkAt (networks_at settings.now) fault) }
+{
+    match settings.door() {
+        Some(door) => from_at(alloc, door),
+        None => Ok(None),
     }
 }
 
@@ -79,8 +131,8 @@ fn callees_of(alloc: Global, peers: &[PeerCall]) -> Result<Vec<Callee>, ProgramF
     Ok(callees)
 }
 
-/// Where a server of these settings listens, and whom it calls. `Address`, `DoorAddress` and `PeerAddress` tell which text of
-/// the settings spells no address.
+/// Where a server of these settings listens, and whom it calls. `Address`, `DoorAddress`, `DoorNetwork` and `PeerAddress` tell
+/// which text of the settings spells no address, or no network.
 pub(crate) fn listening_of(alloc: Global, settings: &Settings) -> Result<Listening, ProgramFault>
     ensures ok { IfOk result (IsListening settings.now) }
     ensures err { IfErr result
@@ -93,10 +145,15 @@ pub(crate) fn listening_of(alloc: Global, settings: &Settings) -> Result<Listeni
         Ok(peers) => peers,
         Err(fault) => return Err(fault),
     };
+    let from = match from_of(alloc, settings) {
+        Ok(from) => from,
+        Err(fault) => return Err(fault),
+    };
     match callees_of(alloc, settings.peers().as_slice()) {
         Ok(callees) => Ok(Listening {
             clients,
             peers,
+            from,
             callees,
         }),
         Err(fault) => Err(fault),

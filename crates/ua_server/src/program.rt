@@ -55,6 +55,8 @@ pub enum ProgramFault {
     Address,
     /// The address of the settings' door is none, or can't be listened at.
     DoorAddress,
+    /// The network of this number in the settings' door, from 1, is none.
+    DoorNetwork(u64),
     /// The address of the peer of this number in the settings, from 1, is none.
     PeerAddress(u64),
     /// A connection met a fault.
@@ -83,6 +85,7 @@ impl ProgramFault {
             ProgramFault::BadHex => "bad hex",
             ProgramFault::Address => "address refused",
             ProgramFault::DoorAddress => "door's address refused",
+            ProgramFault::DoorNetwork(_) => "door's network refused",
             ProgramFault::PeerAddress(_) => "peer's address refused",
             ProgramFault::Connection(_) | ProgramFault::Call(_) => "connection ended",
             ProgramFault::Exchange(_) | ProgramFault::Peer(_) => "exchange ended",
@@ -101,7 +104,7 @@ impl ProgramFault {
             }
             ProgramFault::Exchange(fault) => Some(u64::from(fault.number())),
             ProgramFault::Peer(number) => Some(u64::from(*number)),
-            ProgramFault::PeerAddress(number) => Some(*number),
+            ProgramFault::DoorNetwork(number) | ProgramFault::PeerAddress(number) => Some(*number),
             ProgramFault::Line(_)
             | ProgramFault::File
             | ProgramFault::BadHex
@@ -124,6 +127,7 @@ impl ProgramFault {
             | ProgramFault::BadHex
             | ProgramFault::Address
             | ProgramFault::DoorAddress
+            | ProgramFault::DoorNetwork(_)
             | ProgramFault::PeerAddress(_)
             | ProgramFault::Connection(_)
             | ProgramFault::Call(_)
@@ -410,7 +414,12 @@ fn do_over<H: Host, C: Clock, R: Read, W: Write, E: Write>(
         result.errors) result.ending }
 {
     let ending = do_command(&mut world, line, host, input, output);
-    let World { server, clock, log } = world;
+    let World {
+        server,
+        clock,
+        log,
+        ..
+    } = world;
     host.close(server.replica.archive);
     Ran {
         ending,
@@ -444,7 +453,12 @@ fn do_line<H: Host, C: Clock, R: Read, W: Write, E: Write>(
     match open_server(alloc, settings_path(&line), host) {
         Ok(server) => {
             let log = ErrorLog::new(errors);
-            let world = World { server, clock, log };
+            let world = World {
+                server,
+                clock,
+                log,
+                from: None,
+            };
             do_over(world, line, host, input, output)
         }
         Err(fault) => Ran {
@@ -554,6 +568,7 @@ pub fn report<W: Write>(ending: Result<(), ProgramFault>, errors: &mut Counted<W
         ProgramFault::Store(_) => 3,
         ProgramFault::Address
         | ProgramFault::DoorAddress
+        | ProgramFault::DoorNetwork(_)
         | ProgramFault::PeerAddress(_)
         | ProgramFault::Connection(_)
         | ProgramFault::Call(_)

@@ -4,7 +4,7 @@ use crate::ends::{Incoming, Outgoing};
 use crate::waiting::{FIRST_WAITING, WaitingRoom};
 use mio::net::{TcpListener, TcpStream};
 use mio::{Events, Interest, Poll, Token};
-use multiplex::{Arrival, Call, Source};
+use multiplex::{Arrival, Call, Origin, Source};
 use std::io;
 use std::io::ErrorKind;
 use std::net::SocketAddr;
@@ -123,18 +123,21 @@ impl<'a> TcpSource<'a> {
         Ok(())
     }
 
-    /// The next connection at the doorways, each of which is asked first in its turn, and whom its doorway takes; none where
-    /// nobody comes.
-    fn next(&mut self) -> io::Result<Option<(TcpStream, Door)>> {
+    /// The next connection at the doorways, each of which is asked first in its turn, and where it came from; none where nobody
+    /// comes.
+    fn next(&mut self) -> io::Result<Option<(TcpStream, Origin)>> {
         for _ in 0..self.doorways.len() {
             let Some(doorway) = self.next_coming() else {
                 return Ok(None);
             };
             match doorway.listener.accept() {
-                Ok((stream, _)) => {
-                    let door = doorway.door;
+                Ok((stream, address)) => {
+                    let origin = Origin {
+                        listener: doorway.door.listener(),
+                        address: Some(canonical(address)),
+                    };
                     stream.set_nodelay(true)?;
-                    return Ok(Some((stream, door)));
+                    return Ok(Some((stream, origin)));
                 }
                 Err(error) if error.kind() == ErrorKind::WouldBlock => doorway.is_coming = false,
                 Err(error) => return Err(error),
@@ -172,12 +175,12 @@ impl<'a> TcpSource<'a> {
             if !is_coming || !self.room.makes_room(now) {
                 return;
             }
-            let Ok(Some((stream, door))) = self.next() else {
+            let Ok(Some((stream, origin))) = self.next() else {
                 return;
             };
             if self
                 .room
-                .take(self.poll.registry(), stream, door, now)
+                .take(self.poll.registry(), stream, origin, now)
                 .is_err()
             {
                 return;
@@ -185,18 +188,18 @@ impl<'a> TcpSource<'a> {
         }
     }
 
-    /// The next connection, for this slot, and whom its doorway takes: first who waited.
-    fn next_for(&mut self, slot: usize) -> io::Result<Option<(Incoming, Outgoing, Door)>> {
-        if let Some((mut stream, door)) = self.room.next() {
+    /// The next connection, for this slot, and where it came from: first who waited.
+    fn next_for(&mut self, slot: usize) -> io::Result<Option<(Incoming, Outgoing, Origin)>> {
+        if let Some((mut stream, origin)) = self.room.next() {
             self.poll.registry().deregister(&mut stream)?;
             let (reader, writer) = self.watch(slot, stream)?;
-            return Ok(Some((reader, writer, door)));
+            return Ok(Some((reader, writer, origin)));
         }
-        let Some((stream, door)) = self.next()? else {
+        let Some((stream, origin)) = self.next()? else {
             return Ok(None);
         };
         let (reader, writer) = self.watch(slot, stream)?;
-        Ok(Some((reader, writer, door)))
+        Ok(Some((reader, writer, origin)))
     }
 
     /// A connection with a peer, for this slot. It needn't stand yet.
@@ -246,6 +249,11 @@ impl<'a> TcpSource<'a> {
             }
         }
     }
+}
+
+/// An address, where it is an IPv4 one within IPv6 (`::ffff:10.1.2.3`) as that.
+fn canonical(address: SocketAddr) -> SocketAddr {
+    SocketAddr::new(address.ip().to_canonical(), address.port())
 }
 
 /// The peers to be called, each of them at once.
@@ -303,10 +311,10 @@ impl Source for TcpSource<'_> {
     fn accept(&mut self, slot: usize) -> Arrival<Incoming, Outgoing> {
         self.was_asked = true;
         match self.next_for(slot) {
-            Ok(Some((reader, writer, door))) => {
+            Ok(Some((reader, writer, origin))) => {
                 self.has_come = true;
                 Arrival::Connection {
-                    listener: door.listener(),
+                    origin,
                     reader,
                     writer,
                 }

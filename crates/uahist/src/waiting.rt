@@ -2,9 +2,9 @@
 
 use mio::net::TcpStream;
 use mio::{Interest, Registry, Token};
+use multiplex::Origin;
 use std::alloc::Global;
 use std::io;
-use ua_server::Door;
 
 /// The first token of those who wait. Each has one of its own, which isn't used again.
 pub(crate) const FIRST_WAITING: usize = 1 << 32;
@@ -22,7 +22,7 @@ const SILENCE: u64 = 120_000;
 #[derive(Drop)]
 struct Waiting {
     stream: TcpStream,
-    door: Door,
+    origin: Origin,
     since: u64,
     token: usize,
     /// Whether something came of it.
@@ -58,7 +58,7 @@ impl WaitingRoom {
         &mut self,
         registry: &Registry,
         mut stream: TcpStream,
-        door: Door,
+        origin: Origin,
         now: u64,
     ) -> io::Result<()> {
         let token = self.next_token;
@@ -66,7 +66,7 @@ impl WaitingRoom {
         registry.register(&mut stream, Token(token), Interest::READABLE)?;
         self.waiting.push(Waiting {
             stream,
-            door,
+            origin,
             since: now,
             token,
             is_heard: false,
@@ -88,8 +88,8 @@ impl WaitingRoom {
         self.waiting.iter().any(|one| one.is_heard)
     }
 
-    /// The first of whom something came, or else the first, and whom its doorway takes.
-    pub fn next(&mut self) -> Option<(TcpStream, Door)> {
+    /// The first of whom something came, or else the first, and where it came from.
+    pub fn next(&mut self) -> Option<(TcpStream, Origin)> {
         if self.waiting.is_empty() {
             return None;
         }
@@ -97,8 +97,8 @@ impl WaitingRoom {
             Some(place) => place,
             None => 0,
         };
-        let Waiting { stream, door, .. } = self.waiting.remove(place);
-        Some((stream, door))
+        let Waiting { stream, origin, .. } = self.waiting.remove(place);
+        Some((stream, origin))
     }
 
     /// Ends those who were silent for two minutes.

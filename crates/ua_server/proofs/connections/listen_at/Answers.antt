@@ -1,8 +1,8 @@
 use Rattle.std.proofs.Common.{inr}
 use Rattle.ua_server.proofs.connections.listen_at.Goals as goal
 
-pub returns-clause-refused : goal.returns-clause-refused
-returns-clause-refused g c =
+pub returns-in-Err-listen-clause-refused : goal.returns-in-Err-listen-clause-refused
+returns-in-Err-listen-clause-refused g c =
     inr (inr (
       c.in-Ok.listening,
       c.in-Ok.ensures.ok,

@@ -6,6 +6,7 @@ use Rattle.multiplex.specs.Serving.{AreAllFree, HasServed}
 use Rattle.multiplex.specs.Turns.{state}
 use Rattle.ua_server.specs.declared.program.ProgramFault.{ProgramFault}
 use Rattle.ua_server.specs.Host.{known_machine}
+use Rattle.ua_server.specs.Listening.{IsFrom, networks_at}
 use Rattle.ua_server.specs.Network.{IsServingFault, conversations, serving_of}
 use Rattle.ua_server.specs.Program.{Listens}
 use Rattle.ua_server.proofs.Refused.{unheard, unheard-serving}
@@ -13,9 +14,10 @@ use Rattle.ua_server.proofs.connections.serve_at.Goals as goal
 
 pub returns-clause-listens : goal.returns-clause-listens
 returns-clause-listens g c =
-    let (listening, is, listens) = c.in_ok-source.ensures.ok in
+    let (listening, is, listens, from) = c.in_ok-source.ensures.ok in
     let (last, served) = c.serve.ensures 0 in
-    let begun = state c.in_ok-source.source c.as_mut_slice.result.now c.args.world.now 0 in
+    let world = record c.args.world.now { from = c.in_ok-source.from } in
+    let begun = state c.in_ok-source.source c.as_mut_slice.result.now world 0 in
     let ended = state c.serve.new.source c.serve.new.slots c.serve.new.world last in (
       listening,
       is,
@@ -31,6 +33,8 @@ returns-clause-listens g c =
           settings_are = refl;
           from = refl;
           fresh = c.requires;
+          peers_from = subst (IsFrom (networks_at c.args.world.now.server.settings)) (sym from)
+              is.from;
           free = subst AreAllFree (sym c.as_mut_slice.ensures.value) c.in-Ok.ensures.0;
           served = subst (λ (l : Limits).
               HasServed g.H.Source.Source.effects g.H.Source.Reader.NonBlockingRead.input

@@ -1,8 +1,8 @@
-use Rattle.std.proofs.Common.{◌+◌, ℕ, List, length, inr, refl, sym, take, subst, arith}
+use Rattle.std.proofs.Common.{◌+◌, ℕ, List, length, inr, refl, sym, take, subst}
 use Rattle.std.proofs.lemmas.Option.{slice_get_read}
 use Rattle.std.specs.Net.Grammar.{IsSocketText}
 use Rattle.ua_server.specs.declared.listening.Callee.{Callee}
-use Rattle.ua_server.specs.Listening.{IsNoAddress, AreCallees}
+use Rattle.ua_server.specs.Listening.{AreCallees}
 use Rattle.ua_server.proofs.Called.{one-callee}
 use Rattle.ua_server.proofs.listening.callees_of.Goals as goal
 

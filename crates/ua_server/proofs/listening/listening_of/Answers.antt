@@ -2,10 +2,30 @@ use Rattle.std.proofs.Common.{◌≡◌, ◌∙◌, ◌⊎◌, ℕ, List, inl, i
 use Rattle.std.specs.Net.Grammar.{IsSocketText}
 use Rattle.ua_settings.specs.declared.peers.PeerCall.{PeerCall}
 use Rattle.counted_io.specs.declared.fault.ServeFault.TheVariants.{OutOfMemory}
-use Rattle.ua_server.specs.declared.program.ProgramFault.{ProgramFault}
 use Rattle.ua_server.specs.declared.program.ProgramFault.TheVariants.{Connection, PeerAddress}
-use Rattle.ua_server.specs.Listening.{IsWrongPeer, HasNoAddress}
+use Rattle.ua_server.specs.Listening.{networks_at, IsNoNetworkAt, IsWrongPeer, HasNoAddress}
+use Rattle.ua_server.proofs.FromWhere.{told-network}
 use Rattle.ua_server.proofs.listening.listening_of.Goals as goal
+
+pub returns-in-Err-from_of-clause-err : goal.returns-in-Err-from_of-clause-err
+returns-in-Err-from_of-clause-err c =
+    let settings = c.args.settings.now in
+    let fault = c.in-Err-from_of.fault in
+    let told : (fault ≡ Connection OutOfMemory) ⊎ IsNoNetworkAt (networks_at settings) fault =
+    c.in-Err-from_of.ensures.err in
+    elim told [
+      | inl starved ↦ inl starved
+      | inr wrong ↦ let is = told-network (networks_at settings) fault wrong in
+          inr (subst (HasNoAddress settings) (sym is.1) (
+            (
+              c.in-Some.clients,
+              subst (λ (text : List ℕ). IsSocketText text c.in-Some.clients) c.listen.ensures
+                  c.in-Some.ensures,
+            ),
+            (c.in-Ok.peers, c.in-Ok.ensures),
+            subst (IsNoNetworkAt (networks_at settings)) is.1 wrong,
+          ))
+    ]
 
 pub returns-in-Err-callees_of-clause-err : goal.returns-in-Err-callees_of-clause-err
 returns-in-Err-callees_of-clause-err c =
@@ -23,6 +43,7 @@ returns-in-Err-callees_of-clause-err c =
               c.in-Some.ensures,
         ),
         (c.in-Ok.peers, c.in-Ok.ensures),
+        (c.in-Ok-from_of.from, c.in-Ok-from_of.ensures.ok),
         subst (λ (peers : List PeerCall). IsWrongPeer peers wrong.0) (c.as_slice.ensures ∙ c.peers.ensures)
             wrong.2,
       ))
