@@ -4,7 +4,7 @@
     tests/door.py PROGRAM [CHECK ..]
 
 Servers are started with and without a `[door]`: forged records, clients at the door, servers that call each other's door, `sync`,
-readers and writers, wrong addresses and settings. Each line tells what held, or what was otherwise; the exit status is 1 then. All
+from where peers are taken, password files, readers and writers, wrong addresses and settings. Each line tells what held, or what was otherwise; the exit status is 1 then. All
 checks are run where none is named.
 """
 import os, socket, struct, subprocess, sys, tempfile, threading, time
@@ -38,9 +38,10 @@ class Server:
 
     made = []
 
-    def __init__(self, number=1, door=True, keys="", tables=""):
+    def __init__(self, number=1, door=True, keys="", tables="", door_keys="", door_host="127.0.0.1"):
         Server.made.append(self)
         self.number, self.port, self.keys, self.tables, self.process = number, free_port(), keys, tables, None
+        self.door_keys, self.door_host = door_keys, door_host
         self.door, self.calls = free_port() if door else None, []
         self.settings, self.store = (os.path.join(folder.name, f"{len(Server.made)}.{end}") for end in ("toml", "db"))
         self.write()
@@ -50,7 +51,7 @@ class Server:
         text = open(os.path.join(here, "settings.toml")).read().replace("127.0.0.1:4840", f"127.0.0.1:{self.port}")
         text = text.replace("00000000-0000-0000-0000-000000000000", "3f2c8a10-5b7e-4d21-9c44-0a1b2c3d4e5f")
         text = text.replace("replica = 1\n", f"replica = {self.number}\nstore = '{self.store}'\n").replace("anonymous = true\n", f"anonymous = true\n{self.keys}")
-        door = f"\n[door]\nlisten = '127.0.0.1:{self.door}'\n" if self.door else ""
+        door = f"\n[door]\nlisten = '{self.door_host}:{self.door}'\n{self.door_keys}" if self.door else ""
         peers = "".join(f"\n[[peer]]\naddress = '127.0.0.1:{port}'\nevery = 1\n" for port in self.calls)
         open(self.settings, "w").write(text + door + self.tables + peers)
 
@@ -263,6 +264,65 @@ def a_call_of_the_wrong_address():
     old.stop(), b.stop()
 
 
+def from_networks():
+    """Peers are taken at the door from the networks of the settings alone."""
+    asked = reading.asks(ARCHIVE, 2, {})
+    rows = [("from an address that isn't ours", ["192.0.2.2"], False), ("from no network", [], False), ("from our address", ["192.0.2.2", "127.0.0.1"], True),
+            ("from our network", ["127.0.0.0/8"], True), ("from the network beside ours", ["126.0.0.0/8"], False), ("from IPv6 alone", ["::/0"], False)]
+    for what, networks, is_taken in rows:
+        server = Server(door_keys=f"from = {networks}\n").start()
+        told = answer(server.door, asked + DONE).removesuffix(b" and a reset")
+        tell((frames(told) == ["RXDF"]) if is_taken else told == b"", f"{what} a peer is {'answered' if is_taken else 'hung up on, without a byte'}", told)
+        line = server.line()
+        told = updates(line, [insert(1, 5)])
+        tell(told == [(0, [INSERTED])], f"{what}: a client is served at the clients' address", told)
+        said = server.stop()
+        tell(said == "", f"{what}: the server tells nothing", said)
+    if os.path.exists("/proc/net/if_inet6"):
+        server = Server(door_keys="from = ['127.0.0.1']\n", door_host="[::]").start()
+        told = answer(server.door, asked + DONE)
+        tell(frames(told) == ["RXDF"], "a door that takes IPv6 too knows our IPv4 address as such", told)
+        server.stop()
+    server = Server(door_keys="from = ['192.0.2.2']\n").start()
+    with socket.create_connection(("127.0.0.1", server.door), timeout=3) as line:
+        begin, came = time.monotonic(), line.recv(1)
+        took = time.monotonic() - begin
+    tell(came == b"" and took < 2, f"a stranger who says nothing is hung up on at once, after {took:.1f} s", (came, took))
+    other = Server(2, door=False)
+    told = run([program, "sync", "--settings", other.settings, "--peer", f"127.0.0.1:{server.door}"])
+    tell((told.status, told.out) == (1, b"") and "ended" in told.said, f"a sync from elsewhere ends by status 1: {told.said.strip()}", (told.status, told.out, told.said))
+    server.stop()
+    text = open(server.settings).read()
+    for what, networks, place in (("a name", ["plant"], 1), ("33 bits of an IPv4 address", ["10.0.0.0/8", "10.0.0.0/33"], 2), ("a port behind it", ["192.0.2.2:4841"], 1), ("an empty text", ["::1", "fd00::/8", ""], 3)):
+        told = ended(text.replace("from = ['192.0.2.2']", f"from = {networks}"))
+        tell(told == (1, f"door's network refused ({place})\n"), f"[door] from has {what}: door's network refused ({place}), status 1", told)
+
+
+def password_files():
+    """A user's password is the first line of a file beside the settings."""
+    server = Server(keys="", tables="\n[[user]]\nname = 'ben'\npassword_file = 'secrets/ben'\n")
+    os.makedirs(os.path.join(folder.name, "secrets"), exist_ok=True)
+    secret = os.path.join(folder.name, "secrets", "ben")
+    if os.path.exists(secret):
+        os.remove(secret)
+    done = run([program, "dump", "--settings", server.settings])
+    tell((done.status, done.said) == (2, "uahist: settings file can't be read\n"), "a password file that isn't there: settings file can't be read, status 2", (done.status, done.said))
+    for what, text in (("an empty file", ""), ("an empty first line", "\nother\n")):
+        open(secret, "w").write(text)
+        done = run([program, "dump", "--settings", server.settings])
+        tell((done.status, done.said) == (2, "uahist: settings refused (3)\nuahist: [[user]] 2, password_file\n"), f"{what}: settings refused (3), [[user]] 2, password_file", (done.status, done.said))
+    for what, text in (("a line", "valve 7\n"), ("a line that ends in CR LF, and more", "valve 7\r\nold\n"), ("a text without an end of line", "valve 7")):
+        open(secret, "w").write(text)
+        server.start()
+        told = updates(server.line("ben", b"valve 7"), [insert(1, 5, perform=3)])
+        line = Line(server.port)
+        for sent in (line.client.hello(), line.client.open(), line.client.create_session()):
+            line.ask(sent)
+        refused = status(line.ask(line.client.activate("ben", b"pw")))
+        server.stop()
+        tell(told[0][0] == 0 and told[0][1][0] < 0x80000000 and refused == 0x80210000, f"{what}: ben is let in by it, and by no other password", (told, hex(refused)))
+
+
 def sync():
     """`uahist sync` calls the door."""
     server, other = Server(1).start(), Server(2, door=False)
@@ -373,6 +433,9 @@ def settings():
     user, anonymous = 'password = "pw"\n', "anonymous = true\n"
     cases = [("[door] lacks listen", text + "\n[door]\n", 2, "[door] listen"),
              ("[door] has another key", text + "\n[door]\nlisten = '127.0.0.1:1'\nport = 1\n", 4, "[door] port"),
+             ("[door] from is a text", text + "\n[door]\nlisten = '127.0.0.1:1'\nfrom = '10.0.0.0/8'\n", 3, "[door] from"),
+             ("[door] from has a number", text + "\n[door]\nlisten = '127.0.0.1:1'\nfrom = [10]\n", 3, "[door] from"),
+             ("a user has neither a password nor a file of it", text.replace(user, ""), 2, "[[user]] 1, password"),
              ("[door] listen is a number", text + "\n[door]\nlisten = 4841\n", 3, "[door] listen"),
              ("door is an array of tables", text + "\n[[door]]\nlisten = '127.0.0.1:1'\n", 3, "door"),
              ("access is another word", text.replace(user, user + "access = 'all'\n"), 3, "[[user]] 1, access"),
@@ -403,7 +466,7 @@ def one_connection():
             tell(told.status == 0 and frames(told.out) == ["RXVF"] and len(dump.splitlines()) == 1, "answer, without a door: a peer's frame is learned", seen)
 
 
-checks = [a_forged_record, a_client_at_the_door, one_place, two_with_doors, a_call_of_the_wrong_address, sync, readers, addresses, settings, one_connection]
+checks = [a_forged_record, a_client_at_the_door, one_place, two_with_doors, a_call_of_the_wrong_address, from_networks, password_files, sync, readers, addresses, settings, one_connection]
 checks = [check for check in checks if not sys.argv[2:] or check.__name__ in sys.argv[2:]]
 for check in checks:
     try:

@@ -86,10 +86,16 @@ def free_port():
                 continue
 
 
+def listed(name):
+    """What the system tells of its sockets of this kind; nothing where it has none."""
+    path = f"/proc/net/{name}"
+    return open(path).read() if os.path.exists(path) else ""
+
+
 def listens(port, process=None, most=10):
     """Waits until somebody listens at the port, and takes no connection of his; false where the process is over before."""
     until = time.monotonic() + most
-    while f":{port:04X} 00000000:0000 0A" not in open("/proc/net/tcp").read():
+    while not any(f":{port:04X} {'0' * digits}:0000 0A" in listed(name) for name, digits in (("tcp", 8), ("tcp6", 32))):
         if time.monotonic() > until or (process is not None and is_over(process)):
             return False
         time.sleep(0.001)

@@ -7,10 +7,11 @@ use std::alloc::Global;
 use std::test::Fail;
 
 /// The first frame of replica 2 of the archive, which holds nothing.
-const ASKED: &str = "52585646 1B000000 02 00000000000000000000000000000000 02 00";
+pub(crate) const ASKED: &str = "52585646 1B000000 02 00000000000000000000000000000000 02 00";
 
 /// What replica 1 answers, which holds nothing either.
-const NOTHING: &str = "52584446 1F000000 02 00000000000000000000000000000000 01 00 00000000";
+pub(crate) const NOTHING: &str =
+    "52584446 1F000000 02 00000000000000000000000000000000 01 00 00000000";
 
 /// The frame that ends a dialog.
 const END: &str = "52584546 0C000000 00000000";
@@ -106,12 +107,13 @@ fn are_told(alloc: Global, each: usize, pace: usize) -> Result<bool, Fail> {
     for (number, text) in texts.iter().enumerate() {
         callers.push(Caller {
             door: door_of(number),
+            address: None,
             text: text.as_slice(),
             each,
             pace: number.saturating_mul(pace).saturating_add(1),
         })?;
     }
-    let heard = heard_by(alloc, callers.as_slice())?;
+    let heard = heard_by(alloc, callers.as_slice(), None)?;
     let wanted = told(alloc)?;
     for (number, text) in wanted.iter().enumerate() {
         if !has_heard(heard.as_slice(), number, text.as_slice()) {

@@ -5,3 +5,5 @@
 mod conversations;
 #[cfg(test)]
 mod scripts;
+#[cfg(test)]
+mod strangers;

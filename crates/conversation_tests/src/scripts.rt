@@ -1,23 +1,27 @@
 //! Connections that a script gives over one server: what callers write, in which pieces, and what each of them reads.
 
 use archive::ListArchive;
-use conversation::{Conversation, Door, Ended, World};
+use conversation::{Conversation, Door, Ended, Network, World};
 use counted_io::ServeFault;
 use historian::Server;
 use multiplex::{
-    Arrival, Call, Limits, NonBlockingRead, NonBlockingWrite, ReadAttempt, Slot, Source,
+    Arrival, Call, Limits, NonBlockingRead, NonBlockingWrite, Origin, ReadAttempt, Slot, Source,
     WriteAttempt, serve,
 };
 use server_rows::network::Faults;
 use server_rows::plant::{archive_of, clock, plant};
 use std::alloc::Global;
+use std::net::SocketAddr;
 use std::test::Fail;
+use ua_binary::Listing;
 use ua_connection::ConstantClock;
 
 /// Who calls, where, and what it writes.
 #[derive(Clone, Copy)]
 pub struct Caller<'a> {
     pub door: Door,
+    /// Where it comes from, where that is known.
+    pub address: Option<SocketAddr>,
     pub text: &'a [u8],
     /// A read or a write moves so many bytes at most.
     pub each: usize,
@@ -122,7 +126,10 @@ impl<'a> Source for Script<'a> {
                 let number = self.next;
                 self.next = self.next.saturating_add(1);
                 Arrival::Connection {
-                    listener: caller.door.listener(),
+                    origin: Origin {
+                        listener: caller.door.listener(),
+                        address: caller.address,
+                    },
                     reader: Mouth {
                         caller: *caller,
                         taken: 0,
@@ -161,9 +168,13 @@ impl<'a> Source for Script<'a> {
 /// One connection of the plant.
 type Talk = Conversation<ListArchive, ConstantClock, Faults>;
 
-/// What each of these callers reads of a plant that holds nothing, with its number, in the order of their ends.
-/// Twenty of them are served at a time.
-pub fn heard_by(alloc: Global, callers: &[Caller<'_>]) -> Result<Vec<(usize, Vec<u8>)>, Fail> {
+/// What each of these callers reads of a plant that holds nothing, and takes peers from these networks at a door of their own,
+/// with its number, in the order of their ends. Twenty of them are served at a time.
+pub fn heard_by(
+    alloc: Global,
+    callers: &[Caller<'_>],
+    from: Option<Listing<Network>>,
+) -> Result<Vec<(usize, Vec<u8>)>, Fail> {
     let settings = plant(alloc)?;
     let archive = archive_of(alloc, &settings);
     let mut world = World {
@@ -172,6 +183,7 @@ pub fn heard_by(alloc: Global, callers: &[Caller<'_>]) -> Result<Vec<(usize, Vec
         log: Faults {
             told: Vec::new(alloc),
         },
+        from,
     };
     let mut source = Script {
         alloc,

@@ -271,7 +271,7 @@ impl Handler for Echo {
     type End = u8;
 
     ghost behavior = { record {
-      passes = λ v now longest_turn w. w ≡ record v { now = now };
+      passes = λ v now longest_turn w. Unit {0};
       begins = λ origin v h w. Unit {0};
       calls = λ callee v made h w. Unit {0};
       receives = λ old bytes made end new. Unit {0};

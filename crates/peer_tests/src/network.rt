@@ -36,6 +36,7 @@ fn is_served(
         log: Faults {
             told: Vec::new(alloc),
         },
+        from: None,
     };
     let mut source = Clients::new(alloc, clients);
     let mut slots = Vec::new(alloc);

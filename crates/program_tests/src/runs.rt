@@ -203,7 +203,7 @@ fn reads_lines(rt: HostRuntime) {
 }
 
 /// Command lines, the input, the room of the output, what it has then, what is said, and the exit status.
-static RUNS: [(&[&str], &[u8], usize, &str, &str, u8); 46] = [
+static RUNS: [(&[&str], &[u8], usize, &str, &str, u8); 52] = [
     (&["uahist", "--version"], b"", 1000, "uahist 0.1.0\n", "", 0),
     (
         &["uahist", "--version"],
@@ -607,10 +607,58 @@ static RUNS: [(&[&str], &[u8], usize, &str, &str, u8); 46] = [
         "uahist: address refused\n",
         1,
     ),
+    (
+        &["uahist", "serve", "--settings", "bad from"],
+        b"",
+        1000,
+        "",
+        "uahist: door's network refused (2)\n",
+        1,
+    ),
+    (
+        &["uahist", "serve", "--settings", "bad door and from"],
+        b"",
+        1000,
+        "",
+        "uahist: door's address refused\n",
+        1,
+    ),
+    (
+        &["uahist", "answer", "--settings", "bad from", "--hex"],
+        b"474554202F000000",
+        1000,
+        "455252461000000000007E80FFFFFFFF\n",
+        "",
+        0,
+    ),
+    (
+        &["uahist", "answer", "--settings", "plant/filed", "--hex"],
+        b"474554202F000000",
+        1000,
+        "455252461000000000007E80FFFFFFFF\n",
+        "",
+        0,
+    ),
+    (
+        &["uahist", "answer", "--settings", "plant/unfiled", "--hex"],
+        b"",
+        1000,
+        "",
+        "uahist: settings file can't be read\n",
+        2,
+    ),
+    (
+        &["uahist", "answer", "--settings", "plant/empty", "--hex"],
+        b"",
+        1000,
+        "",
+        "uahist: settings refused (3)\nuahist: [[user]] 1, password_file\n",
+        2,
+    ),
 ];
 
 /// Settings files that are kept in memory: their names, and their texts.
-static FILES: [(&str, &str); 16] = [
+static FILES: [(&str, &str); 24] = [
     (
         "kept",
         "[archive]\nid = '00000000000000000000000000000000'\nreplica = 1\nstore = 'own.db'\n[server]\nlisten = ''\nurl = ''\napplication = ''\nnamespace = ''\nanonymous = true\n",
@@ -675,6 +723,35 @@ static FILES: [(&str, &str); 16] = [
         "all bad",
         "[archive]\nid = '00000000000000000000000000000000'\nreplica = 1\n[server]\nlisten = ''\nurl = ''\napplication = ''\nnamespace = ''\nanonymous = true\n[door]\nlisten = ''\n[[peer]]\naddress = ''\nevery = 60\n",
     ),
+    (
+        "from",
+        "[archive]\nid = '00000000000000000000000000000000'\nreplica = 1\n[server]\nlisten = '127.0.0.1:4840'\nurl = ''\napplication = ''\nnamespace = ''\nanonymous = true\n[door]\nlisten = '127.0.0.1:4841'\nfrom = ['127.0.0.1', '10.1.0.0/16']\n",
+    ),
+    (
+        "bad from",
+        "[archive]\nid = '00000000000000000000000000000000'\nreplica = 1\n[server]\nlisten = '127.0.0.1:4840'\nurl = ''\napplication = ''\nnamespace = ''\nanonymous = true\n[door]\nlisten = '127.0.0.1:4841'\nfrom = ['127.0.0.1', '10.1.0.0/33']\n",
+    ),
+    (
+        "bad door and from",
+        "[archive]\nid = '00000000000000000000000000000000'\nreplica = 1\n[server]\nlisten = '127.0.0.1:4840'\nurl = ''\napplication = ''\nnamespace = ''\nanonymous = true\n[door]\nlisten = ''\nfrom = ['']\n[[peer]]\naddress = ''\nevery = 60\n",
+    ),
+    (
+        "plant/filed",
+        "[archive]\nid = '00000000000000000000000000000000'\nreplica = 1\n[server]\nlisten = '127.0.0.1:4840'\nurl = ''\napplication = ''\nnamespace = ''\nanonymous = false\n[[user]]\nname = 'ann'\npassword_file = 'secrets/ann'\n",
+    ),
+    (
+        "plant/unfiled",
+        "[archive]\nid = '00000000000000000000000000000000'\nreplica = 1\n[server]\nlisten = '127.0.0.1:4840'\nurl = ''\napplication = ''\nnamespace = ''\nanonymous = false\n[[user]]\nname = 'ann'\npassword_file = 'secrets/ann'\n[[user]]\nname = 'ben'\npassword_file = 'ben'\n",
+    ),
+    (
+        "plant/empty",
+        "[archive]\nid = '00000000000000000000000000000000'\nreplica = 1\n[server]\nlisten = '127.0.0.1:4840'\nurl = ''\napplication = ''\nnamespace = ''\nanonymous = false\n[[user]]\nname = 'ann'\npassword_file = '/secrets/none'\n",
+    ),
+    (
+        "plant/secrets/ann",
+        "pw\r\nthe first line is the password\n",
+    ),
+    ("/secrets/none", "\nnot this\n"),
 ];
 
 /// Over the network come a client that ends well, one that takes no answer, and then nobody.

@@ -1,8 +1,8 @@
 use std::alloc::Global;
 use std::test::Fail;
-use ua_binary::NodeIdRef;
-use ua_session::Access;
-use ua_settings::{Place, Settings, SettingsFault};
+use ua_binary::{NodeIdRef, Text};
+use ua_session::{Access, Identity, Sessions};
+use ua_settings::{PasswordLine, Place, Settings, SettingsFault, password_files};
 use ua_space::BuildFault;
 
 /// A settings file with each kind of table.
@@ -42,7 +42,7 @@ const HEAD: &str =
     "[archive]\nid = '00000000000000000000000000000000'\nreplica = 1\n[server]\nlisten = ''\nurl = ''\napplication = ''\n";
 
 /// What goes on behind the start, and why it is refused, if it is.
-static ROWS: [(&str, Option<SettingsFault>); 38] = [
+static ROWS: [(&str, Option<SettingsFault>); 46] = [
     ("namespace = ''\nanonymous = true", None),
     ("namespace = ''\nanonymous =", Some(SettingsFault::NotToml)),
     (
@@ -180,6 +180,38 @@ static ROWS: [(&str, Option<SettingsFault>); 38] = [
         "namespace = ''\nanonymous = true\n[[door]]\nlisten = ''",
         Some(SettingsFault::BadValue),
     ),
+    (
+        "namespace = ''\nanonymous = true\n[door]\nlisten = ''\nfrom = []",
+        None,
+    ),
+    (
+        "namespace = ''\nanonymous = true\n[door]\nlisten = ''\nfrom = ['10.1.0.0/16', 'peers']",
+        None,
+    ),
+    (
+        "namespace = ''\nanonymous = true\n[door]\nlisten = ''\nfrom = '10.1.0.0/16'",
+        Some(SettingsFault::BadValue),
+    ),
+    (
+        "namespace = ''\nanonymous = true\n[door]\nlisten = ''\nfrom = ['10.1.0.0/16', 1]",
+        Some(SettingsFault::BadValue),
+    ),
+    (
+        "namespace = ''\nanonymous = true\n[door]\nfrom = []",
+        Some(SettingsFault::MissingKey),
+    ),
+    (
+        "namespace = ''\nanonymous = true\n[[user]]\nname = 'ann'\npassword_file = 'ann'",
+        Some(SettingsFault::BadValue),
+    ),
+    (
+        "namespace = ''\nanonymous = true\n[[user]]\nname = 'ann'\npassword_file = 1",
+        Some(SettingsFault::BadValue),
+    ),
+    (
+        "namespace = ''\nanonymous = true\n[[user]]\nname = 'ann'\npassword = ''\npassword_file = 'ann'",
+        Some(SettingsFault::BadValue),
+    ),
 ];
 
 /// Why a text is refused.
@@ -281,7 +313,9 @@ fn accesses_are_read(rt: HostRuntime) -> Result<(), Fail> {
 /// Whether a text's door is at this address.
 fn has_door(alloc: Global, text: &str, address: &str) -> bool {
     match Settings::read(alloc, text) {
-        Ok(settings) => settings.door() == Some(address),
+        Ok(settings) => settings
+            .door()
+            .is_some_and(|door| door.listen.as_str() == address),
         Err(_) => false,
     }
 }
@@ -316,7 +350,7 @@ fn faults_have_numbers(rt: HostRuntime) {
 }
 
 /// What goes on behind the start, and the place where it is refused.
-static PLACES: [(&str, &str); 17] = [
+static PLACES: [(&str, &str); 20] = [
     ("namespace =", "line 8"),
     ("namespace = ''\nanonymous = 1", "[server] anonymous"),
     (
@@ -373,15 +407,93 @@ static PLACES: [(&str, &str); 17] = [
         "namespace = ''\nanonymous = true\n[[door]]\nlisten = ''",
         "door",
     ),
+    (
+        "namespace = ''\nanonymous = true\n[door]\nlisten = ''\nfrom = 1",
+        "[door] from",
+    ),
+    (
+        "namespace = ''\nanonymous = true\n[[user]]\nname = 'ann'\npassword_file = 'ann'",
+        "[[user]] 1, password_file",
+    ),
+    (
+        "namespace = ''\nanonymous = true\n[[user]]\nname = 'ann'",
+        "[[user]] 1, password",
+    ),
 ];
 
 #[test]
 fn places_are_told(rt: HostRuntime) -> Result<(), Fail> {
     for (rest, place) in &PLACES {
         let text = format!(in rt.alloc(); "{HEAD}{rest}\n")?;
-        let told = Place::of(rt.alloc(), text.as_str())?;
+        let told = Place::of(rt.alloc(), text.as_str(), &[])?;
         let shown = told.text(rt.alloc())?;
         assert_eq!(rt; shown.as_str(), *place, "{rest}");
+    }
+    Ok(())
+}
+
+/// A user with a password file, another one with a password of its own, and a third one with another file.
+const FILED: &str =
+    "namespace = ''\nanonymous = true\n[[user]]\nname = 'ann'\npassword_file = 'secrets/ann'\n[[user]]\nname = 'ben'\npassword = 'b'\n[[user]]\nname = 'cid'\npassword_file = 'cid'";
+
+/// What these files say.
+fn passwords(alloc: Global, files: &[(&str, &str)]) -> Result<Vec<PasswordLine>, Fail> {
+    let mut lines = Vec::new(alloc);
+    for (path, line) in files {
+        lines.push(PasswordLine {
+            path: Text::from_str(alloc, path)?,
+            line: Text::from_str(alloc, line)?,
+        })?;
+    }
+    Ok(lines)
+}
+
+/// Whether the user of this name has this password.
+fn has_password<'a>(
+    alloc: Global,
+    settings: &Settings,
+    name: &'a str,
+    password: &'a str,
+) -> Result<bool, Fail> {
+    let mut sessions = Sessions::new(alloc);
+    let (_, token) = sessions.create()?;
+    let identity = Identity::Named {
+        name: Some(name),
+        password: Some(password.as_bytes()),
+        algorithm: None,
+    };
+    let user = sessions.activate(token.as_ref(), identity, settings.users());
+    Ok(user == Ok(name))
+}
+
+/// A user's password is the line of its file; a file that is missing or says nothing is none.
+#[test]
+fn passwords_are_those_of_files(rt: HostRuntime) -> Result<(), Fail> {
+    let alloc = rt.alloc();
+    let text = format!(in alloc; "{HEAD}{FILED}\n")?;
+    let paths = password_files(alloc, text.as_str())?;
+    assert_eq!(rt; paths.len(), 2);
+    for (number, path) in ["secrets/ann", "cid"].iter().enumerate() {
+        assert!(rt;
+            paths
+                .get(number)
+                .is_some_and(|found| found.as_str() == *path),
+            "{path}"
+        );
+    }
+    let all = passwords(alloc, &[("cid", "c"), ("secrets/ann", "a")])?;
+    let settings = Settings::read_with(alloc, text.as_str(), all.as_slice())?;
+    for (name, password) in [("ann", "a"), ("ben", "b"), ("cid", "c")] {
+        assert!(rt; has_password(alloc, &settings, name, password)?, "{name}");
+        assert!(rt; !has_password(alloc, &settings, name, "")?, "{name}");
+    }
+    for files in [
+        [("cid", "c"), ("ann", "a")],
+        [("cid", ""), ("secrets/ann", "a")],
+    ] {
+        let some = passwords(alloc, &files)?;
+        let read = Settings::read_with(alloc, text.as_str(), some.as_slice());
+        assert_eq!(rt; read.err(), Some(SettingsFault::BadValue));
     }
     Ok(())
 }
