@@ -383,7 +383,8 @@ module _ {R W A C L : Type 0} (input : Input R) (output : Output W) (state : A �
           (step.Answers made end ∷ steps) is few taken long client own =
           let said = subst (λ (o : OtherEnd).
           AnswersFirst state gave own.0 o made end own.1 own.3.handler) is own.5.answers in
-          let on = from-letters own.1 w door letters own.3 new steps said.3 few taken.1 long client own.6
+          let on = from-letters own.1 w door letters own.3 new steps said.3 few taken.1 long client
+          own.6
           in
           same-answered v own.1 w new_link (letters ++ bytes_received steps)
           (made ++ bytes_made steps) new.handler (said.2 ∙ own.4)
@@ -396,13 +397,15 @@ module _ {R W A C L : Type 0} (input : Input R) (output : Output W) (state : A �
           same-answered v own.1 w new_link (letters ++ bytes_received steps)
           (bytes_made steps) new.handler (said.2 ∙ own.4)
           (from-letters own.1 w door letters own.3 new steps said.3 few taken.1 long client own.6)
-      from-letters v w door letters old new (step.Writes bytes ∷ steps) is few taken long client own =
+      from-letters v w door letters old new
+          (step.Writes bytes ∷ steps) is few taken long client own =
           same-answered v own.1 w new_link (letters ++ bytes_received steps)
           (bytes_made steps) new.handler (own.5.0 ∙ own.4)
           (from-letters own.1 w door letters own.3 new steps
           (ap (λ (s : Slot OtherEnd R W ConversationEnding). s.handler) own.5.1.others ∙ is) few
           taken.1 long client own.6)
-      from-letters v w door letters old new (step.Stops ending ∷ steps) is few taken long client own =
+      from-letters v w door letters old new
+          (step.Stops ending ∷ steps) is few taken long client own =
           same-answered v own.1 w new_link (letters ++ bytes_received steps)
           (bytes_made steps) new.handler (own.5.0 ∙ own.4)
           (from-letters own.1 w door letters own.3 new steps

@@ -100,7 +100,8 @@ module _ {A C L : Type 0} (state : A → Store) where
     passes = λ v w now longest_turn same. same_moves v w same;
     begins = λ origin v w other begun. same_moves v w begun.1;
     answers = λ stay v w old new made ending a. answer_moves gave v w old new made ending a;
-    closes = λ stay v w other ending told. end_moves calls (callee_of stay.party) v w other ending told;
+    closes = λ stay v w other ending told.
+        end_moves calls (callee_of stay.party) v w other ending told;
     fails_accept = λ v w now told. log_moves v w told.0;
     calls = λ callee v w made other called. start_moves calls callee v w made other called;
   }

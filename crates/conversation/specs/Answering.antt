@@ -78,7 +78,13 @@ pub record AnswersPeer {A C L : Type 0} (state : A → Store) (v : World A C L) 
   pub tells : Tells said ends made ending
   pub leaves : next ≡ unless_over ending (Peer (peer_at last rest))
 
--- what stood first was answered over a world, if it was whole; with a stranger it is over, and where
+-- with a stranger it is over: nothing is said, and nothing changes
+abbrev pub TurnsAway : {A C L : Type 0} → World A C L → (made : List ℕ)
+    → Option ConversationEnding → World A C L → OtherEnd → Type 0
+TurnsAway v made ending w new =
+    (made ≡ []) × (ending ≡ Some (Ok ended.Stranger)) × (w ≡ v) × (new ≡ Over)
+
+-- what stood first was answered over a world, if it was whole; a stranger is turned away, and where
 -- nobody is known nothing is answered
 abbrev pub AnswersFirst : {A C L : Type 0} → (A → Store) → (C → List ℤ → C → Type 0) → World A C L
     → OtherEnd → (made : List ℕ) → Option ConversationEnding → World A C L → OtherEnd → Type 0
@@ -86,7 +92,6 @@ AnswersFirst state gave v (Client link) made ending w new =
     AnswersClient state gave v link made ending w new
 AnswersFirst state gave v (Peer peer) made ending w new =
     AnswersPeer state v peer made ending w new
-AnswersFirst state gave v Stranger made ending w new =
-    (made ≡ []) × (ending ≡ Some (Ok ended.Stranger)) × (w ≡ v) × (new ≡ Over)
+AnswersFirst state gave v Stranger made ending w new = TurnsAway v made ending w new
 AnswersFirst state gave v other made ending w new =
     (made ≡ []) × (ending ≡ None) × (w ≡ v) × (new ≡ other)

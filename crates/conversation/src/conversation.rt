@@ -73,8 +73,8 @@ impl<A: Archive, C: Clock, L: Log> Handler for Conversation<A, C, L> {
         }
     }
 
-    /// A call of the peer of this number in the settings, as the initiator of a dialog. Where its first frame can't be made, it is
-    /// told, as the end of the call.
+    /// A call of the peer of this number in the settings, as the initiator of a dialog. Where its first frame can't be made,
+    /// it is told, as the end of the call.
     fn call(
         alloc: Global,
         callee: usize,

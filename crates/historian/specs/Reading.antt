@@ -94,7 +94,8 @@ item_at seen (node, (attribute, (range, encoding))) =
     seen_attribute seen node attribute >>= λ answered. checked (value_rules range encoding)
     >>= λ _. Ok answered
 
--- what gives the value of an item was found so: by its attribute, or want of memory for that, and then
+-- what gives the value of an item was found so: by its attribute, or want of memory for that, and
+-- then
 -- by its range and encoding
 abbrev pub FindsItem : UserSpace → ReadFields → Result Answered Status → Type 0
 FindsItem seen (node, (attribute, (range, encoding))) found =

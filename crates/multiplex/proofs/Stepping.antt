@@ -271,7 +271,8 @@ module _ {H R W V E : Type 0} (input : Input R) (output : Output W) (handler : B
   lacked room now v w old slot h made sent out out' is answers lacks waits grows same =
       let as_before : drop sent out' ≡ old.waiting = ap (λ l. drop sent l) same ∙ sym waits in
       let quiet : handler.answers old.stay v old.handler [] None w h =
-      subst (λ m. handler.answers old.stay v old.handler m None w h) (nothing_made out out' made grows same)
+      subst (λ m. handler.answers old.stay v old.handler m None w h)
+      (nothing_made out out' made grows same)
       answers in
       let new : List ℕ → Slot H R W E = λ waiting. record old { handler = h; waiting = waiting } in
       subst (λ s. Takes (IsVisit 1 0 0 false) room now v s w (new (drop sent out'))) is

@@ -291,7 +291,8 @@ module _ {S H R W V E : Type 0} (source : Effects S R W) (input : Input R) (outp
   pub call_failed : (old between new : S) (slots : List (Option (Slot H R W E))) (v w : V) (now : ℕ)
       (call : Call R W) (made : List ℕ) → source.called old (Some call) between
       → handler.calls call.callee v made None w
-      → source.closed between call.reader call.writer new → Goes (AreComing 0) (state old slots v now)
+      → source.closed between call.reader call.writer new
+      → Goes (AreComing 0) (state old slots v now)
       (state new slots w now)
   call_failed old between new slots v w now call made called calls closes =
       one (AreComing 0) CallFails (state old slots v now) (state new slots w now) (record {

@@ -87,7 +87,8 @@ module _ {S H R W V E : Type 0} (source : Effects S R W) (input : Input R) (outp
     pub others : new ≡ record old {
       source = new.source;
       world = new.world;
-      slots = slice_set old.slots k (Some (first_slot (begun (Accepted origin) old.now) first reader writer []));
+      slots = slice_set old.slots k
+          (Some (first_slot (begun (Accepted origin) old.now) first reader writer []));
     }
 
   -- a connection came and failed, and the world was told

@@ -27,15 +27,25 @@ module _ {H A L R W : Type 0} (machine : Machine H A L R W) (settings : List ℕ
   -- one file more was read
   pub reads-more : (paths : List (List ℕ)) (lines : List PasswordLine) (path : List ℕ)
       (line : PasswordLine) (a b c : H) → All paths (Ok (Some lines)) a b
-      → One path (Ok (Some line)) b c → All (paths ++ path ∷ []) (Ok (Some (lines ++ line ∷ []))) a c
+      → One path (Ok (Some line)) b c
+      → All (paths ++ path ∷ []) (Ok (Some (lines ++ line ∷ []))) a c
   reads-more [] lines path line a b c (is, same) one =
       let none : lines ≡ [] = cc in (
         Ok (Some line),
         c,
         subst (λ (h : H). One path (Ok (Some line)) h c) same one,
-        (Ok (Some []), (refl, refl), ap (λ (l : List PasswordLine). Ok (Some (l ++ line ∷ []))) none),
+        (
+          Ok (Some []),
+          (refl, refl),
+          ap (λ (l : List PasswordLine). Ok (Some (l ++ line ∷ []))) none,
+        ),
       )
-  reads-more (p ∷ paths) lines path line a b c (Ok (Some l), between, reads, (Ok (Some ls), rest, is))
+  reads-more (p ∷ paths) lines path line a b c (
+    Ok (Some l),
+    between,
+    reads,
+    (Ok (Some ls), rest, is),
+  )
       one =
       let same : lines ≡ l ∷ ls = cc in (
         Ok (Some l),
@@ -47,9 +57,11 @@ module _ {H A L R W : Type 0} (machine : Machine H A L R W) (settings : List ℕ
           ap (λ (m : List PasswordLine). Ok (Some (m ++ line ∷ []))) same,
         ),
       )
-  reads-more (p ∷ paths) lines path line a b c (Ok (Some l), between, reads, (Ok None, rest, is)) one =
+  reads-more (p ∷ paths) lines path line a b c
+      (Ok (Some l), between, reads, (Ok None, rest, is)) one =
       absurd cc
-  reads-more (p ∷ paths) lines path line a b c (Ok (Some l), between, reads, (Err e, rest, is)) one =
+  reads-more (p ∷ paths) lines path line a b c
+      (Ok (Some l), between, reads, (Err e, rest, is)) one =
       absurd cc
   reads-more (p ∷ paths) lines path line a b c (Ok None, between, reads, (is, same)) one = absurd cc
   reads-more (p ∷ paths) lines path line a b c (Err e, between, reads, (is, same)) one = absurd cc
@@ -91,8 +103,10 @@ module _ {H A L R W : Type 0} (machine : Machine H A L R W) (settings : List ℕ
       (Ok (Some l), between, reads, (Ok None, rest, is)) one = absurd cc
   reads-starved (p ∷ paths) more lines path a b c
       (Ok (Some l), between, reads, (Err e, rest, is)) one = absurd cc
-  reads-starved (p ∷ paths) more lines path a b c (Ok None, between, reads, (is, same)) one = absurd cc
-  reads-starved (p ∷ paths) more lines path a b c (Err e, between, reads, (is, same)) one = absurd cc
+  reads-starved (p ∷ paths) more lines path a b c (Ok None, between, reads, (is, same)) one =
+      absurd cc
+  reads-starved (p ∷ paths) more lines path a b c (Err e, between, reads, (is, same)) one =
+      absurd cc
 
   -- all of them stand before one, at it, and behind it
   parted : (paths : List (List ℕ)) (i : ℕ) (d : List ℕ) → i < length paths
@@ -102,7 +116,8 @@ module _ {H A L R W : Type 0} (machine : Machine H A L R W) (settings : List ℕ
       ∙ take-append-drop i paths
 
   pub one-more : (paths : List (List ℕ)) (i : ℕ) (d : List ℕ) (lines : List PasswordLine)
-      (line : PasswordLine) (a b c : H) → i < length paths → All (take i paths) (Ok (Some lines)) a b
+      (line : PasswordLine) (a b c : H) → i < length paths
+      → All (take i paths) (Ok (Some lines)) a b
       → One (get_or paths i d) (Ok (Some line)) b c
       → All (take (i + 1) paths) (Ok (Some (lines ++ line ∷ []))) a c
   one-more paths i d lines line a b c within all one =

@@ -94,14 +94,15 @@ HasDoor settings = (door : Option SocketAddr) × IsDoorAddress (listen_at settin
 abbrev pub HasFrom : SettingsValues → Type 0
 HasFrom settings = (from : Option (List Network)) × IsFrom (networks_at settings) from
 
--- the fault tells the first text of the settings that is to spell an address or a network and spells
--- none: where clients come to before where peers do, from where these are taken behind it, and then
--- the peers that are called
+-- the fault tells the first text of the settings that is to spell an address or a network and
+-- spells none: where clients come to before where peers do, from where these are taken behind it,
+-- and then the peers that are called
 abbrev pub HasNoAddress : SettingsValues → ProgramFault → Type 0
 HasNoAddress settings Address = IsNoAddress settings.listen
 HasNoAddress settings DoorAddress = HasListen settings × IsNoDoor (listen_at settings)
 HasNoAddress settings (DoorNetwork number) =
-    HasListen settings × HasDoor settings × IsNoNetworkAt (networks_at settings) (DoorNetwork number)
+    HasListen settings × HasDoor settings
+    × IsNoNetworkAt (networks_at settings) (DoorNetwork number)
 HasNoAddress settings (PeerAddress number) =
     HasListen settings × HasDoor settings × HasFrom settings × IsWrongPeer settings.peers number
 HasNoAddress settings fault = ⊥

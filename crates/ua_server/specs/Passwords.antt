@@ -10,12 +10,17 @@ use Rattle.ua_server.specs.Host.{Machine}
 abbrev pub first_line : List ℕ → List ℕ
 first_line text = before_first (λ byte. byte == 13) (before_first (λ byte. byte == 10) text)
 
+-- the file of this path beside the settings' was read, with this text; None where it can't be
+abbrev pub HasRead : {H A L R W : Type 0} → Machine H A L R W → (settings path : List ℕ)
+    → Option (List ℕ) → (old new : H) → Type 0
+HasRead machine settings path text old new =
+    machine.reads old (path_with_file_name settings path) text new
+
 -- the text of the file of this path beside the settings'; None where it can't be read; Err where
 -- memory for its path was wanting, and no file was read
 abbrev pub ReadsFile : {H A L R W E : Type 0} → Machine H A L R W → (settings path : List ℕ)
     → Result (Option (List ℕ)) E → (old new : H) → Type 0
-ReadsFile machine settings path (Ok text) old new =
-    machine.reads old (path_with_file_name settings path) text new
+ReadsFile machine settings path (Ok text) old new = HasRead machine settings path text old new
 ReadsFile machine settings path (Err starved) old new = new ≡ old
 
 -- what the password file of this path says; None where it can't be read; Err where memory was
@@ -23,13 +28,12 @@ ReadsFile machine settings path (Err starved) old new = new ≡ old
 abbrev pub ReadsPassword : {H A L R W E : Type 0} → Machine H A L R W → (settings path : List ℕ)
     → Result (Option PasswordLine) E → (old new : H) → Type 0
 ReadsPassword machine settings path (Ok (Some line)) old new =
-    (text : List ℕ) × machine.reads old (path_with_file_name settings path) (Some text) new
+    (text : List ℕ) × HasRead machine settings path (Some text) old new
     × (line ≡ record { path = path; line = first_line text })
-ReadsPassword machine settings path (Ok None) old new =
-    machine.reads old (path_with_file_name settings path) None new
+ReadsPassword machine settings path (Ok None) old new = HasRead machine settings path None old new
 ReadsPassword machine settings path (Err starved) old new =
     (new ≡ old)
-    ⊎ ((text : List ℕ) × machine.reads old (path_with_file_name settings path) (Some text) new)
+    ⊎ ((text : List ℕ) × HasRead machine settings path (Some text) old new)
 
 -- one line before others, if these were read
 abbrev pub with_line : {E : Type 0} → PasswordLine → Result (Option (List PasswordLine)) E

@@ -24,7 +24,7 @@ use Rattle.ua_settings.specs.declared.fault.SettingsFault.TheVariants.{OutOfMemo
 use Rattle.ua_settings.specs.declared.keys.Section.TheVariants.{User, Folder, Variable, Peer}
 use Rattle.ua_settings.specs.File.{tables, text_at, is_name, names_in}
 use Rattle.ua_settings.specs.Judging.{is_short}
-use Rattle.ua_settings.specs.Reading.{folder_in, variable_in, user_in, users_in, table_at, truth_at, access_at, listed_in, values_of, values_in, space_fault, space_in, IsSpaceOrStarved, IsAcceptedOrStarved}
+use Rattle.ua_settings.specs.Reading.{folder_in, variable_in, user_in, users_in, table_at, truth_at, access_at, listed_in, values_of, set_values, space_fault, space_in, IsSpaceOrStarved, IsAcceptedOrStarved}
 use Rattle.ua_session.specs.Users.{Allowed}
 use Rattle.ua_settings.specs.declared.door.DoorSettings.{DoorSettings}
 use Rattle.ua_settings.specs.declared.peers.PeerCall.{PeerCall}
@@ -80,7 +80,8 @@ IsAmong ids entry = IfSome entry.folder (λ id. list_any (λ folder. pointwise n
 HasCountable : Entry → Type 0
 HasCountable entry = IsCountable entry.name
 
-module _ (lines : List PasswordLine) (document : Members) (sound : IsSound lines document) (folders : List FolderPlan)
+module _ (lines : List PasswordLine) (document : Members) (sound : IsSound lines document)
+    (folders : List FolderPlan)
     (variables : List VariablePlan)
     (same_folders : map folder_of folders ≡ map folder_in (tables document Folder))
     (same_variables : map entry_of variables ≡ map variable_in (tables document Variable)) where
@@ -212,7 +213,7 @@ pub accepted : (lines : List PasswordLine) (document archive server : Members) (
     → IsAcceptedOrStarved lines document result
 accepted lines document archive server listed space (Ok settings) a s l is_space ok err =
     inr (ap Ok (ok ∙ (λ i. values_of (a i) (s i) (l i)))
-    ∙ given (values_in lines document) space (space_in document)
+    ∙ given (set_values lines document) space (space_in document)
     (has_space document space is_space))
 accepted lines document archive server listed space (Err fault) a s l is_space ok err =
     inl (ap Err err)
@@ -233,7 +234,7 @@ unspaced lines document fault (inr is) = inr (by (space_in document) is)
         → (let result : Result Layout SettingsFault = Err fault in result)
         ≡ result_map_both (λ space. space) Space made
         → (let result : Result SettingsValues SettingsFault = Err fault in result)
-        ≡ result_map_both (values_in lines document) Space made
+        ≡ result_map_both (set_values lines document) Space made
     by (Ok space) e = absurd cc
     by (Err cause) e = let is : fault ≡ Space cause = cc in ap Err is
 

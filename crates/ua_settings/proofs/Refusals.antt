@@ -60,14 +60,16 @@ in_tables names wrong section n (members ∷ more) =
 in_sections : (lines : List PasswordLine) (document : Members) (wrong : Wrong)
     (sections : List Section)
     → list_any (λ section. list_any (is_wrong (names_in lines document) wrong section)
-    (tables document section)) sections ≡ is_some (first_some (wrong_in lines document wrong) sections)
+    (tables document section)) sections
+    ≡ is_some (first_some (wrong_in lines document wrong) sections)
 in_sections lines document wrong [] = refl
 in_sections lines document wrong (section ∷ sections) =
     ap (λ b. b || list_any (λ section.
     list_any (is_wrong (names_in lines document) wrong section) (tables document section)) sections)
     (in_tables (names_in lines document) wrong section 1 (tables document section))
     ∙ some_either (wrong_in lines document wrong section)
-    (first_some (wrong_in lines document wrong) sections) _ (in_sections lines document wrong sections)
+    (first_some (wrong_in lines document wrong) sections) _
+    (in_sections lines document wrong sections)
 
 first_kind : (test : Wrong → Bool) (spot : Wrong → Option Spot)
     → ((wrong : Wrong) → test wrong ≡ is_some (spot wrong)) → (wrongs : List Wrong)
@@ -126,14 +128,16 @@ fault_given lines document Unknown = refl
 fault_given lines document Missing = refl
 fault_given lines document Bad = refl
 
-pub refused_told : (lines : List PasswordLine) (document : Members) (wrong : Wrong) (fault : SettingsFault)
+pub refused_told : (lines : List PasswordLine) (document : Members) (wrong : Wrong)
+    (fault : SettingsFault)
     → first_refusal lines document ≡ Some wrong
     → fault ≡ (elim wrong [ Unknown ↦ UnknownKey | Missing ↦ MissingKey | Bad ↦ BadValue ])
     → IsReadOrStarved lines (Some document) (Err fault)
 refused_told lines document wrong fault is same =
     inr (ap Err same ∙ fault_given lines document wrong ∙ sym (ap (given lines document) is))
 
-pub accepted_told : (lines : List PasswordLine) (document : Members) (result : Result SettingsValues SettingsFault)
+pub accepted_told : (lines : List PasswordLine) (document : Members)
+    (result : Result SettingsValues SettingsFault)
     → first_refusal lines document ≡ None → IsAcceptedOrStarved lines document result
     → IsReadOrStarved lines (Some document) result
 accepted_told lines document result none (inl starved) = inl starved

@@ -236,13 +236,17 @@ variable_sound names members right =
           as_str (get_member (codes "folder") members) spoils.1.1.1.1.0;
     }
 
-pub sound : (lines : List PasswordLine) (document : Members) → first_wrong lines document ≡ None → IsSound lines document
+pub sound : (lines : List PasswordLine) (document : Members) → first_wrong lines document ≡ None
+    → IsSound lines document
 sound lines document none =
-    let first = none_both (option_map (λ spot. (Unknown, spot)) (wrong_at lines document Unknown)) _ none
+    let first = none_both (option_map (λ spot. (Unknown, spot)) (wrong_at lines document Unknown)) _
+    none
     in
-    let second = none_both (option_map (λ spot. (Missing, spot)) (wrong_at lines document Missing)) _
+    let second = none_both (option_map (λ spot. (Missing, spot)) (wrong_at lines document Missing))
+    _
     first.1 in
-    let third = none_both (option_map (λ spot. (Bad, spot)) (wrong_at lines document Bad)) _ second.1 in
+    let third = none_both (option_map (λ spot. (Bad, spot)) (wrong_at lines document Bad)) _
+    second.1 in
     let missing : wrong_at lines document Missing ≡ None = none_mapped _ _ second.0 in
     let bad : wrong_at lines document Bad ≡ None = none_mapped _ _ third.0 in
     let all = all_tables lines document missing bad in
@@ -256,7 +260,8 @@ sound lines document none =
       has_archive = has_archive;
       has_server = has_server;
       archive = archive_sound (names_in lines document) _
-          (only_one (IsRight (names_in lines document) Archive) _ no_members has_archive (all Archive));
+          (only_one (IsRight (names_in lines document) Archive) _ no_members has_archive
+          (all Archive));
       server = server_sound (names_in lines document) _ (only_one
           (IsRight (names_in lines document) Server) _ no_members has_server (all Server));
       users = all_weaker _ _ (user_sound (names_in lines document)) _ (all User);

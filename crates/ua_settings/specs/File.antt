@@ -130,8 +130,8 @@ text_at key members = unwrap_or (option_and_then as_str (get_member key members)
 -- ---- what a key must hold
 
 -- the first line of the password file at this path, empty where there is none
-abbrev pub line_of : List PasswordLine → (path : List ℕ) → List ℕ
-line_of lines path =
+abbrev pub password_line : List PasswordLine → (path : List ℕ) → List ℕ
+password_line lines path =
     option_map_or (λ p. p.line) (find (λ p. pointwise nat_eq p.path path) lines) []
 
 -- what a value may depend on: the names of the users, the ids of the folders, and what password
@@ -178,7 +178,7 @@ is_access text = pointwise nat_eq text (codes "read") || pointwise nat_eq text (
 
 -- the path of a password file whose first line isn't empty
 abbrev pub is_password_file : Names → List ℕ → Bool
-is_password_file names path = nat_le 1 (length (line_of names.passwords path))
+is_password_file names path = nat_le 1 (length (password_line names.passwords path))
 
 -- a text of at most 65,536 bytes
 abbrev pub is_text : Data → Bool

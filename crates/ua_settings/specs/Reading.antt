@@ -17,7 +17,7 @@ use Rattle.ua_settings.specs.declared.keys.Wrong.TheVariants.{Unknown, Missing, 
 use Rattle.ua_settings.specs.declared.password.PasswordLine.{PasswordLine}
 use Rattle.ua_settings.specs.declared.door.DoorSettings.{DoorSettings}
 use Rattle.ua_settings.specs.declared.reading.Listed.{Listed}
-use Rattle.ua_settings.specs.File.{items_in, line_of, tables, text_at, first_refusal}
+use Rattle.ua_settings.specs.File.{items_in, password_line, tables, text_at, first_refusal}
 use Rattle.ua_settings.specs.Settings.{SettingsValues}
 use Rattle.ua_session.specs.Users.{Allowed}
 use Rattle.ua_session.specs.declared.identity.Access.{Access}
@@ -75,7 +75,7 @@ access_at key members =
 abbrev pub password_in : List PasswordLine → Members → List ℕ
 password_in lines user =
     unwrap_or (option_and_then as_str (get_member (codes "password") user))
-    (line_of lines (text_at (codes "password_file") user))
+    (password_line lines (text_at (codes "password_file") user))
 
 -- a user that a table gives
 abbrev pub user_in : List PasswordLine → Members → NamedUser
@@ -147,8 +147,8 @@ values_of archive server listed = record {
 }
 
 -- the settings of a document with these nodes
-abbrev pub values_in : List PasswordLine → Members → Layout → SettingsValues
-values_in lines document space =
+abbrev pub set_values : List PasswordLine → Members → Layout → SettingsValues
+set_values lines document space =
     values_of (table_at (codes "archive") document) (table_at (codes "server") document)
     (listed_in lines document space)
 
@@ -172,7 +172,7 @@ space_in document =
 -- the settings of a document in which nothing is wrong
 abbrev pub settings_in : List PasswordLine → Members → Result SettingsValues SettingsFault
 settings_in lines document =
-    result_map_both (values_in lines document) Space (space_in document)
+    result_map_both (set_values lines document) Space (space_in document)
 
 -- the settings that a text gives, by the document that it is, where password files say this, or
 -- the first fault

@@ -5,7 +5,7 @@ ghost use Rattle.std.specs.List.{filter_map};
 ghost use Rattle.std.specs.Cmp.Lexicographic.{pointwise};
 ghost use Rattle.toml.specs.Parse.{parse_document};
 ghost use Rattle.toml.specs.View.{table_view};
-ghost use Rattle.ua_settings.specs.File.{line_of};
+ghost use Rattle.ua_settings.specs.File.{password_line};
 ghost use Rattle.ua_settings.specs.Reading.{password_paths, path_in};
 
 use crate::keys::Section;
@@ -40,7 +40,7 @@ fn find_line<'a>(passwords: &'a [PasswordLine], path: &str) -> Option<&'a Passwo
 
 /// The first line of the password file at a path, empty where there is none.
 pub(crate) fn line_of<'a>(passwords: &'a [PasswordLine], path: &str) -> &'a str
-    ensures { result.now ≡ line_of passwords.now path.now }
+    ensures { result.now ≡ password_line passwords.now path.now }
 {
     match find_line(passwords, path) {
         Some(password) => password.line.as_str(),

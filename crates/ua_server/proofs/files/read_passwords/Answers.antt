@@ -31,7 +31,8 @@ returns-in_err-push-in-Some g c =
     let paths = c.args.paths.now in
     let p = err_from_is_err_and c.from_residual-in_err-push-in-Some.result
     c.from_residual-in_err-push-in-Some.ensures.1 in
-    let one = same-one means settings AllocError c.as_str.result.now c.in_ok-line.field-0 c.loop-path.host
+    let one = same-one means settings AllocError c.as_str.result.now c.in_ok-line.field-0
+    c.loop-path.host
     c.read_password.new.host c.in_ok-line.ensures in
     subst (λ result. ReadsPasswords means settings paths
     (result_map_both (option_map (λ lines. lines.items)) (λ starved. tt {0}) result) c.args.host.now
@@ -51,7 +52,8 @@ returns-in-None g c =
     let means = g.H.Host.means in
     let settings = c.args.settings.now in
     let paths = c.args.paths.now in
-    let one = same-one means settings AllocError c.as_str.result.now c.in_ok-line.field-0 c.loop-path.host
+    let one = same-one means settings AllocError c.as_str.result.now c.in_ok-line.field-0
+    c.loop-path.host
     c.read_password.new.host c.in_ok-line.ensures in
     none-there means settings paths c.loop-path.path-index c.path-item.result
     c.loop-path.lines.items c.args.host.now c.loop-path.host c.read_password.new.host
@@ -66,7 +68,8 @@ loop-path-preserved g c =
     let means = g.H.Host.means in
     let settings = c.args.settings.now in
     let paths = c.args.paths.now in
-    let one = same-one means settings AllocError c.as_str.result.now c.in_ok-line.field-0 c.loop-path.host
+    let one = same-one means settings AllocError c.as_str.result.now c.in_ok-line.field-0
+    c.loop-path.host
     c.read_password.new.host c.in_ok-line.ensures in
     subst (λ (lines : List PasswordLine). ReadsPasswords {E = Unit {0}} means settings
     (take (c.loop-path.path-index + 1) paths) (Ok (Some lines)) c.args.host.now

@@ -19,7 +19,8 @@ returns-in_default-clause-err c =
         slice_get_read peers (length peers) c.loop-i.i c.index-peers-i.result refl
             c.loop-i-test.true c.index-peers-i.is,
         (λ address text. c.in_default.ensures address
-            (subst (λ (text : List ℕ). IsSocketText text address) (sym c.as_str.ensures.same) text)),
+            (subst (λ (text : List ℕ). IsSocketText text address)
+            (sym c.as_str.ensures.same) text)),
         (c.loop-i.callees.items, c.loop-i.invariant),
       ),
     )

@@ -44,7 +44,8 @@ returns-in-Err-callees_of-clause-err c =
         ),
         (c.in-Ok.peers, c.in-Ok.ensures),
         (c.in-Ok-from_of.from, c.in-Ok-from_of.ensures.ok),
-        subst (λ (peers : List PeerCall). IsWrongPeer peers wrong.0) (c.as_slice.ensures ∙ c.peers.ensures)
+        subst (λ (peers : List PeerCall). IsWrongPeer peers wrong.0)
+            (c.as_slice.ensures ∙ c.peers.ensures)
             wrong.2,
       ))
     ]

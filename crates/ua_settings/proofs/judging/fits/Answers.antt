@@ -20,7 +20,8 @@ returns-in-Some-as_array c =
 pub returns-in-Some-as_array-2 : goal.returns-in-Some-as_array-2
 returns-in-Some-as_array-2 c =
     c.are_texts.ensures
-    ∙ ap (list_all (λ value. is_held Texts (view value))) c.as_slice-in-Some-as_array-2.ensures.value
+    ∙ ap (list_all (λ value. is_held Texts (view value)))
+    c.as_slice-in-Some-as_array-2.ensures.value
     ∙ held_in_array Texts c.in-Some-as_array-2.values.now.items
     ∙ ap (λ found. option_map_or (are_held Texts) found false) c.in-Some-as_array-2.ensures
     ∙ ap (λ holds. fits (known_of c.args.known.now) holds (view c.args.value.now))

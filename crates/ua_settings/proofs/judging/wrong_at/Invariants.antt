@@ -7,4 +7,5 @@ use Rattle.ua_settings.proofs.judging.wrong_at.Given as goal
 
 abbrev pub invariant-loop-section : goal.invariant-loop-section
 invariant-loop-section l = wrong_at l.known.passwords.now (table_view l.document) l.wrong
-    ≡ first_some (wrong_in l.known.passwords.now (table_view l.document) l.wrong) (drop l.section-index SECTIONS)
+    ≡ first_some (wrong_in l.known.passwords.now (table_view l.document) l.wrong)
+    (drop l.section-index SECTIONS)

@@ -18,7 +18,8 @@ build-requires-clause-folders c = folders_planned c.requires.sound.0
 
 pub build-requires-clause-texts : goal.build-requires-clause-texts
 build-requires-clause-texts c =
-    plan_short c.requires.sound.0 (table_view c.args.document.now) c.requires.sound.1 c.args.folders.now
+    plan_short c.requires.sound.0 (table_view c.args.document.now) c.requires.sound.1
+    c.args.folders.now
     c.args.variables.now c.requires.folders c.requires.variables _ refl refl
     (c.text.ensures ∙ ap (text_at (codes "namespace")) c.requires.same)
 

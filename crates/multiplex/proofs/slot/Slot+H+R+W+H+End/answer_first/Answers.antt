@@ -32,7 +32,8 @@ returns-in-Ended-clause-steps g c =
     answered g.R.NonBlockingRead.input g.W.NonBlockingWrite.output g.H.Handler.behavior c.args.now
     c.args.world.now c.answer.new.world _ _ c.answer.new.self did.0 (Some c.in-Ended.end)
     (Some (Finished c.in-Ended.end)) c.held_until-self-inside-in-Ended.result
-    c.answered_once_more-self-inside-in-Ended.result c.self.inside.sent c.self.inside.out.items c.answer.new.out.items c.self.view_is c.requires
+    c.answered_once_more-self-inside-in-Ended.result c.self.inside.sent c.self.inside.out.items
+    c.answer.new.out.items c.self.view_is c.requires
     did.2 (c.held_until-self-inside-in-Ended.ensures
     ∙ ap (held_until c.args.now) c.delay-in-Ended.ensures)
     c.answered_once_more-self-inside-in-Ended.ensures (λ none. refl) refl
