@@ -13,7 +13,7 @@ use Rattle.ua_settings.specs.declared.password.PasswordLine.{PasswordLine}
 use Rattle.ua_settings.specs.File.{Names, rules, is_name, is_up_to, text_at, tables, names_in}
 use Rattle.ua_settings.specs.Judging.{Spot, test, is_id, is_short, is_replica, is_missing, is_bad, wrong_key, wrong_from, wrong_at, first_wrong}
 use Rattle.ua_settings.proofs.FileParts.{wrong_in, name_of, or_later, or_else}
-use Rattle.ua_settings.specs.Sound.{IsSound, IsSoundArchive, IsSoundServer, IsSoundUser, IsSoundFolder, IsSoundPeer, IsSoundVariable}
+use Rattle.ua_settings.specs.Sound.{IsSound, IsSoundArchive, IsSoundServer, IsSoundUser, IsSoundFolder, IsSoundPeer, IsSoundDoor, IsSoundVariable}
 
 -- ---- nothing is found
 
@@ -224,6 +224,15 @@ peer_sound names members right =
           spoils.1.0;
     }
 
+door_sound : (names : Names) (members : Members) → IsRight names Door members
+    → IsSoundDoor members
+door_sound names members right =
+    let spoils = spoils_none names Door members right in
+    record {
+      ahead = optional_held (is_up_to 31536000) as_integer (get_member (codes "ahead") members)
+          spoils.1.1.1.0;
+    }
+
 variable_sound : (names : Names) (members : Members) → IsRight names Variable members
     → IsSoundVariable names.folders members
 variable_sound names members right =
@@ -268,4 +277,5 @@ sound lines document none =
       folders = all_weaker _ _ (folder_sound (names_in lines document)) _ (all Folder);
       variables = all_weaker _ _ (variable_sound (names_in lines document)) _ (all Variable);
       peers = all_weaker _ _ (peer_sound (names_in lines document)) _ (all Peer);
+      door = all_weaker _ _ (door_sound (names_in lines document)) _ (all Door);
     }

@@ -9,7 +9,7 @@ use Rattle.uuid.specs.Text.{parsed}
 use Rattle.ua_settings.specs.declared.keys.Section.{Section}
 use Rattle.ua_settings.specs.declared.keys.Section.TheVariants.{Document, Archive, Server, User, Folder, Variable, Peer, Door}
 use Rattle.ua_settings.specs.declared.keys.Holds.{Holds}
-use Rattle.ua_settings.specs.declared.keys.Holds.TheVariants.{Text, Id, Replica, UpTo, Truth, NodeName, UserName, FolderId, Access, PasswordFile, Texts, OneTable, Tables}
+use Rattle.ua_settings.specs.declared.keys.Holds.TheVariants.{Text, Id, Replica, UpTo, Truth, NodeName, UserName, FolderId, Access, PasswordFile, Texts, Replicas, OneTable, Tables}
 use Rattle.ua_settings.specs.declared.keys.Wrong.{Wrong}
 use Rattle.ua_settings.specs.declared.password.PasswordLine.{PasswordLine}
 use Rattle.ua_settings.specs.declared.keys.Wrong.TheVariants.{Unknown, Missing, Bad}
@@ -69,7 +69,9 @@ variable_keys =
 
 -- those of the table `door`
 abbrev pub door_keys : List Rule
-door_keys = required (codes "listen") Text ∷ optional (codes "from") Texts ∷ []
+door_keys =
+    required (codes "listen") Text ∷ optional (codes "from") Texts
+    ∷ optional (codes "replicas") Replicas ∷ optional (codes "ahead") (UpTo 31536000) ∷ []
 
 -- those of a table of a peer
 abbrev pub peer_keys : List Rule
@@ -184,9 +186,10 @@ is_password_file names path = nat_le 1 (length (password_line names.passwords pa
 abbrev pub is_text : Data → Bool
 is_text value = option_map_or (λ text. nat_le (length text) 65536) (as_str value) false
 
--- what an array may hold: texts of at most 65,536 bytes, or tables
+-- what an array may hold: texts of at most 65,536 bytes, numbers of replicas, or tables
 abbrev pub is_held : Holds → Data → Bool
 is_held Texts value = is_text value
+is_held Replicas value = option_map_or is_replica (as_integer value) false
 is_held holds value = is_some (as_table value)
 
 -- an array of these alone
@@ -206,6 +209,7 @@ fits names FolderId value = option_map_or (is_folder names) (as_str value) false
 fits names Access value = option_map_or is_access (as_str value) false
 fits names PasswordFile value = option_map_or (is_password_file names) (as_str value) false
 fits names Texts value = option_map_or (are_held Texts) (as_array value) false
+fits names Replicas value = option_map_or (are_held Replicas) (as_array value) false
 fits names OneTable value = is_some (as_table value)
 fits names Tables value = option_map_or (are_held Tables) (as_array value) false
 

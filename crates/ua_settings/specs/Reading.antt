@@ -17,7 +17,7 @@ use Rattle.ua_settings.specs.declared.keys.Wrong.TheVariants.{Unknown, Missing, 
 use Rattle.ua_settings.specs.declared.password.PasswordLine.{PasswordLine}
 use Rattle.ua_settings.specs.declared.door.DoorSettings.{DoorSettings}
 use Rattle.ua_settings.specs.declared.reading.Listed.{Listed}
-use Rattle.ua_settings.specs.File.{items_in, password_line, tables, text_at, first_refusal}
+use Rattle.ua_settings.specs.File.{is_replica, items_in, password_line, tables, text_at, first_refusal}
 use Rattle.ua_settings.specs.Settings.{SettingsValues}
 use Rattle.ua_session.specs.Users.{Allowed}
 use Rattle.ua_session.specs.declared.identity.Access.{Access}
@@ -107,12 +107,27 @@ peer_in peer =
 abbrev pub texts_in : Items → List (List ℕ)
 texts_in items = filter_map as_str (items_in items)
 
+-- the number of a replica that a value is
+abbrev pub replica_in : Data → Option ℕ
+replica_in value =
+    elim (as_integer value) [
+      | Some (pos n) ↦ if is_replica (pos n) then Some n else None
+      | _ ↦ None
+    ]
+
+-- the numbers of replicas in an array
+abbrev pub replicas_in : Items → List ℕ
+replicas_in items = filter_map replica_in (items_in items)
+
 -- where peers come to, and who is taken there, by a table
 abbrev pub door_in : Members → DoorSettings
 door_in door =
     record {
       listen = text_at (codes "listen") door;
       from = option_map texts_in (option_and_then as_array (get_member (codes "from") door));
+      replicas =
+          option_map replicas_in (option_and_then as_array (get_member (codes "replicas") door));
+      ahead = number_there (codes "ahead") door;
     }
 
 -- the table at a key, if there is one

@@ -3,7 +3,7 @@ use Rattle.std.specs.Prelude.{◌≡◌, true, codes, nat_eq, List, ℕ, IfSome,
 use Rattle.std.specs.List.{list_any, AllByRecursion}
 use Rattle.std.specs.Cmp.Lexicographic.{pointwise}
 use Rattle.toml.specs.Data.{Members, get_member, as_str, as_integer, as_table}
-use Rattle.ua_settings.specs.declared.keys.Section.TheVariants.{User, Folder, Variable, Peer}
+use Rattle.ua_settings.specs.declared.keys.Section.TheVariants.{User, Folder, Variable, Peer, Door}
 use Rattle.ua_settings.specs.declared.password.PasswordLine.{PasswordLine}
 use Rattle.ua_settings.specs.File.{tables, text_at, is_name, is_up_to, names_in}
 use Rattle.ua_settings.specs.Judging.{is_id, is_replica, is_short, test}
@@ -37,6 +37,9 @@ pub record IsSoundFolder (folder : Members) : Type 0 where
 pub record IsSoundPeer (peer : Members) : Type 0 where
   pub every : IsUpTo 86400 (codes "every") peer
 
+pub record IsSoundDoor (door : Members) : Type 0 where
+  pub ahead : IsUpTo 31536000 (codes "ahead") door
+
 pub record IsSoundVariable (folders : List (List ℕ)) (variable : Members) : Type 0 where
   pub id : is_name (text_at (codes "id") variable) ≡ true
   pub name : is_short (text_at (codes "name") variable) ≡ true
@@ -54,3 +57,4 @@ pub record IsSound (lines : List PasswordLine) (document : Members) : Type 0 whe
   pub variables : AllByRecursion (IsSoundVariable (names_in lines document).folders)
       (tables document Variable)
   pub peers : AllByRecursion IsSoundPeer (tables document Peer)
+  pub door : AllByRecursion IsSoundDoor (tables document Door)

@@ -112,6 +112,7 @@ fn fits_text(known: &Known<'_>, holds: Holds, text: &str) -> bool
         | Holds::UpTo(_)
         | Holds::Truth
         | Holds::Texts
+        | Holds::Replicas
         | Holds::OneTable
         | Holds::Tables => false,
     }
@@ -127,11 +128,28 @@ fn is_text(value: &Value) -> bool
     }
 }
 
+/// Whether a value is the number of a replica.
+fn is_replica_value(value: &Value) -> bool
+    ensures { result ≡ option_map_or is_replica (as_integer (view value.now)) false }
+{
+    match value.as_integer() {
+        Some(number) => is_replica(number),
+        None => false,
+    }
+}
+
 /// Whether each of the values is a text of at most 65,536 bytes.
 fn are_texts(values: &[Value]) -> bool
     ensures { result ≡ list_all (λ value. is_held Holds.Texts (view value)) values.now }
 {
     values.iter().all(|value| is_text(value))
+}
+
+/// Whether each of the values is the number of a replica.
+fn are_replicas(values: &[Value]) -> bool
+    ensures { result ≡ list_all (λ value. is_held Holds.Replicas (view value)) values.now }
+{
+    values.iter().all(|value| is_replica_value(value))
 }
 
 /// Whether each of the values is a table.
@@ -180,6 +198,10 @@ fn fits(known: &Known<'_>, holds: Holds, value: &Value) -> bool
         },
         Holds::Texts => match value.as_array() {
             Some(values) => are_texts(values.as_slice()),
+            None => false,
+        },
+        Holds::Replicas => match value.as_array() {
+            Some(values) => are_replicas(values.as_slice()),
             None => false,
         },
         Holds::Text

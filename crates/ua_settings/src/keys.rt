@@ -46,6 +46,8 @@ pub(crate) enum Holds {
     PasswordFile,
     /// An array of texts, each of at most 65,536 bytes.
     Texts,
+    /// An array of numbers of 1 to 64.
+    Replicas,
     OneTable,
     /// An array of tables.
     Tables,
@@ -177,7 +179,12 @@ static VARIABLE: [Key; 5] = [
 
 static PEER: [Key; 2] = [key!("address", Text), key!("every", up to 86400)];
 
-static DOOR: [Key; 2] = [key!("listen", Text), key!("from", Texts, optional)];
+static DOOR: [Key; 4] = [
+    key!("listen", Text),
+    key!("from", Texts, optional),
+    key!("replicas", Replicas, optional),
+    key!("ahead", up to 31536000, optional),
+];
 
 /// The keys of a kind of table.
 pub(crate) fn keys_of(section: Section) -> &'static [Key]

@@ -7,7 +7,7 @@ ghost use Rattle.toml.specs.View.{view, table_view};
 ghost use Rattle.ua_settings.specs.File.{tables, text_at, many_tables, items_in};
 ghost use Rattle.ua_settings.specs.Judging.{is_replica};
 ghost use Rattle.std.specs.List.{filter_map};
-ghost use Rattle.ua_settings.specs.Reading.{number_or, number_there, access_at};
+ghost use Rattle.ua_settings.specs.Reading.{number_or, number_there, access_at, replica_in};
 ghost use Rattle.ua_settings.specs.Sound.{IsUpTo};
 ghost use Rattle.toml.specs.Data.{as_array};
 
@@ -120,6 +120,30 @@ pub(crate) fn texts_in(alloc: Global, values: &[Value]) -> Result<Vec<Text>, All
         }
     }
     Ok(texts)
+}
+
+/// The replica whose number a value is.
+fn replica_in(value: &Value) -> Option<ReplicaNo>
+    ensures { result ≡ replica_in (view value.now) }
+{
+    match value.as_integer() {
+        Some(number) => replica(number),
+        None => None,
+    }
+}
+
+/// The replicas whose numbers these values are.
+pub(crate) fn replicas_in(alloc: Global, values: &[Value]) -> Result<Vec<ReplicaNo>, AllocError>
+    ensures { IfOk result
+        (λ replicas. replicas.items ≡ filter_map (λ value. replica_in (view value)) values.now) }
+{
+    let mut replicas = Vec::new(alloc);
+    for value in values {
+        if let Some(replica) = replica_in(value) {
+            replicas.push(replica)?;
+        }
+    }
+    Ok(replicas)
 }
 
 /// The table at a key.

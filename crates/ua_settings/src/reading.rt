@@ -10,15 +10,15 @@ ghost use Rattle.ua_space.specs.declared.plan.Plan.{Plan};
 ghost use Rattle.ua_space.specs.Lent.{entry_of, folder_of};
 ghost use Rattle.ua_settings.specs.File.{tables, text_at};
 ghost use Rattle.ua_settings.specs.Judging.{is_id, is_replica, test};
-ghost use Rattle.ua_settings.specs.Reading.{folder_in, variable_in, number_at, table_at, table_there, password_in, user_in, peer_in, door_in, texts_in, listed_in, values_of, IsAcceptedOrStarved, IsSpaceOrStarved, space_fault};
-ghost use Rattle.ua_settings.specs.Sound.{IsSound, IsSoundArchive, IsSoundUser, IsSoundServer, IsSoundPeer};
+ghost use Rattle.ua_settings.specs.Reading.{folder_in, variable_in, number_at, table_at, table_there, password_in, user_in, peer_in, door_in, texts_in, replicas_in, listed_in, values_of, IsAcceptedOrStarved, IsSpaceOrStarved, space_fault};
+ghost use Rattle.ua_settings.specs.Sound.{IsSound, IsSoundArchive, IsSoundUser, IsSoundServer, IsSoundPeer, IsSoundDoor};
 
 use crate::door::DoorSettings;
 use crate::fault::SettingsFault;
 use crate::keys::Section;
 use crate::looking::{
-    access, find_text, has_array, items, number, number_or, replica, table_at, tables_of, text,
-    texts_in, truth,
+    access, find_text, has_array, items, number, number_or, number_there, replica, replicas_in,
+    table_at, tables_of, text, texts_in, truth,
 };
 use crate::password::{PasswordLine, line_of};
 use crate::peers::Peers;
@@ -255,18 +255,37 @@ fn read_networks(alloc: Global, door: &Table) -> Result<Option<Listing<Text>>, A
     }
 }
 
+/// The replicas whose records are taken at a door.
+fn read_replicas(alloc: Global, door: &Table) -> Result<Option<Listing<ReplicaNo>>, AllocError>
+    ensures { IfOk result
+        (λ replicas. replicas
+        ≡ option_map replicas_in
+        (option_and_then as_array (get_member (codes "replicas") (table_view door.now)))) }
+{
+    if has_array(door, "replicas") {
+        let replicas = replicas_in(alloc, items(door, "replicas"))?;
+        Ok(Some(Listing::of(replicas)))
+    } else {
+        Ok(None)
+    }
+}
+
 /// Where peers come to, and who is taken there, by a table.
 fn read_door_in(alloc: Global, door: &Table) -> Result<DoorSettings, AllocError>
+    requires { IsSoundDoor (table_view door.now) }
     ensures { IfOk result (λ settings. settings ≡ door_in (table_view door.now)) }
 {
     Ok(DoorSettings {
         listen: Text::from_str(alloc, text(door, "listen"))?,
         from: read_networks(alloc, door)?,
+        replicas: read_replicas(alloc, door)?,
+        ahead: number_there(door, "ahead", 31_536_000),
     })
 }
 
 /// Where peers come to, and who is taken there.
 fn read_door(alloc: Global, document: &Table) -> Result<Option<DoorSettings>, AllocError>
+    requires { AllByRecursion IsSoundDoor (tables (table_view document.now) Section.Door) }
     ensures { IfOk result
         (λ door. door ≡ option_map door_in (table_there (codes "door") (table_view document.now))) }
 {
