@@ -113,7 +113,8 @@ module _ (a b c : Store) (v : List ℕ) (w : ℕ
     kept : c.honest → (c.honest → b.honest) → b.content ≡ a.content
     kept h back = asks.stays.content (back h) (left_in_use a b asks.leaves)
 
-    pub carry_fails : (fault : ExchangeFault) (turn : Content → Turn) → AnswersBatch b c w (Err fault)
+    pub carry_fails : (fault : ExchangeFault) (turn : Content → Turn)
+        → AnswersBatch b c w (Err fault)
         → (turn a.content).content ≡ a.content → learned_of [] (turn a.content).result ≡ 0
         → Handles a c [] turn (Err fault)
     carry_fails exchange.OutOfMemory turn answers e none = record {
@@ -142,7 +143,8 @@ module _ (a b c : Store) (v : List ℕ) (w : ℕ
             (answers.stays.crash h left m),
         none,
       );
-      passes = passes-then a b c [] (fault ∷ []) (passes-leaves a b None asks.leaves) answers.passes;
+      passes = passes-then a b c [] (fault ∷ [])
+          (passes-leaves a b None asks.leaves) answers.passes;
     }
     carry_fails exchange.Frame turn answers e none = absurd answers.only
     carry_fails exchange.WrongArchive turn answers e none = absurd answers.only
@@ -150,6 +152,8 @@ module _ (a b c : Store) (v : List ℕ) (w : ℕ
     carry_fails exchange.SelfPeer turn answers e none = absurd answers.only
     carry_fails exchange.TooLong turn answers e none = absurd answers.only
     carry_fails exchange.PeerFormat turn answers e none = absurd answers.only
+    carry_fails exchange.AheadOfClock turn answers e none = absurd answers.only
+    carry_fails exchange.NotAdmitted turn answers e none = absurd answers.only
 
     -- memory was wanting for what is sent, or a store that isn't honest gave what can't be
     pub carry_starves : (batch : Batch) (fault : ExchangeFault) (turn : Content → Turn)
@@ -652,6 +656,8 @@ merge_ended a b [] exchange.SelfPeer merges broken = absurd merges.tells
 merge_ended a b [] (exchange.Store f) merges broken = absurd merges.tells
 merge_ended a b [] exchange.TooLong merges broken = absurd merges.tells
 merge_ended a b [] exchange.PeerFormat merges broken = absurd merges.tells
+merge_ended a b [] exchange.AheadOfClock merges broken = absurd merges.tells
+merge_ended a b [] exchange.NotAdmitted merges broken = absurd merges.tells
 
 meets_refusal : (S : Content) (r : Record) (cause : LearnFault) → IsRefusal cause → Meets S r cause
     → answer_to (finding S r) ≡ Err cause
@@ -740,6 +746,8 @@ learn_stops a b rs state exchange.SelfPeer merges = absurd merges.tells
 learn_stops a b rs state (exchange.Store fault) merges = absurd merges.tells
 learn_stops a b rs state exchange.TooLong merges = absurd merges.tells
 learn_stops a b rs state exchange.PeerFormat merges = absurd merges.tells
+learn_stops a b rs state exchange.AheadOfClock merges = absurd merges.tells
+learn_stops a b rs state exchange.NotAdmitted merges = absurd merges.tells
 
 -- the initiator pulls: a batch of no record is answered by what the peer lacks, and others are
 -- learned

@@ -133,6 +133,10 @@ learning_left p state R rs = learnt_content p state (merged rs R) (refusal 0 R r
         cc)
     go (Some exchange.PeerFormat) is = absurd (let x =
         (refused_one rs 0 R exchange.PeerFormat is).2 in cc)
+    go (Some exchange.AheadOfClock) is = absurd (let x =
+        (refused_one rs 0 R exchange.AheadOfClock is).2 in cc)
+    go (Some exchange.NotAdmitted) is = absurd (let x =
+        (refused_one rs 0 R exchange.NotAdmitted is).2 in cc)
 
 ended_kept : (R : Content) (n : ℕ) → (ended_by R n).content ≡ R
 ended_kept R zero = refl

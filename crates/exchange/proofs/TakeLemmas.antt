@@ -102,7 +102,13 @@ module _ (a c : Store) (before counted after : DialogState) (kind : FrameKind)
             (Rattle.exchange.specs.Fault.exchange_number fault))) sends.1
             ∙ ap (λ (t : Turn). out ++ bytes_of t.reply) (sym sends.0)),
       )
-      | inr starved ↦ inr (fault, ap (λ (t : Turn). t.result) sends.0, starved.0, starved.1 ∙ sends.1)
+      | inr starved ↦ inr (
+        fault,
+        ap (λ (t : Turn). t.result) sends.0,
+        starved.0,
+        starved.1
+            ∙ sends.1,
+      )
     ]
 
     -- an end whose turn went well, by what was told of it
@@ -169,12 +175,14 @@ module _ (a c : Store) (before counted after : DialogState) (kind : FrameKind)
     always (Ok s) x = x
     always (Err f) x = tt
 
-    failed : (fault : ExchangeFault) (answered : Result Progress ExchangeFault) → answered ≡ Err fault
+    failed : (fault : ExchangeFault) (answered : Result Progress ExchangeFault)
+        → answered ≡ Err fault
         → Concludes counted after answered result mid written
         → IfOk result (λ _. unfit before kind ≡ None)
     failed fault (Ok done) is concludes = absurd (cc)
     failed fault (Err told) is concludes = elim concludes.1 [
-      | inl told ↦ subst (λ (r : Result State ExchangeFault). IfOk r (λ _. unfit before kind ≡ None))
+      | inl told ↦ subst (λ (r : Result State ExchangeFault).
+          IfOk r (λ _. unfit before kind ≡ None))
           (sym told.0) tt
       | inr starved ↦ subst (λ (r : Result State ExchangeFault).
           IfOk r (λ _. unfit before kind ≡ None)) (sym starved.0) tt
@@ -190,7 +198,8 @@ module _ (a c : Store) (before counted after : DialogState) (kind : FrameKind)
       | inr starved ↦ inr starved.0
     ]
       where
-        err_progress : (f g : ExchangeFault) → ◌≡◌ {A = Result Progress ExchangeFault} (Err f) (Err g)
+        err_progress : (f g : ExchangeFault)
+            → ◌≡◌ {A = Result Progress ExchangeFault} (Err f) (Err g)
             → f ≡ g
         err_progress f g e = cc
 
@@ -334,6 +343,12 @@ module _ (a c : Store) (before counted after : DialogState) (kind : FrameKind)
         takes_it body answered (subst (λ r. AnswersTo a c before.state r out mid answered)
         (sym (gives (λ e. cc))) answers) concludes
     takes body (Err exchange.PeerFormat) answered gives answers concludes =
+        takes_it body answered (subst (λ r. AnswersTo a c before.state r out mid answered)
+        (sym (gives (λ e. cc))) answers) concludes
+    takes body (Err exchange.AheadOfClock) answered gives answers concludes =
+        takes_it body answered (subst (λ r. AnswersTo a c before.state r out mid answered)
+        (sym (gives (λ e. cc))) answers) concludes
+    takes body (Err exchange.NotAdmitted) answered gives answers concludes =
         takes_it body answered (subst (λ r. AnswersTo a c before.state r out mid answered)
         (sym (gives (λ e. cc))) answers) concludes
     takes body (Err exchange.TooLong) answered gives answers concludes =

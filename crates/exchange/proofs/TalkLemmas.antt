@@ -84,6 +84,8 @@ of_meeting exchange.WrongArchive is = absurd is
 of_meeting exchange.SelfPeer is = absurd is
 of_meeting exchange.TooLong is = absurd is
 of_meeting exchange.PeerFormat is = absurd is
+of_meeting exchange.AheadOfClock is = absurd is
+of_meeting exchange.NotAdmitted is = absurd is
 
 of_answer : (f : ExchangeFault) → IsOfAnswer f → IsOfOutside f
 of_answer exchange.OutOfMemory is = tt
@@ -94,6 +96,8 @@ of_answer exchange.WrongArchive is = absurd is
 of_answer exchange.SelfPeer is = absurd is
 of_answer exchange.TooLong is = absurd is
 of_answer exchange.PeerFormat is = absurd is
+of_answer exchange.AheadOfClock is = absurd is
+of_answer exchange.NotAdmitted is = absurd is
 
 not_long : (f : ExchangeFault) → IsOfOutside f → f ≡ exchange.TooLong → ⊥
 not_long f is e = subst IsOfOutside e is
@@ -465,7 +469,8 @@ module _ (a0 b0 : Store) (party : IsParty (party_of a0)) (party_other : IsParty 
             λ left m. elim (full_holds exchange.TooLong b c second after (kind_of way.m)
                 (frame_body_of way.m) [] back hc (full_got (at_most _ f refl))
                 (Err fault) pair.0 left m) [
-                  | inl old ↦ rests_hold b0.content a0.content b hb way.used.1.0 way.used.1.1 way.other
+                  | inl old ↦ rests_hold b0.content a0.content b hb way.used.1.0 way.used.1.1
+                      way.other
                       left old
                   | inr q ↦ subst (IsBetween b0.content a0.content) (sym q.1) way.other
                 ],
@@ -773,7 +778,8 @@ module _ (a0 b0 : Store) (party : IsParty (party_of a0)) (party_other : IsParty 
             record {
               one = is.1;
               other =
-                  λ left m. rests_hold b0.content a0.content b k w.used.1.0 w.used.1.1 w.other left m;
+                  λ left m. rests_hold b0.content a0.content b k w.used.1.0 w.used.1.1 w.other left
+                  m;
             },
           );
       told = λ h k meet. less_told fault (talk.of.faults ++ hands.faults) talk.of.others

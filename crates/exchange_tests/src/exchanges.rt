@@ -22,7 +22,7 @@ use ua_binary::{Bytes, Listing, Text, Ticks};
 use ua_variant::{DataValue, Scalar, ValueType, Variant};
 use uuid::Uuid;
 
-fn list_replica(alloc: Global, number: u8) -> Result<Replica<ListArchive>, StoreFault> {
+pub(crate) fn list_replica(alloc: Global, number: u8) -> Result<Replica<ListArchive>, StoreFault> {
     let number = replica_number(number)?;
     Ok(Replica::new(ListArchive::new(alloc, Uuid::nil(), number)))
 }
@@ -331,7 +331,7 @@ fn batches_fit_a_frame(rt: HostRuntime) -> Result<(), Fail> {
     Ok(())
 }
 
-static FAULTS: [ExchangeFault; 8] = [
+static FAULTS: [ExchangeFault; 10] = [
     ExchangeFault::Frame,
     ExchangeFault::WrongArchive,
     ExchangeFault::Learn {
@@ -343,6 +343,8 @@ static FAULTS: [ExchangeFault; 8] = [
     ExchangeFault::Store(StoreFault::Broken),
     ExchangeFault::TooLong,
     ExchangeFault::PeerFormat,
+    ExchangeFault::AheadOfClock,
+    ExchangeFault::NotAdmitted,
 ];
 
 #[test]

@@ -2,4 +2,6 @@
 #![tactic(auto)]
 
 #[cfg(test)]
+mod admissions;
+#[cfg(test)]
 mod exchanges;

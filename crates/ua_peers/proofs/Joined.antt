@@ -130,6 +130,8 @@ numbered exchange.SelfPeer = (4, omega arith, refl)
 numbered (exchange.Store fault) = (5, omega arith, refl)
 numbered exchange.TooLong = (6, omega arith, refl)
 numbered exchange.PeerFormat = (7, omega arith, refl)
+numbered exchange.AheadOfClock = (8, omega arith, refl)
+numbered exchange.NotAdmitted = (9, omega arith, refl)
 
 failing_said : (R : Content) (fault : ExchangeFault) (result : Result State ExchangeFault)
     (said : List ℕ) → Writes (failing R fault) result [] said → IsFaulty result said
