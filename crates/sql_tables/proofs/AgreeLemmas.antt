@@ -334,7 +334,7 @@ ints_same : (m n : ℤ) → is_eq (int_cmp m n) ≡ true → m ≡ n
 ints_same m n e = grind (arith, ints, e)
 
 -- a value of a whole number's column that is such a number is it
-int_same : (v : Value) (n : ℤ) → is_of kind.Integer v ≡ true → same v (Int n) ≡ true → v ≡ Int n
+pub int_same : (v : Value) (n : ℤ) → is_of kind.Integer v ≡ true → same v (Int n) ≡ true → v ≡ Int n
 int_same Null n kind e = absurd (not_null (Int n) e)
 int_same (Int m) n kind e = ap Int (ints_same m n
     (ap is_eq (sym (value_cmp-Int m n)) ∙ same_is (Int m) (Int n) refl refl e))
@@ -347,7 +347,7 @@ no_blob : (v : Value) (b : List ℕ) → is_null v ≡ false → value_cmp v (Bl
 no_blob v b some below e = let no : false ≡ true =
     ap is_eq (sym below) ∙ same_is v (Blob b) some refl e in true≢false (sym no)
 
-blob_same : (v : Value) (b : List ℕ) → same v (Blob b) ≡ true → v ≡ Blob b
+pub blob_same : (v : Value) (b : List ℕ) → same v (Blob b) ≡ true → v ≡ Blob b
 blob_same Null b e = absurd (not_null (Blob b) e)
 blob_same (Int m) b e = absurd (no_blob (Int m) b refl
     (value_cmp-apart (Int m) (Blob b) (λ c. absurd (omega (arith, c)))) e)

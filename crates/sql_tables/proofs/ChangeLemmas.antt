@@ -15,7 +15,7 @@ use Rattle.sqlite_schema.specs.declared.schema.Keys.TheVariants.{Enforced}
 use Rattle.sqlite_schema.specs.declared.schema.Table.{Table}
 use Rattle.sqlite_schema.specs.declared.program.Program.{Program}
 use Rattle.sqlite_schema.specs.declared.command.Source.{Source}
-use Rattle.sqlite_schema.specs.declared.command.Command.TheVariants.{Insert, Update, Delete}
+use Rattle.sqlite_schema.specs.declared.command.Command.TheVariants.{Insert, Update}
 use Rattle.sqlite_rules.specs.declared.error.Rowids.TheVariants.{Chosen, Given}
 use Rattle.sqlite_rules.specs.Cast.{cast_row}
 use Rattle.sqlite_rules.specs.Calls.{ids_of}
@@ -138,15 +138,6 @@ pub record PutsIn (table : Table) (from : Source) (params : Row) (db : Trees) (a
   pub schema : after.schema ≡ archive_schema
   pub applied : Applies archive_schema Enforced db (edit_of db table [] Chosen 0 rows) after.trees
 
--- rows were taken out of a table
-pub record TakesOut (table : Table) (q : Program) (params : Row) (db : Trees) (after : Database) :
-    Type 0 where
-  pub rows : List Row
-  pub are : Answers (record { schema = archive_schema; trees = db }) q params rows
-  pub schema : after.schema ≡ archive_schema
-  pub applied : Applies archive_schema Enforced db
-      (edit_of db table (ids_of rows) Given 0 []) after.trees
-
 -- rows of a table were put in for others, and counted
 pub record Sets (table : Table) (q : Program) (params : Row) (db : Trees) (tally : Tally)
     (after : Database) : Type 0 where
@@ -186,32 +177,6 @@ module _ (old : State) (tally : Tally) (after : Database) (text : List ℕ) (par
             (edit_of db third_table [] Chosen 0 given_rows.0)) (sym same) applied;
       }
 
-  pub from_currents : (q : Program)
-      → Does old.step_limit (mode_of old) params old.now text None (Delete 2 q) (Ok (tally, after))
-      → TakesOut third_table q params old.now.trees after
-  from_currents q changed =
-      let db = old.now.trees in
-      let done = went (subst (λ s.
-      Does old.step_limit (mode_of old) params (record old.now { schema = s }) text None
-      (Delete 2 q) (Ok (tally, after))) has changed) in
-      let now = ap (λ (p : Tally × Database). p.1) (same_value (went (went done.2).2).2) in
-      let found = went done.1 in
-      let written = went found.2 in
-      let trees : done.0.trees ≡ written.0 =
-      ap (λ (it : Written). it.trees) (same_value written.2) in
-      let applied = one_step archive_schema _ db written.0
-      (edit_of db third_table (ids_of found.0) Given 0 []) refl written.1 in
-      let same : after.trees ≡ written.0 = ap (λ (d : Database). d.trees) now ∙ trees in
-      record {
-        rows = found.0;
-        are = found.1;
-        schema =
-            ap (λ (d : Database). d.schema) now;
-        applied =
-            subst (Applies archive_schema Enforced db
-            (edit_of db third_table (ids_of found.0) Given 0 [])) (sym same) applied;
-      }
-
   pub into_vectors : (from : Source)
       → Does old.step_limit (mode_of old) params old.now text None (Insert 3 from)
       (Ok (tally, after)) → PutsIn fourth_table from params old.now.trees after
@@ -237,6 +202,33 @@ module _ (old : State) (tally : Tally) (after : Database) (text : List ℕ) (par
         applied =
             subst (Applies archive_schema Enforced db
             (edit_of db fourth_table [] Chosen 0 given_rows.0)) (sym same) applied;
+      }
+
+  pub set_currents : (q : Program) → Does old.step_limit (mode_of old) params old.now text None
+      (Update 2 q) (Ok (tally, after)) → Sets third_table q params old.now.trees tally after
+  set_currents q changed =
+      let db = old.now.trees in
+      let done = went (subst (λ s.
+      Does old.step_limit (mode_of old) params (record old.now { schema = s }) text None
+      (Update 2 q) (Ok (tally, after))) has changed) in
+      let both = same_value (went (went done.2).2).2 in
+      let now = ap (λ (p : Tally × Database). p.1) both in
+      let found = went done.1 in
+      let written = went found.2 in
+      let trees : done.0.trees ≡ written.0 =
+      ap (λ (it : Written). it.trees) (same_value written.2) in
+      let rows : done.0.rows ≡ (edit_of db third_table (ids_of found.0) Given 1 found.0).news =
+      ap (λ (it : Written). it.rows) (same_value written.2) in
+      let applied = one_step archive_schema _ db written.0
+      (edit_of db third_table (ids_of found.0) Given 1 found.0) refl written.1 in
+      let same : after.trees ≡ written.0 = ap (λ (d : Database). d.trees) now ∙ trees in
+      record {
+        rows = found.0;
+        are = found.1;
+        schema = ap (λ (d : Database). d.schema) now;
+        applied = subst (Applies archive_schema Enforced db
+            (edit_of db third_table (ids_of found.0) Given 1 found.0)) (sym same) applied;
+        counted = ap (λ (p : Tally × Database). p.0.rows) both ∙ ap (λ l. Some (length l)) rows;
       }
 
   pub set_vectors : (q : Program) → Does old.step_limit (mode_of old) params old.now text None

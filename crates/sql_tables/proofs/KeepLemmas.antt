@@ -18,7 +18,7 @@ use Rattle.sqlite_sql.specs.Program.{overlay}
 use Rattle.sqlite_schema.specs.declared.program.Program.{Program}
 use Rattle.sqlite_schema.specs.declared.command.Source.{Source}
 use Rattle.sqlite_schema.specs.declared.command.Source.TheVariants.{Values, Query as Asks}
-use Rattle.sqlite_schema.specs.declared.command.Command.TheVariants.{Insert, Update, Delete}
+use Rattle.sqlite_schema.specs.declared.command.Command.TheVariants.{Insert, Update}
 use Rattle.sqlite_schema.specs.declared.schema.Kind.TheVariants.{Integer}
 use Rattle.sqlite_rules.specs.declared.error.Rowids.TheVariants.{Chosen, Given}
 use Rattle.sqlite_rules.specs.Cast.{cast, cast_row}
@@ -36,22 +36,22 @@ use Rattle.sqlite.specs.State.{State, ExecutesInside}
 use Rattle.sqlite.specs.declared.error.Error.{Error}
 use Rattle.sqlite.proofs.Callers.{IsPlain, command_of, statement_of, runs_as}
 use Rattle.sql_schema.specs.Tables.{archive_schema, third_table, fourth_table}
-use Rattle.sql_tables.specs.Words.{cells, cells_of, columns_of}
+use Rattle.sql_tables.specs.Words.{cells, cells_of}
 use Rattle.sql_tables.specs.State.{Making}
 use Rattle.sql_tables.specs.Derived.{AreNumbered, IsCells, is_of, is_current_of, current_of, current_columns, same, vectors_of, vector_columns}
-use Rattle.sql_tables.specs.Keeping.{KeepsBesideVectors, ChangesVectors, SetsVectors, KeepsBesideCurrents, DropsCurrent, PutsCurrents, ChangesCurrents, AddsRecord, HasNoRowAt, IsOnly, currents_where, is_vector_of, DropsVector, PutsVectors, vector_cells}
-use Rattle.sql_tables.proofs.Texts.{drop_current_text, add_current_text, first_current_text, fill_currents_text, add_vector_text, set_vector_text, fill_vectors_text}
+use Rattle.sql_tables.specs.Keeping.{KeepsBesideVectors, ChangesVectors, SetsVectors, KeepsBesideCurrents, PutsCurrents, ChangesCurrents, AddsRecord, HasNoRowAt, IsOnly, currents_where, is_vector_of, DropsVector, PutsVectors, vector_cells}
+use Rattle.sql_tables.proofs.Texts.{first_current_text, fill_currents_text, add_vector_text, set_vector_text, fill_vectors_text}
 use Rattle.sql_tables.proofs.WriteLemmas.{apart_by, cast_int}
 use Rattle.sql_tables.proofs.RemoveLemmas.{ids_where, left_without, same_taken}
-use Rattle.sql_tables.proofs.ChangeLemmas.{PutsIn, Sets, into_currents, from_currents, into_vectors, set_vectors, put_in, put_beside, all_more, as_given, unnumbered, given}
+use Rattle.sql_tables.proofs.ChangeLemmas.{PutsIn, Sets, into_currents, into_vectors, set_vectors, put_in, put_beside, all_more, as_given, unnumbered, given}
 use Rattle.sql_tables.proofs.DerivedLemmas.{first_made}
 use Rattle.sql_tables.proofs.AgreeLemmas.{none_of, none_passes}
-use Rattle.sql_tables.proofs.MadeLemmas.{asking, asked_all, cast_live, currents_from, currents_project, currents_put, none_later, laters, vectors_from, vectors_project, vectors_put, as_vector, eq, regrouped, one_true}
+use Rattle.sql_tables.proofs.MadeLemmas.{asking, asked_all, cast_live, currents_from, currents_project, currents_put, none_later, laters, vectors_from, vectors_project, vectors_put, as_vector, eq, one_true}
 
 -- ---- rows are taken out
 
 -- what is left of a table without the rows that pass
-removed : (t : ℕ) (tests project : List Term) (params : Row) (db : Trees) (keep : Row → Bool)
+pub removed : (t : ℕ) (tests project : List Term) (params : Row) (db : Trees) (keep : Row → Bool)
     → ((r : Row) → list_all (holds (params ∷ r ∷ [])) tests ≡ keep r)
     → ((r : Row) → rowid (eval_all project (params ∷ r ∷ [])) ≡ rowid r) → AreNumbered (db t)
     → (rows : List Row) → IsAnswer (asking (inner t end) tests project []) db params rows
@@ -77,51 +77,6 @@ removed t tests project params db keep alike own was rows a =
 pub three_true : (a b c : Bool) → (a && (b && (c && true))) ≡ (a && (b && c))
 three_true a b c = ap (λ x. a && (b && x)) (one_true c)
 
-abbrev current_tests : List Term
-current_tests = eq (col 1 1) (col 0 0) ∷ eq (col 1 2) (col 0 1) ∷ eq (col 1 3) (col 0 2) ∷ []
-
-abbrev drop_current : Program
-drop_current = record { lets = []; body = asking (inner 4 end) current_tests (col 1 0 ∷ []) [] }
-
-drop_current_is : command_of (understood archive_schema drop_current_text) ≡ Delete 2 drop_current
-unfolding understood everything
-drop_current_is = refl
-
-drop_current_plain : IsPlain (understood archive_schema drop_current_text)
-unfolding understood everything
-drop_current_plain = (refl, refl)
-
-pub drops_current : (node : List ℕ) (time pico : ℤ) (old new : State) (r : Result ℕ Error)
-    → Making archive_schema old → ExecutesInside 0 drop_current_text
-    (Blob node ∷ Int time ∷ Int pico ∷ []) old new r
-    → OnOk r (Making archive_schema new × (new.committed ≡ old.committed)
-    × DropsCurrent node time pico old.now.trees new.now.trees)
-drops_current node time pico old new (Err e) was h = tt
-drops_current node time pico old new (Ok count) was h =
-    let params = Blob node ∷ Int time ∷ Int pico ∷ [] in
-    let w = runs_as drop_current_text params old new archive_schema was.has
-    (Delete 2 drop_current) drop_current_is drop_current_plain count h.0 in
-    let out = from_currents old w.tally new.now (statement_of drop_current_text
-    (understood archive_schema drop_current_text)) params was.has drop_current w.changed in
-    let others = out.applied.tables in (
-      record { inside = h.1.mode; has = out.schema },
-      h.1.committed_is,
-      record {
-        rest = record {
-          meta = others.0 (apart_by 0 4 refl);
-          records =
-              others.1.0 (apart_by 1 4 refl);
-          vectors = others.1.1.1.0 (apart_by 6 4 refl);
-        };
-        left = λ numbered_rows. out.applied.rows
-            ∙ removed 4 current_tests (col 1 0 ∷ []) params (overlay old.now.trees [])
-            (λ r. is_current_of node time pico (current_columns r))
-            (λ r. three_true (same (column r 1) (Blob node)) (same (column r 2) (Int time))
-            (same (column r 3) (Int pico))) (λ r. refl) numbered_rows out.rows
-            (out.are.answer Null);
-      },
-    )
-
 abbrev vector_tests : List Term
 vector_tests = eq (col 1 0) (col 0 0) ∷ []
 
@@ -134,22 +89,6 @@ unnumbered_currents v (x ∷ r) = refl
 
 abbrev nine : List Collation
 nine = Binary ∷ Binary ∷ Binary ∷ Binary ∷ Binary ∷ Binary ∷ Binary ∷ Binary ∷ Binary ∷ []
-
-abbrev key_tests : List Term
-key_tests = eq (col 1 4) (col 0 0) ∷ eq (col 1 5) (col 0 1) ∷ eq (col 1 6) (col 0 2)
-    ∷ op1 Not (col 3 0) ∷ []
-
-abbrev add_current : Program
-add_current = record { lets = []; body = asking currents_from key_tests currents_project nine }
-
-add_current_is : command_of (understood archive_schema add_current_text)
-    ≡ Insert 2 (Asks add_current)
-unfolding understood everything
-add_current_is = refl
-
-add_current_plain : IsPlain (understood archive_schema add_current_text)
-unfolding understood everything
-add_current_plain = (refl, refl)
 
 abbrev fill_currents : Program
 fill_currents = record {
@@ -199,29 +138,6 @@ currents_more q program params db after means it answer =
           (IsPermutation-map current_columns _ _ put.0));
       numbered = put.1;
     }
-
-pub adds_current : (node : List ℕ) (time pico : ℤ) (old new : State) (r : Result ℕ Error)
-    → Making archive_schema old → ExecutesInside 0 add_current_text
-    (Blob node ∷ Int time ∷ Int pico ∷ []) old new r
-    → OnOk r (Making archive_schema new × (new.committed ≡ old.committed)
-    × PutsCurrents (is_of node time pico) old.now.trees new.now.trees)
-adds_current node time pico old new (Err e) was h = tt
-adds_current node time pico old new (Ok count) was h =
-    let params = Blob node ∷ Int time ∷ Int pico ∷ [] in
-    let db = old.now.trees in
-    let w = runs_as add_current_text params old new archive_schema was.has
-    (Insert 2 (Asks add_current)) add_current_is add_current_plain count h.0 in
-    let it = into_currents old w.tally new.now (statement_of add_current_text
-    (understood archive_schema add_current_text)) params was.has (Asks add_current) w.changed in (
-      record { inside = h.1.mode; has = it.schema },
-      h.1.committed_is,
-      currents_more (is_of node time pico) add_current params db new.now
-          (λ typed rows a. currents_put params db key_tests (is_of node time pico) (λ r.
-          regrouped (same (column r 4) (Blob node)) (same (column r 5) (Int time))
-          (same (column r 6) (Int pico)) (is_true (unary Not (laters params db r)))
-          ∙ ap (λ b. is_of node time pico (columns_of r) && b) (none_later params db r)) typed
-          nine rows a) it (it.are.answer Null),
-    )
 
 abbrev first_terms : List Term
 first_terms = lit Null ∷ col 0 0 ∷ col 0 1 ∷ col 0 2 ∷ col 0 3 ∷ col 0 4
@@ -430,11 +346,11 @@ set_vector_plain : IsPlain (understood archive_schema set_vector_text)
 unfolding understood everything
 set_vector_plain = (refl, refl)
 
-empty_by : {A : Type 0} (xs : List A) → length xs ≡ 0 → xs ≡ []
+pub empty_by : {A : Type 0} (xs : List A) → length xs ≡ 0 → xs ≡ []
 empty_by [] e = refl
 empty_by (x ∷ xs) e = absurd (omega (arith, e))
 
-single_by : {A B : Type 0} (b : B) (xs : List A) → length xs ≡ 1 → map (λ _. b) xs ≡ b ∷ []
+pub single_by : {A B : Type 0} (b : B) (xs : List A) → length xs ≡ 1 → map (λ _. b) xs ≡ b ∷ []
 single_by b [] e = absurd (omega (arith, e))
 single_by b (x ∷ []) e = refl
 single_by b (x ∷ y ∷ xs) e = absurd (omega (arith, e))
@@ -503,11 +419,13 @@ module _ (origin number tick : ℤ) (db : Trees) (tally : Tally) (after : Databa
           rest = set_rest;
           left =
               λ _. set_now ∙ ap (λ rs.
-              put_all (without_all (db 6) (ids_of rs)) (map (λ s. cast_row fourth_table (drop 1 s)) rs))
+              put_all (without_all (db 6) (ids_of rs))
+              (map (λ s. cast_row fourth_table (drop 1 s)) rs))
               empty ∙ sym kept;
         }
 
-    set_written : (r : Row) → vector_columns (cast_row fourth_table (drop 1 (set_source r))) ≡ set_row
+    set_written : (r : Row) → vector_columns (cast_row fourth_table (drop 1 (set_source r)))
+        ≡ set_row
     set_written r = rw (cast_int origin, cast_int number, cast_int tick) refl
 
     set_one : length it.rows ≡ 1 → Lists (after.trees catalog_tree) archive_schema

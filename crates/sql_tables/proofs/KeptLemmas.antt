@@ -22,10 +22,11 @@ use Rattle.records.proofs.ContentLemmas.{vec_bounds}
 use Rattle.records.proofs.LearnLemmas.{next_found}
 use Rattle.sql_tables.specs.Words.{cells, cells_of}
 use Rattle.sql_tables.specs.Derived.{AreKept, AreNumbered, IsCells, IsNextRow, currents_of, current_columns, is_current_of, is_of, is_newer, same, above, last_of, vectors_of, vector_columns}
-use Rattle.sql_tables.specs.Keeping.{AddsRecord, ChangesCurrents, Keeps, Fills, currents_where, is_vector_of}
+use Rattle.sql_tables.specs.Keeping.{AddsRecord, ChangesCurrents, TakesIn, Keeps, Fills, currents_where, is_vector_of}
 use Rattle.sql_tables.specs.State.{Adds, IsNewArchive, IsCompleted, KeepsFirst}
 use Rattle.sql_tables.specs.Rows.{row_of, AreRecords, IsFilled}
 use Rattle.sql_tables.proofs.DerivedLemmas.{currents_changed, vectors_changed}
+use Rattle.sql_tables.proofs.RaiseLemmas.{new_cells}
 
 -- ---- rows of their kinds
 
@@ -146,7 +147,7 @@ next_row R r db stand adds = record {
 
 -- ---- the tables behind the writes
 
-filtered_numbered : (p : Row → Bool) (rows : List Row) → AreNumbered rows
+pub filtered_numbered : (p : Row → Bool) (rows : List Row) → AreNumbered rows
     → AreNumbered (filter p rows)
 filtered_numbered p rows was = record {
   apart =
@@ -161,34 +162,55 @@ module _ (origin number tick : ℤ) (node : List ℕ) (time pico asked : ℤ) (w
   abbrev not_here : Row → Bool
   not_here c = not (is_current_of node time pico c)
 
-  currents_kept : (old added changed : Trees) → AddsRecord row old added
-      → ChangesCurrents node time pico added changed → AreKept old
-      → AllByRecursion IsCells (cells (old 1)) → IsCells row
-      → IsPermutation (currents_of (cells (added 1))) (map current_columns (changed 4))
-      × AreNumbered (changed 4)
-  currents_kept old added changed adds makes was each it =
+  -- rows that are made anew take the row in
+  pub changes_take_in : (old new : Trees) → ChangesCurrents node time pico old new
+      → TakesIn row old new
+  changes_take_in old new makes =
       let d = makes.dropped in
       let p = makes.put in
-      let numbered : AreNumbered (added 4) = subst AreNumbered (sym adds.currents) was.numbered.0 in
-      let left : makes.between 4 ≡ filter (λ r. not_here (current_columns r)) (old 4) =
-      d.left numbered ∙ ap (filter (λ r. not_here (current_columns r))) adds.currents in
-      let typed : AllByRecursion IsCells (cells (added 1)) =
-      cells_permuted (row ∷ cells (old 1)) (cells (added 1)) adds.records (it, each) in
-      let more : IsPermutation (currents_where (is_of node time pico) (cells (makes.between 1))
-      ++ map current_columns (makes.between 4)) (map current_columns (changed 4)) =
-      p.more (subst (λ rs. AllByRecursion IsCells (cells rs)) (sym d.rest.records) typed) in
-      let now : IsPermutation (currents_where (is_of node time pico) (cells (added 1))
-      ++ filter not_here (map current_columns (old 4))) (map current_columns (changed 4)) =
-      subst₂ (λ rs ls. IsPermutation (currents_where (is_of node time pico) (cells rs) ++ ls)
-      (map current_columns (changed 4))) d.rest.records
-      (ap (map current_columns) left ∙ sym (filter-map not_here current_columns (old 4))) more
-      in (
-        currents_changed origin number tick node time pico asked who value (cells (old 1))
-            (cells (added 1)) (map current_columns (old 4))
-            (map current_columns (changed 4)) adds.records was.currents now,
-        p.numbered (subst AreNumbered (sym left) (filtered_numbered
-            (λ r. not_here (current_columns r)) (old 4) was.numbered.0)),
-      )
+      record {
+        rest = record {
+          meta = p.rest.meta ∙ d.rest.meta;
+          records = p.rest.records ∙ d.rest.records;
+          vectors = p.rest.vectors ∙ d.rest.vectors;
+        };
+        follow = λ a.
+            let left : makes.between 4 ≡ filter (λ r. not_here (current_columns r)) (old 4) =
+            d.left a.numbered in
+            let typed : AllByRecursion IsCells (cells (old 1)) =
+            cells_permuted (row ∷ a.others) (cells (old 1)) a.records
+            (new_cells origin number tick node time pico asked who value, a.typed) in
+            let more : IsPermutation (currents_where (is_of node time pico)
+            (cells (makes.between 1)) ++ map current_columns (makes.between 4))
+            (map current_columns (new 4)) =
+            p.more (subst (λ rs. AllByRecursion IsCells (cells rs)) (sym d.rest.records) typed) in
+            let now : IsPermutation (currents_where (is_of node time pico) (cells (old 1))
+            ++ filter not_here (map current_columns (old 4))) (map current_columns (new 4)) =
+            subst₂ (λ rs ls. IsPermutation (currents_where (is_of node time pico) (cells rs) ++ ls)
+            (map current_columns (new 4))) d.rest.records
+            (ap (map current_columns) left ∙ sym (filter-map not_here current_columns (old 4))) more
+            in (
+              currents_changed origin number tick node time pico asked who value a.others
+                  (cells (old 1)) (map current_columns (old 4)) (map current_columns (new 4))
+                  a.records a.currents now,
+              p.numbered (subst AreNumbered (sym left) (filtered_numbered
+                  (λ r. not_here (current_columns r)) (old 4) a.numbered)),
+            );
+      }
+
+  currents_kept : (old added changed : Trees) → AddsRecord row old added
+      → TakesIn row added changed → AreKept old → AllByRecursion IsCells (cells (old 1))
+      → IsPermutation (currents_of (cells (added 1))) (map current_columns (changed 4))
+      × AreNumbered (changed 4)
+  currents_kept old added changed adds takes was each =
+      takes.follow (record {
+        others = cells (old 1);
+        records = adds.records;
+        typed = each;
+        currents = subst (λ rs. IsPermutation (currents_of (cells (old 1)))
+            (map current_columns rs)) (sym adds.currents) was.currents;
+        numbered = subst AreNumbered (sym adds.currents) was.numbered.0;
+      })
 
   abbrev not_ours : Row → Bool
   not_ours c = not (is_vector_of origin c)
@@ -197,15 +219,14 @@ module _ (origin number tick : ℤ) (node : List ℕ) (time pico asked : ℤ) (w
   all_kept : (old new : Trees) → Keeps row old new → AreKept old → IsNextRow row old
       → AreKept new × IsPermutation (row ∷ cells (old 1)) (cells (new 1)) × (new 0 ≡ old 0)
   all_kept old new k was next =
-      let cur = currents_kept old k.added k.changed k.adds k.currents was next.each next.it in
+      let cur = currents_kept old k.added k.changed k.adds k.currents was next.each in
       let d = k.vectors.dropped in
       let p = k.vectors.put in
       let records : new 1 ≡ k.added 1 =
-      p.rest.records ∙ (d.rest.records ∙ (k.currents.put.rest.records
-      ∙ k.currents.dropped.rest.records)) in
+      p.rest.records ∙ (d.rest.records ∙ k.currents.rest.records) in
       let currents : new 4 ≡ k.changed 4 = p.rest.currents ∙ d.rest.currents in
       let vectors : k.changed 6 ≡ old 6 =
-      k.currents.put.rest.vectors ∙ (k.currents.dropped.rest.vectors ∙ k.adds.vectors) in
+      k.currents.rest.vectors ∙ k.adds.vectors in
       let left : k.vectors.between 6 ≡ filter (λ r. not_ours (vector_columns r)) (old 6) =
       d.left (subst AreNumbered (sym vectors) was.numbered.1)
       ∙ ap (filter (λ r. not_ours (vector_columns r))) vectors in
@@ -213,7 +234,7 @@ module _ (origin number tick : ℤ) (node : List ℕ) (time pico asked : ℤ) (w
       cells_permuted (row ∷ cells (old 1)) (cells (k.added 1)) k.adds.records
       (next.it, next.each) in
       let there : k.vectors.between 1 ≡ k.added 1 =
-      d.rest.records ∙ (k.currents.put.rest.records ∙ k.currents.dropped.rest.records) in
+      d.rest.records ∙ k.currents.rest.records in
       let more : IsPermutation (last_of row ∷ map vector_columns (k.vectors.between 6))
       (map vector_columns (new 6)) =
       p.more (subst (λ rs. AllByRecursion IsCells (cells rs)) (sym there) typed) in
@@ -236,8 +257,7 @@ module _ (origin number tick : ℤ) (node : List ℕ) (time pico asked : ℤ) (w
           );
         },
         subst (λ rs. IsPermutation (row ∷ cells (old 1)) (cells rs)) (sym records) k.adds.records,
-        p.rest.meta ∙ (d.rest.meta ∙ (k.currents.put.rest.meta
-            ∙ (k.currents.dropped.rest.meta ∙ k.adds.meta))),
+        p.rest.meta ∙ (d.rest.meta ∙ (k.currents.rest.meta ∙ k.adds.meta)),
       )
 
   pub adds_by_keeping : (old new : Trees) → Keeps row old new → AreKept old → IsNextRow row old

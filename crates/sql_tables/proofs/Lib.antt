@@ -5,8 +5,10 @@ pub mod DerivedLemmas
 pub mod RemoveLemmas
 pub mod ChangeLemmas
 pub mod MadeLemmas
+pub mod RaiseLemmas
 pub mod KeepLemmas
 pub mod KeptLemmas
+pub mod RenewLemmas
 pub mod AgreeLemmas
 pub mod AgreedLemmas
 pub mod FreeLemmas

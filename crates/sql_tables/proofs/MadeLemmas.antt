@@ -140,11 +140,12 @@ pub five_true : (a b c d e : Bool)
     → (a && (b && (c && (d && (e && true))))) ≡ (a && (b && (c && (d && e))))
 five_true a b c d e = ap (λ x. a && (b && (c && (d && x)))) (one_true e)
 
-pub regrouped : (a b c d : Bool) → (a && (b && (c && (d && true)))) ≡ ((a && (b && c)) && d)
-regrouped true true true d = one_true d
-regrouped true true false d = refl
-regrouped true false c d = refl
-regrouped false b c d = refl
+pub regrouped : (a b c d e : Bool)
+    → (a && (b && (c && (d && (e && true))))) ≡ ((a && (b && c)) && (d && e))
+regrouped true true true d e = ap (λ x. d && x) (one_true e)
+regrouped true true false d e = refl
+regrouped true false c d e = refl
+regrouped false b c d e = refl
 
 pub cast_same : (v : Value) (n : ℤ) → v ≡ Int n → cast Integer v ≡ v
 cast_same v n e = ap (cast Integer) e ∙ cast_int n ∙ sym e

@@ -70,12 +70,13 @@ abbrev pub before_text : List ℕ
 before_text = codes
     "SELECT origin, number, tick, node, time, pico, asked, who, value FROM records2 WHERE node = ?1 AND time <= ?2 AND (time < ?2 OR pico < ?3) ORDER BY time DESC, pico DESC, tick DESC, origin DESC LIMIT ?4"
 
-abbrev pub drop_current_text : List ℕ
-drop_current_text = codes "DELETE FROM currents2 WHERE node = ?1 AND time = ?2 AND pico = ?3"
+abbrev pub raise_current_text : List ℕ
+raise_current_text =
+    codes "UPDATE currents2 SET tick = ?4, origin = ?5, live = ?6 <> 4, extra = 1, value = ?7 WHERE node = ?1 AND time = ?2 AND pico = ?3 AND tick <= ?4 AND (tick < ?4 OR origin < ?5)"
 
-abbrev pub add_current_text : List ℕ
-add_current_text =
-    codes "INSERT INTO currents2 SELECT r.node, r.time, r.pico, r.tick, r.origin, r.asked <> 4, EXISTS (SELECT 1 FROM records2 AS s WHERE s.node = r.node AND s.time = r.time AND s.pico = r.pico AND (s.tick <> r.tick OR s.origin <> r.origin)), r.value FROM records2 AS r WHERE r.node = ?1 AND r.time = ?2 AND r.pico = ?3 AND NOT EXISTS (SELECT 1 FROM records2 AS s WHERE s.node = r.node AND s.time = r.time AND s.pico = r.pico AND s.tick >= r.tick AND (s.tick > r.tick OR s.origin > r.origin))"
+abbrev pub mark_current_text : List ℕ
+mark_current_text =
+    codes "UPDATE currents2 SET extra = 1 WHERE node = ?1 AND time = ?2 AND pico = ?3 AND tick >= ?4 AND (tick > ?4 OR origin > ?5)"
 
 abbrev pub first_current_text : List ℕ
 first_current_text = codes "INSERT INTO currents2 VALUES (?1, ?2, ?3, ?4, ?5, ?6 <> 4, 0, ?7)"

@@ -3,13 +3,13 @@
 use Rattle.std.specs.Prelude.{◌≡◌, true, false, ℕ, ℤ, not, ◌&&◌, Bool, List, [], ◌∷◌, ◌++◌, map, filter, IsPermutation}
 use Rattle.std.specs.List.{list_any, AllByRecursion}
 use Rattle.sqlite_value.specs.declared.value.Value.TheVariants.{Int}
-use Rattle.sqlite_value.specs.Order.{Row, column, bytes}
+use Rattle.sqlite_value.specs.Order.{Row, column}
 use Rattle.sqlite_trees.specs.Tree.{Trees}
 use Rattle.sqlite_trees.specs.Objects.{catalog_tree}
 use Rattle.sqlite_catalog.specs.Listing.{Lists}
 use Rattle.sql_schema.specs.Tables.{archive_schema}
 use Rattle.sql_tables.specs.Words.{cells}
-use Rattle.sql_tables.specs.Derived.{AreNumbered, IsCells, is_of, is_current_of, is_later, current_of, current_columns, same, vector_columns, last_of, int_in, vectors_of}
+use Rattle.sql_tables.specs.Derived.{AreNumbered, IsCells, is_of, is_current_of, is_later, current_of, currents_of, current_columns, same, vector_columns, last_of, int_in, vectors_of}
 
 -- one row more in records2
 pub record AddsRecord (row : Row) (old new : Trees) : Type 0 where
@@ -76,6 +76,32 @@ pub record ChangesCurrents (node : List ℕ) (time pico : ℤ) (old new : Trees)
   pub dropped : DropsCurrent node time pico old between
   pub put : PutsCurrents (is_of node time pico) between new
 
+-- one row of records2 is this, and currents2 holds the rows that follow from the others
+pub record AwaitsRow (row : Row) (db : Trees) : Type 0 where
+  pub others : List Row
+  pub records : IsPermutation (row ∷ others) (cells (db 1))
+  pub typed : AllByRecursion IsCells others
+  pub currents : IsPermutation (currents_of others) (map current_columns (db 4))
+  pub numbered : AreNumbered (db 4)
+
+-- where currents2 held the rows that follow but for this one of records2, it now holds all
+pub record TakesIn (row : Row) (old new : Trees) : Type 0 where
+  pub rest : KeepsBesideCurrents old new
+  pub follow : AwaitsRow row old
+      → IsPermutation (currents_of (cells (old 1))) (map current_columns (new 4))
+      × AreNumbered (new 4)
+
+-- no table has changed
+pub record KeepsTables (old new : Trees) : Type 0 where
+  pub rest : KeepsBesideCurrents old new
+  pub currents : new 4 ≡ old 4
+
+-- so many rows of currents2 were written: where none was, no table has changed, and where one was,
+-- the row of records2 is taken in
+pub record Renews (count : ℕ) (row : Row) (old new : Trees) : Type 0 where
+  pub none : count ≡ 0 → KeepsTables old new
+  pub one : count ≡ 1 → TakesIn row old new
+
 -- the row of vectors of this origin is another now, and the tables of an archive are listed
 pub record ChangesVectors (row : Row) (origin : ℤ) (old new : Trees) : Type 0 where
   pub between : Trees
@@ -111,12 +137,12 @@ pub record IsOnly (row : Row) (node : List ℕ) (time pico : ℤ) (db : Trees) :
 abbrev pub int_at : Row → ℕ → ℤ
 int_at c at = int_in (column c at)
 
--- a record's row is added, and the rows that follow are made anew
+-- a record's row is added, and the tables that follow take it in
 pub record Keeps (row : Row) (old new : Trees) : Type 0 where
   pub added : Trees
   pub changed : Trees
   pub adds : AddsRecord row old added
-  pub currents : ChangesCurrents (bytes (column row 3)) (int_at row 4) (int_at row 5) added changed
+  pub currents : TakesIn row added changed
   pub vectors : ChangesVectors (last_of row) (int_at row 0) changed new
 
 -- currents2 and vectors are filled with the rows that follow from those of records2, and the tables

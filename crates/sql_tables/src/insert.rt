@@ -4,9 +4,8 @@ ghost use Rattle.std.specs.Prelude.{◌≡◌, ◌∷◌, [], false, IfOk, OnErr
 ghost use Rattle.sqlite.specs.State.{HasCleanDisk, Survives};
 ghost use Rattle.sqlite.specs.Held.{state};
 ghost use Rattle.sql_schema.specs.Tables.{archive_schema};
-ghost use Rattle.sql_tables.specs.Derived.{is_of};
 ghost use Rattle.sql_tables.specs.State.{Idles, Making, IsOpenAndIdle};
-ghost use Rattle.sql_tables.specs.Keeping.{AddsRecord, HasNoRowAt, IsOnly, DropsCurrent, PutsCurrents, ChangesCurrents, ChangesVectors, SetsVectors, Keeps, vector_cells, PutsVectors};
+ghost use Rattle.sql_tables.specs.Keeping.{AddsRecord, HasNoRowAt, IsOnly, ChangesCurrents, TakesIn, Renews, ChangesVectors, SetsVectors, Keeps, vector_cells, PutsVectors};
 ghost use Rattle.sql_tables.specs.Connections.{WhereClean, Sees, tables_of, CommitsNothing, KeepsLastCommit, ChangesBy, Writes, WritesListed, Commits};
 ghost use Rattle.sql_tables.specs.Words.{row_of_cells};
 
@@ -30,33 +29,39 @@ pub fn add_record<S: Alter>(tx: &mut Transaction<'_, S>, r: &Cells) -> Result<us
     )
 }
 
-/// Takes out the current value of a record's node and time.
-fn drop_current<S: Alter>(tx: &mut Transaction<'_, S>, r: &Cells) -> Result<usize, Error>
+/// Makes a record the current value of its node and time where it is later than the one that stands there, and
+/// tells how many rows those are.
+fn raise_current<S: Alter>(tx: &mut Transaction<'_, S>, r: &Cells) -> Result<usize, Error>
     requires { WhereClean S.Store tx.old.conn.now (Making archive_schema) }
-    ensures made { Writes S.Store tx.old.conn.now tx.new.conn.now archive_schema result
-        (DropsCurrent r.now.node.items r.now.time r.now.pico) }
+    ensures made { HasCleanDisk (state S.Store tx.new.conn.now)
+        → IfOk result (λ count. ChangesBy S.Store tx.old.conn.now tx.new.conn.now archive_schema
+        (Renews count (row_of_cells r.now))) }
     ensures kept { KeepsLastCommit S.Store tx.old.conn.now tx.new.conn.now }
     ensures same { tx.new.conn.ghost_name ≡ tx.old.conn.ghost_name }
     ensures crash { CommitsNothing S.Store tx.old.conn.now tx.new.conn.now }
 {
     tx.execute(
-        "DELETE FROM currents2 WHERE node = ?1 AND time = ?2 AND pico = ?3",
-        params![&r.node, &r.time, &r.pico],
+        "UPDATE currents2 SET tick = ?4, origin = ?5, live = ?6 <> 4, extra = 1, value = ?7 WHERE node = ?1 AND time = ?2 AND pico = ?3 AND tick <= ?4 AND (tick < ?4 OR origin < ?5)",
+        params![
+            &r.node, &r.time, &r.pico, &r.tick, &r.origin, &r.asked, &r.value
+        ],
     )
 }
 
-/// Puts in the current value of a record's node and time.
-fn add_current<S: Alter>(tx: &mut Transaction<'_, S>, r: &Cells) -> Result<usize, Error>
+/// Marks the current value of a record's node and time as one of several where it is later than the record, and
+/// tells how many rows those are.
+fn mark_current<S: Alter>(tx: &mut Transaction<'_, S>, r: &Cells) -> Result<usize, Error>
     requires { WhereClean S.Store tx.old.conn.now (Making archive_schema) }
-    ensures made { Writes S.Store tx.old.conn.now tx.new.conn.now archive_schema result
-        (PutsCurrents (is_of r.now.node.items r.now.time r.now.pico)) }
+    ensures made { HasCleanDisk (state S.Store tx.new.conn.now)
+        → IfOk result (λ count. ChangesBy S.Store tx.old.conn.now tx.new.conn.now archive_schema
+        (Renews count (row_of_cells r.now))) }
     ensures kept { KeepsLastCommit S.Store tx.old.conn.now tx.new.conn.now }
     ensures same { tx.new.conn.ghost_name ≡ tx.old.conn.ghost_name }
     ensures crash { CommitsNothing S.Store tx.old.conn.now tx.new.conn.now }
 {
     tx.execute(
-        "INSERT INTO currents2 SELECT r.node, r.time, r.pico, r.tick, r.origin, r.asked <> 4, EXISTS (SELECT 1 FROM records2 AS s WHERE s.node = r.node AND s.time = r.time AND s.pico = r.pico AND (s.tick <> r.tick OR s.origin <> r.origin)), r.value FROM records2 AS r WHERE r.node = ?1 AND r.time = ?2 AND r.pico = ?3 AND NOT EXISTS (SELECT 1 FROM records2 AS s WHERE s.node = r.node AND s.time = r.time AND s.pico = r.pico AND s.tick >= r.tick AND (s.tick > r.tick OR s.origin > r.origin))",
-        params![&r.node, &r.time, &r.pico],
+        "UPDATE currents2 SET extra = 1 WHERE node = ?1 AND time = ?2 AND pico = ?3 AND tick >= ?4 AND (tick > ?4 OR origin > ?5)",
+        params![&r.node, &r.time, &r.pico, &r.tick, &r.origin],
     )
 }
 
@@ -111,17 +116,23 @@ fn add_first<S: Alter>(tx: &mut Transaction<'_, S>, r: &Cells) -> Result<usize, 
     )
 }
 
-/// Makes the current value of a record's node and time anew, from all records that stand there.
+/// Has the current value of a record's node and time, where others stand, follow from the record too. None there, or
+/// more than one, would be no archive's.
 fn renew_current<S: Alter>(tx: &mut Transaction<'_, S>, r: &Cells) -> Result<(), Error>
     requires { WhereClean S.Store tx.old.conn.now (Making archive_schema) }
     ensures made { Writes S.Store tx.old.conn.now tx.new.conn.now archive_schema result
-        (ChangesCurrents r.now.node.items r.now.time r.now.pico) }
+        (TakesIn (row_of_cells r.now)) }
     ensures kept { KeepsLastCommit S.Store tx.old.conn.now tx.new.conn.now }
     ensures same { tx.new.conn.ghost_name ≡ tx.old.conn.ghost_name }
     ensures crash { CommitsNothing S.Store tx.old.conn.now tx.new.conn.now }
 {
-    drop_current(tx, r)?;
-    add_current(tx, r)?;
+    let mut written = raise_current(tx, r)?;
+    if written == 0 {
+        written = mark_current(tx, r)?;
+    }
+    if written != 1 {
+        return Err(Error::InvalidQuery);
+    }
     Ok(())
 }
 
@@ -136,7 +147,7 @@ fn change_current<S: Alter>(
         → IsOnly (row_of_cells r.now) r.now.node.items r.now.time r.now.pico
         (tables_of S.Store tx.old.conn.now) }
     ensures made { Writes S.Store tx.old.conn.now tx.new.conn.now archive_schema result
-        (ChangesCurrents r.now.node.items r.now.time r.now.pico) }
+        (TakesIn (row_of_cells r.now)) }
     ensures kept { KeepsLastCommit S.Store tx.old.conn.now tx.new.conn.now }
     ensures same { tx.new.conn.ghost_name ≡ tx.old.conn.ghost_name }
     ensures crash { CommitsNothing S.Store tx.old.conn.now tx.new.conn.now }

@@ -2,8 +2,8 @@ use Rattle.std.proofs.Common.{arith}
 use Rattle.sqlite.specs.State.{HasCleanDisk}
 use Rattle.sqlite.specs.Held.{state}
 use Rattle.sql_tables.proofs.WriteLemmas.{keeps_commit}
-use Rattle.sql_tables.proofs.KeepLemmas.{drops_current}
-use Rattle.sql_tables.proofs.insert.drop_current.Goals as goal
+use Rattle.sql_tables.proofs.RenewLemmas.{marks_current}
+use Rattle.sql_tables.proofs.insert.mark_current.Goals as goal
 
 pub returns-clause-made : goal.returns-clause-made
 returns-clause-made g c clean =
@@ -11,10 +11,15 @@ returns-clause-made g c clean =
     let early : HasCleanDisk old = omega (arith, c.execute.ensures.survives.clean, clean) in
     let was = c.requires early in
     let r = c.args.r.now in
-    drops_current r.node.items r.time r.pico old
-    (state g.S.Store c.execute.new.self.conn.now) c.execute.result was
-    (rw (c.params-to_sql.ensures, c.params-to_sql-2.ensures, c.params-to_sql-3.ensures) at
-    (c.execute.ensures.runs clean was.inside))
+    marks_current r.origin r.number r.tick r.node.items r.time r.pico r.asked r.who.items
+    r.value.items old (state g.S.Store c.execute.new.self.conn.now) c.execute.result was
+    (rw (
+      c.params-to_sql.ensures,
+      c.params-to_sql-2.ensures,
+      c.params-to_sql-3.ensures,
+      c.params-to_sql-4.ensures,
+      c.params-to_sql-5.ensures,
+    ) at (c.execute.ensures.runs clean was.inside))
 
 pub returns-clause-kept : goal.returns-clause-kept
 returns-clause-kept g c clean =
