@@ -46,20 +46,15 @@ static void done(sqlite3_stmt *p, const char *w) {
         die(w);
     sqlite3_reset(p);
 }
-static sqlite3_stmt *qv, *qf, *irec, *icur, *iagain, *dcur, *uvec, *ivec, *beg, *com, *ucur, *rep_cur,
+static sqlite3_stmt *qv, *qf, *irec, *icur, *rcur, *uvec, *ivec, *beg, *com, *ucur, *rep_cur,
     *rep_vec, *at;
 static void ready(void) {
     qv = prep("SELECT origin, number, tick FROM vectors WHERE origin = ?1");
     qf = prep("SELECT origin FROM records2 WHERE node = ?1 AND time = ?2 AND pico = ?3 LIMIT 1");
     irec = prep("INSERT INTO records2 VALUES (?1, ?2, ?3, ?4, ?5, ?6, ?7, ?8, ?9)");
     icur = prep("INSERT INTO currents2 VALUES (?1, ?2, ?3, ?4, ?5, ?6 <> 4, 0, ?7)");
-    dcur = prep("DELETE FROM currents2 WHERE node = ?1 AND time = ?2 AND pico = ?3");
-    iagain = prep(
-        "INSERT INTO currents2 SELECT r.node, r.time, r.pico, r.tick, r.origin, r.asked <> 4, EXISTS (SELECT "
-        "1 FROM records2 AS s WHERE s.node = r.node AND s.time = r.time AND s.pico = r.pico AND (s.tick <> "
-        "r.tick OR s.origin <> r.origin)), r.value FROM records2 AS r WHERE r.node = ?1 AND r.time = ?2 AND "
-        "r.pico = ?3 AND NOT EXISTS (SELECT 1 FROM records2 AS s WHERE s.node = r.node AND s.time = r.time "
-        "AND s.pico = r.pico AND s.tick >= r.tick AND (s.tick > r.tick OR s.origin > r.origin))");
+    rcur = prep("UPDATE currents2 SET tick = ?4, origin = ?5, live = ?6 <> 4, extra = 1, value = ?7 WHERE "
+                "node = ?1 AND time = ?2 AND pico = ?3 AND tick <= ?4 AND (tick < ?4 OR origin < ?5)");
     uvec = prep("UPDATE vectors SET origin = ?1, number = ?2, tick = ?3 WHERE origin = ?1");
     ivec = prep("INSERT INTO vectors VALUES (?1, ?2, ?3)");
     rep_cur = prep("INSERT INTO currents2 VALUES (?1, ?2, ?3, ?4, ?5, ?6 <> 4, 0, ?7) ON CONFLICT (node, "
@@ -108,20 +103,13 @@ static void learn(ll time, int asked, int mode, int txn) { // mode 0 as uahist, 
     sqlite3_bind_blob(irec, 8, "anonymous", 9, SQLITE_STATIC);
     sqlite3_bind_blob(irec, 9, v, nv, SQLITE_STATIC);
     done(irec, "record");
-    sqlite3_stmt *c = mode ? rep_cur : icur;
-    if (first || mode) {
-        key(c, 1, time);
-        sqlite3_bind_int64(c, 4, tick);
-        sqlite3_bind_int(c, 5, 1);
-        sqlite3_bind_int(c, 6, asked);
-        sqlite3_bind_blob(c, 7, v, nv, SQLITE_STATIC);
-        done(c, "current");
-    } else {
-        key(dcur, 1, time);
-        done(dcur, "drop");
-        key(iagain, 1, time);
-        done(iagain, "again");
-    }
+    sqlite3_stmt *c = mode ? rep_cur : first ? icur : rcur;
+    key(c, 1, time);
+    sqlite3_bind_int64(c, 4, tick);
+    sqlite3_bind_int(c, 5, 1);
+    sqlite3_bind_int(c, 6, asked);
+    sqlite3_bind_blob(c, 7, v, nv, SQLITE_STATIC);
+    done(c, "current");
     sqlite3_stmt *w = mode ? rep_vec : uvec;
     sqlite3_bind_int(w, 1, 1);
     sqlite3_bind_int64(w, 2, number);
