@@ -48,8 +48,12 @@ module _ {A C L : Type 0} (state : A → Store) where
   answer_moves gave v w Over new made ending a = same_moves v w a.2
   answer_moves gave v w (Client link) new made ending a =
       (a.settings, transitions_grow _ _ _ _ a.advances)
-  answer_moves gave v w (Peer peer) new made ending a =
+  answer_moves gave v w (Peer peer) new made ending (inl a) =
       (a.settings, talks_grow _ _ _ _ _ _ _ _ a.talks)
+  answer_moves gave v w (Peer peer) new made ending (inr a) =
+      subst (λ s. (s.settings ≡ v.server.settings)
+      × OnlyGrows (state v.server.replica.archive) (state s.replica.archive)) (sym a.server)
+      (none_moves v)
 
   -- what is told
   log_moves : (v w : World A C L) → w ≡ record v { log = w.log } → Moves state v w

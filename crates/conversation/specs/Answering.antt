@@ -3,7 +3,7 @@ use Rattle.std.specs.Prelude.{◌≡◌, ◌⊎◌, ℕ, ℤ, ◌+◌, ◌≤◌
 use Rattle.std.specs.Option.{option_map}
 use Rattle.std.specs.Result.{result_map_both}
 use Rattle.archive.specs.Store.{Store}
-use Rattle.exchange.specs.Dialogs.{DialogState}
+use Rattle.exchange.specs.Dialogs.{DialogState, party_of}
 use Rattle.exchange.specs.Frames.{frame_header}
 use Rattle.counted_io.specs.declared.fault.ServeFault.{ServeFault}
 use Rattle.counted_io.specs.declared.fault.ServeFault.TheVariants.{OutOfMemory}
@@ -17,13 +17,15 @@ use Rattle.conversation.specs.declared.other_end.PeerDialog.{PeerDialog}
 use Rattle.conversation.specs.declared.other_end.OtherEnd.{OtherEnd}
 use Rattle.conversation.specs.declared.other_end.OtherEnd.TheVariants.{Client, Peer, Stranger, Over}
 use Rattle.conversation.specs.declared.world.World.{World}
+use Rattle.conversation.specs.Admitting.{IsTimed, IsAdmitted, Refuses}
 use Rattle.conversation.specs.OtherEnds.{ConversationEnding, peer_at, unless_over}
 
--- nothing whole stands first
+-- nothing whole stands first; with a stranger it is over, so nothing is waited for
 abbrev pub IsIncomplete : OtherEnd → Type 0
 IsIncomplete other = elim other [
   | Client link ↦ NeedsBytes link
   | Peer peer ↦ frame_header peer.frames.waiting ≡ Ok None
+  | Stranger ↦ ⊥
   | _ ↦ Unit {0}
 ]
 
@@ -59,24 +61,55 @@ Tells said ends made ending =
     ((made ≡ said) × (ending ≡ peer_ending ends))
     ⊎ ((made ≡ []) × (ending ≡ Some (Err OutOfMemory)))
 
--- the frame that stood first in a peer's dialog, if it was whole, was answered over an archive;
--- what the server is set to stays, the time isn't asked for, and nothing is told
-pub record AnswersPeer {A C L : Type 0} (state : A → Store) (v : World A C L) (peer : PeerDialog)
-    (made : List ℕ) (ending : Option ConversationEnding) (w : World A C L)
-    (next : OtherEnd) : Type 0 where
+-- the frame that stood first in a peer's dialog, if it was whole, was answered over an archive,
+-- since its records are taken; what the server is set to stays, and nothing is told
+pub record AnswersPeer {A C L : Type 0} (state : A → Store) (gave : C → List ℤ → C → Type 0)
+    (v : World A C L) (peer : PeerDialog) (made : List ℕ) (ending : Option ConversationEnding)
+    (w : World A C L) (next : OtherEnd) : Type 0 where
+  pub readings : List ℤ
+  pub time : ℤ
   pub said : List ℕ
   pub rest : List ℕ
   pub ends : Option (Result PeerEnded ServeFault)
   pub last : DialogState
   pub settings : w.server.settings ≡ v.server.settings
-  pub clock : w.clock ≡ v.clock
+  pub clock : gave v.clock readings w.clock
+  pub timed : IsTimed v.server.settings readings time
   pub log : w.log ≡ v.log
   pub from : w.from ≡ v.from
+  pub admitted : IsAdmitted v.server.settings time (party_of (state v.server.replica.archive))
+      peer.frames.waiting
   pub talks : Talks peer.dialog (state v.server.replica.archive) (state w.server.replica.archive)
       peer.frames.waiting said rest ends last
   pub one : ends ≡ None → last.taken ≤ peer.dialog.taken + 1
   pub tells : Tells said ends made ending
   pub leaves : next ≡ unless_over ending (Peer (peer_at last rest))
+
+-- the records of the frame that stood first in a peer's dialog aren't taken, or memory to tell that
+-- was wanting: the peer is told, the connection is over, and what is held stays
+pub record RefusesPeer {A C L : Type 0} (state : A → Store) (gave : C → List ℤ → C → Type 0)
+    (v : World A C L) (peer : PeerDialog) (made : List ℕ) (ending : Option ConversationEnding)
+    (w : World A C L) (next : OtherEnd) : Type 0 where
+  pub readings : List ℤ
+  pub time : ℤ
+  pub said : List ℕ
+  pub ends : Option (Result PeerEnded ServeFault)
+  pub server : w.server ≡ v.server
+  pub clock : gave v.clock readings w.clock
+  pub timed : IsTimed v.server.settings readings time
+  pub log : w.log ≡ v.log
+  pub from : w.from ≡ v.from
+  pub refuses : Refuses v.server.settings time (party_of (state v.server.replica.archive))
+      peer.frames.waiting said ends
+  pub tells : Tells said ends made ending
+  pub leaves : next ≡ unless_over ending (Peer peer)
+
+-- what stood first in a peer's dialog was answered, or its records weren't taken
+abbrev pub MeetsPeer : {A C L : Type 0} → (A → Store) → (C → List ℤ → C → Type 0) → World A C L
+    → PeerDialog → (made : List ℕ) → Option ConversationEnding → World A C L → OtherEnd → Type 0
+MeetsPeer state gave v peer made ending w next =
+    AnswersPeer state gave v peer made ending w next
+    ⊎ RefusesPeer state gave v peer made ending w next
 
 -- with a stranger it is over: nothing is said, and nothing changes
 abbrev pub TurnsAway : {A C L : Type 0} → World A C L → (made : List ℕ)
@@ -91,7 +124,7 @@ abbrev pub AnswersFirst : {A C L : Type 0} → (A → Store) → (C → List ℤ
 AnswersFirst state gave v (Client link) made ending w new =
     AnswersClient state gave v link made ending w new
 AnswersFirst state gave v (Peer peer) made ending w new =
-    AnswersPeer state v peer made ending w new
+    MeetsPeer state gave v peer made ending w new
 AnswersFirst state gave v Stranger made ending w new = TurnsAway v made ending w new
 AnswersFirst state gave v other made ending w new =
     (made ≡ []) × (ending ≡ None) × (w ≡ v) × (new ≡ other)

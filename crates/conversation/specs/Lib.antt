@@ -2,6 +2,7 @@ pub mod Networks
 pub mod Doors
 pub mod OtherEnds
 pub mod Receiving
+pub mod Admitting
 pub mod Answering
 pub mod Closing
 pub mod Starting

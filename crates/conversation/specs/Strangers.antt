@@ -20,8 +20,7 @@ pub record IsTurnedAway {A C L : Type 0} (v : World A C L) (made : List ℕ)
   pub same : w ≡ v
   pub over : next ≡ Over
 
--- a connection to the door of peers from where none is taken is turned away at its first turn,
--- before anything of it was read
+-- a connection to the door of peers from where none is taken is turned away at its first turn
 abbrev pub StrangersAreTurnedAway : {A C L : Type 0} → (A → Store) → (C → List ℤ → C → Type 0)
     → LogCalls L → Type 0
 StrangersAreTurnedAway {A} {C} {L} state gave log =
@@ -29,3 +28,11 @@ StrangersAreTurnedAway {A} {C} {L} state gave log =
     (ending : Option ConversationEnding) → is_stranger u.from origin ≡ true
     → (behavior_over state gave log).begins origin u first v
     → AnswersFirst state gave v first made ending w next → IsTurnedAway v made ending w next
+
+-- and before that nothing of it is read, since nothing is waited for
+abbrev pub StrangersAreUnread : {A C L : Type 0} → (A → Store) → (C → List ℤ → C → Type 0)
+    → LogCalls L → Type 0
+StrangersAreUnread {A} {C} {L} state gave log =
+    let behavior = behavior_over state gave log in
+    (origin : Origin) (u v : World A C L) (first : OtherEnd) → is_stranger u.from origin ≡ true
+    → behavior.begins origin u first v → behavior.needs_more first → ⊥

@@ -1,6 +1,6 @@
 //! What stands first in what came, and its answer.
 
-ghost use Rattle.std.specs.Prelude.{◌≡◌, ◌++◌, ◌+◌, ◌≤◌, List, ℕ, [], true, false, None, Ok};
+ghost use Rattle.std.specs.Prelude.{◌≡◌, ◌⊎◌, ◌++◌, ◌+◌, ◌≤◌, List, ℕ, [], true, false, None, Ok, Result};
 ghost use Rattle.multiplex.specs.Progress.{end_in};
 ghost use Rattle.multiplex.specs.declared.handler.Progress.TheVariants.{NeedsMore as Lacks};
 ghost use Rattle.exchange.specs.Frames.{frame_header};
@@ -8,18 +8,25 @@ ghost use Rattle.ua_connection.specs.Turns.{NeedsBytes, ending_of};
 ghost use Rattle.ua_connection.specs.declared.turn.Step.TheVariants.{NeedsInput};
 ghost use Rattle.ua_peers.specs.Talking.{ending_of as peer_ending_of};
 ghost use Rattle.ua_peers.specs.Peers.{Talks};
+ghost use Rattle.exchange.specs.Dialogs.{party_of, TellsFault};
+ghost use Rattle.exchange.specs.declared.fault.ExchangeFault.{ExchangeFault as Fault};
+ghost use Rattle.exchange.specs.declared.message.State.{State as Standing};
+ghost use Rattle.ua_peers.specs.Peers.{ended_as, is_silent};
+ghost use Rattle.conversation.specs.Admitting.{IsAdmitted, Refuses};
 ghost use Rattle.conversation.specs.OtherEnds.{unless_over, is_established, IsUsable};
-ghost use Rattle.conversation.specs.Answering.{IsIncomplete, client_ending, peer_ending, AnswersClient, AnswersPeer, AnswersFirst};
+ghost use Rattle.conversation.specs.Answering.{IsIncomplete, client_ending, peer_ending, AnswersClient, MeetsPeer, AnswersFirst};
 ghost use Rattle.conversation.specs.declared.other_end.OtherEnd.TheVariants.{Client, Peer};
 
+use crate::admitting::{admission_at, time_at};
 use crate::ended::Ended;
 use crate::other_end::{OtherEnd, PeerDialog};
 use crate::world::World;
 use archive::Archive;
 use counted_io::ServeFault;
-use exchange::{ExchangeFault, State};
+use exchange::{ExchangeFault, State, tell_fault};
 use historian::Server;
 use multiplex::Progress;
+use std::alloc::Global;
 use ua_connection::{Clock, Connection, Step};
 use ua_peers::{PeerEnded, take_first};
 
@@ -112,6 +119,57 @@ fn take_frame<A: Archive>(
     peer_progress(first, peer.dialog.peer_code(), said.as_slice().is_empty())
 }
 
+/// Tells a peer why its records aren't taken. What is said is appended to `said`, which is empty.
+fn refuse_frame(
+    alloc: Global,
+    fault: ExchangeFault,
+    said: &mut Vec<u8>,
+) -> Progress<Result<Ended, ServeFault>>
+    requires { said.old.items ≡ [] }
+    ensures tells { (told : Result Standing Fault) × TellsFault fault told [] said.new.items
+        × (end_in result ≡ peer_ending (ended_as None (is_silent said.new.items) told)) }
+    ensures whole { result ≡ Lacks → ⊥ }
+    ensures over { end_in result ≡ None → ⊥ }
+{
+    let told = tell_fault(alloc, fault, said);
+    peer_progress(Some(told), None, said.as_slice().is_empty())
+}
+
+/// Answers the frame that stands first in a peer's dialog, if it is whole, where its records are taken at this time; else the
+/// peer is told why, and all stays. What is said is appended to `said`, which is empty.
+fn answer_frame<A: Archive>(
+    server: &mut Server<A>,
+    time: i64,
+    peer: &mut PeerDialog,
+    said: &mut Vec<u8>,
+) -> Progress<Result<Ended, ServeFault>>
+    requires sound { IsUsable (Peer peer.old) }
+    requires empty { said.old.items ≡ [] }
+    ensures answers { (ends : _) × (end_in result ≡ peer_ending ends)
+        × ((IsAdmitted server.old.settings time (party_of (A.state server.old.replica.archive))
+        peer.old.frames.waiting
+        × Talks peer.old.dialog (A.state server.old.replica.archive)
+        (A.state server.new.replica.archive) peer.old.frames.waiting said.new.items
+        peer.new.frames.waiting ends peer.new.dialog)
+        ⊎ (Refuses server.old.settings time (party_of (A.state server.old.replica.archive))
+        peer.old.frames.waiting said.new.items ends × (server.new ≡ server.old)
+        × (peer.new ≡ peer.old))) }
+    ensures settings { server.new.settings ≡ server.old.settings }
+    ensures goes { end_in result ≡ None
+        → IsUsable (Peer peer.new) × (peer.new.dialog.taken ≤ peer.old.dialog.taken + 1) }
+    ensures lacks { result ≡ Lacks
+        → (said.new.items ≡ []) × (frame_header peer.new.frames.waiting ≡ Ok None) }
+{
+    let admission = admission_at(&server.settings, time);
+    match server
+        .replica
+        .judge_first(server.alloc, &admission, &peer.frames)
+    {
+        Ok(()) => take_frame(server, peer, said),
+        Err(fault) => refuse_frame(server.alloc, fault, said),
+    }
+}
+
 /// Appends bytes. Whether memory for them was there; else all stays.
 pub(crate) fn append(bytes: Vec<u8>, out: &mut Vec<u8>) -> bool
     ensures appended { result ≡ true → out.new.items ≡ out.old.items ++ bytes.items }
@@ -128,21 +186,22 @@ pub(crate) fn append(bytes: Vec<u8>, out: &mut Vec<u8>) -> bool
 }
 
 /// Answers the frame that stands first in a peer's dialog, if it is whole.
-fn answer_peer<A: Archive, C, L>(
+fn answer_peer<A: Archive, C: Clock, L>(
     world: &mut World<A, C, L>,
     peer: &mut PeerDialog,
     out: &mut Vec<u8>,
 ) -> Progress<Result<Ended, ServeFault>>
     requires { IsUsable (Peer peer.old) }
     ensures answers { (made : List ℕ) × (out.new.items ≡ out.old.items ++ made)
-        × AnswersPeer A.state world.old peer.old made (end_in result) world.new
+        × MeetsPeer A.state C.gave world.old peer.old made (end_in result) world.new
         (unless_over (end_in result) (Peer peer.new)) }
     ensures sound { end_in result ≡ None → IsUsable (Peer peer.new) }
     ensures lacks { result ≡ Lacks
         → (out.new.items ≡ out.old.items) × (frame_header peer.new.frames.waiting ≡ Ok None) }
 {
+    let time = time_at(&world.server.settings, &mut world.clock);
     let mut said = Vec::new(world.server.alloc);
-    let progress = take_frame(&mut world.server, peer, &mut said);
+    let progress = answer_frame(&mut world.server, time, peer, &mut said);
     if append(said, out) {
         progress
     } else {

@@ -4,7 +4,7 @@ ghost use Rattle.std.specs.Prelude.{◌≡◌, []};
 ghost use Rattle.conversation.specs.Alone.{ClientAloneIsAnswered};
 ghost use Rattle.conversation.specs.ClientsDoors.{IsAtClientsDoor, NoPeerComes, NoPeerIsAnswered};
 ghost use Rattle.conversation.specs.Closing.{log_calls};
-ghost use Rattle.conversation.specs.Strangers.{StrangersAreTurnedAway};
+ghost use Rattle.conversation.specs.Strangers.{StrangersAreTurnedAway, StrangersAreUnread};
 ghost use Rattle.conversation.specs.declared.door.Door.TheVariants.{Clients};
 ghost use Rattle.conversation.specs.declared.other_end.OtherEnd.TheVariants.{Unknown};
 
@@ -39,6 +39,8 @@ pub fn a_clients_door_takes_no_peer<A: Archive, C: Clock, L: Log>()
 /// Who comes to the door of peers from where none is taken is turned away at the first turn: nothing of it is read, nothing is
 /// said, and nothing changes.
 pub fn a_stranger_is_not_heard<A: Archive, C: Clock, L: Log>()
-    ensures { StrangersAreTurnedAway A.state C.gave
+    ensures turned_away { StrangersAreTurnedAway A.state C.gave
+        (log_calls L.told L.told_failed L.told_call) }
+    ensures unread { StrangersAreUnread A.state C.gave
         (log_calls L.told L.told_failed L.told_call) }
 {}

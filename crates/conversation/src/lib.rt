@@ -1,6 +1,7 @@
 //! What is said on one connection of a server of histories, a client's or a peer's, message by message.
 #![tactic(auto)]
 
+mod admitting;
 mod answering;
 mod calling;
 mod closing;

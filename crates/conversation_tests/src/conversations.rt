@@ -2,6 +2,7 @@
 
 use crate::scripts::{Caller, heard_by};
 use conversation::Door;
+use server_rows::plant::plant;
 use server_rows::streams::{ACK, ANSWER, BEGIN, BEGUN, HELLO, OPEN, OPENED, REQUEST, bytes_of};
 use std::alloc::Global;
 use std::test::Fail;
@@ -113,7 +114,7 @@ fn are_told(alloc: Global, each: usize, pace: usize) -> Result<bool, Fail> {
             pace: number.saturating_mul(pace).saturating_add(1),
         })?;
     }
-    let heard = heard_by(alloc, callers.as_slice(), None)?;
+    let heard = heard_by(alloc, plant(alloc)?, callers.as_slice(), None)?;
     let wanted = told(alloc)?;
     for (number, text) in wanted.iter().enumerate() {
         if !has_heard(heard.as_slice(), number, text.as_slice()) {

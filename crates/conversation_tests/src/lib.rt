@@ -2,6 +2,8 @@
 #![tactic(auto)]
 
 #[cfg(test)]
+mod admitting;
+#[cfg(test)]
 mod conversations;
 #[cfg(test)]
 mod scripts;

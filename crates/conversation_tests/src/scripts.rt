@@ -9,12 +9,13 @@ use multiplex::{
     WriteAttempt, serve,
 };
 use server_rows::network::Faults;
-use server_rows::plant::{archive_of, clock, plant};
+use server_rows::plant::{archive_of, clock};
 use std::alloc::Global;
 use std::net::SocketAddr;
 use std::test::Fail;
 use ua_binary::Listing;
 use ua_connection::ConstantClock;
+use ua_settings::Settings;
 
 /// Who calls, where, and what it writes.
 #[derive(Clone, Copy)]
@@ -168,14 +169,14 @@ impl<'a> Source for Script<'a> {
 /// One connection of the plant.
 type Talk = Conversation<ListArchive, ConstantClock, Faults>;
 
-/// What each of these callers reads of a plant that holds nothing, and takes peers from these networks at a door of their own,
-/// with its number, in the order of their ends. Twenty of them are served at a time.
+/// What each of these callers reads of a server of these settings that holds nothing, and takes peers from these networks at a
+/// door of their own, with its number, in the order of their ends. Twenty of them are served at a time.
 pub fn heard_by(
     alloc: Global,
+    settings: Settings,
     callers: &[Caller<'_>],
     from: Option<Listing<Network>>,
 ) -> Result<Vec<(usize, Vec<u8>)>, Fail> {
-    let settings = plant(alloc)?;
     let archive = archive_of(alloc, &settings);
     let mut world = World {
         server: Server::new(alloc, settings, archive),

@@ -3,6 +3,7 @@
 use crate::conversations::{ASKED, NOTHING};
 use crate::scripts::{Caller, heard_by};
 use conversation::{Door, Network};
+use server_rows::plant::plant;
 use server_rows::streams::bytes_of;
 use std::alloc::Global;
 use std::net::{IpAddr, SocketAddr};
@@ -105,7 +106,7 @@ fn strangers_are_turned_away(rt: HostRuntime) -> Result<(), Fail> {
     let answer = bytes_of(alloc, &[NOTHING])?;
     let callers = comers(asked.as_slice());
     let from = networks(alloc, &["10.1.0.0/16", "fd00::/8"])?;
-    let heard = heard_by(alloc, &callers, Some(from))?;
+    let heard = heard_by(alloc, plant(alloc)?, &callers, Some(from))?;
     assert_eq!(rt; heard.len(), COMERS.len());
     for (number, text) in heard.iter() {
         let is_taken = COMERS

@@ -1,0 +1,121 @@
+use Rattle.std.proofs.Common.{◌≡◌, ◌∙◌, ℤ, [], Some, None, refl, sym, ap, subst, inl, inr, arith, w64}
+use Rattle.std.proofs.lemmas.List.{append-nil}
+use Rattle.std.specs.Int.RustNames.{FitsSigned}
+use Rattle.std.proofs.lemmas.Int.{ints, to_z-of_z}
+use Rattle.std.specs.Prelude.{Option}
+use Rattle.exchange.specs.Dialogs.{party_of}
+use Rattle.multiplex.specs.Progress.{end_in}
+use Rattle.conversation.specs.Admitting.{IsAdmitted, Refuses}
+use Rattle.conversation.specs.declared.other_end.OtherEnd.TheVariants.{Peer}
+use Rattle.conversation.specs.declared.other_end.PeerDialog.{PeerDialog}
+use Rattle.conversation.specs.Answering.{peer_ending}
+use Rattle.conversation.specs.OtherEnds.{ConversationEnding, IsUsable, peer_at, unless_over}
+use Rattle.conversation.proofs.answering.answer_peer.Goals as goal
+
+-- the dialog that goes on is told by how it stands and by what waits
+left_so : {X : Type 0} (ending : Option ConversationEnding) (peer : PeerDialog)
+    → (ending ≡ None → IsUsable (Peer peer) × X)
+    → unless_over ending (Peer peer)
+    ≡ unless_over ending (Peer (peer_at peer.dialog peer.frames.waiting))
+left_so None peer goes = ap Peer (goes refl).0.1
+left_so (Some end) peer goes = refl
+
+pub returns-then-append-clause-answers : goal.returns-then-append-clause-answers
+returns-then-append-clause-answers g c =
+    let answered = c.answer_frame-progress in
+    let (readings, gave, timed) = c.time_at-time.ensures in
+    let (ends, is, so) = answered.ensures.answers in
+    let server = c.args.world.now.server in
+    let party = party_of (g.A.Archive.state server.replica.archive) in
+    let small : FitsSigned w64 c.time_at-time.result =
+    omega (arith, ints, c.time_at-time.type_inv) in
+    let same = to_z-of_z w64 c.time_at-time.result small in (
+      answered.new.said.items,
+      c.append.ensures.appended c.if-append.true,
+      elim so [
+        | inl taken ↦ inl (record {
+          readings = readings;
+          time = c.time_at-time.result;
+          said = answered.new.said.items;
+          rest = answered.new.peer.frames.waiting;
+          ends = ends;
+          last = answered.new.peer.dialog;
+          settings = answered.ensures.settings;
+          clock = gave;
+          timed = timed;
+          log = refl;
+          from = refl;
+          admitted = subst (λ (t : ℤ).
+              IsAdmitted server.settings t party c.args.peer.now.frames.waiting) same taken.0;
+          talks = taken.1;
+          one = λ none. (answered.ensures.goes (is ∙ ap peer_ending none)).1;
+          tells = inl (refl, is);
+          leaves = left_so _ answered.new.peer answered.ensures.goes;
+        })
+        | inr refused ↦ inr (record {
+          readings = readings;
+          time = c.time_at-time.result;
+          said = answered.new.said.items;
+          ends = ends;
+          server = refused.1;
+          clock = gave;
+          timed = timed;
+          log = refl;
+          from = refl;
+          refuses = subst (λ (t : ℤ). Refuses server.settings t party
+              c.args.peer.now.frames.waiting answered.new.said.items ends) same refused.0;
+          tells = inl (refl, is);
+          leaves = ap (λ (p : PeerDialog). unless_over (end_in answered.result) (Peer p)) refused.2;
+        })
+      ],
+    )
+
+pub returns-else-append-clause-answers : goal.returns-else-append-clause-answers
+returns-else-append-clause-answers g c =
+    let answered = c.answer_frame-progress in
+    let (readings, gave, timed) = c.time_at-time.ensures in
+    let (ends, is, so) = answered.ensures.answers in
+    let server = c.args.world.now.server in
+    let party = party_of (g.A.Archive.state server.replica.archive) in
+    let small : FitsSigned w64 c.time_at-time.result =
+    omega (arith, ints, c.time_at-time.type_inv) in
+    let same = to_z-of_z w64 c.time_at-time.result small in (
+      [],
+      c.append.ensures.starved c.if-append.false ∙ sym (append-nil c.args.out.now.items),
+      elim so [
+        | inl taken ↦ inl (record {
+          readings = readings;
+          time = c.time_at-time.result;
+          said = answered.new.said.items;
+          rest = answered.new.peer.frames.waiting;
+          ends = ends;
+          last = answered.new.peer.dialog;
+          settings = answered.ensures.settings;
+          clock = gave;
+          timed = timed;
+          log = refl;
+          from = refl;
+          admitted = subst (λ (t : ℤ).
+              IsAdmitted server.settings t party c.args.peer.now.frames.waiting) same taken.0;
+          talks = taken.1;
+          one = λ none. (answered.ensures.goes (is ∙ ap peer_ending none)).1;
+          tells = inr (refl, refl);
+          leaves = refl;
+        })
+        | inr refused ↦ inr (record {
+          readings = readings;
+          time = c.time_at-time.result;
+          said = answered.new.said.items;
+          ends = ends;
+          server = refused.1;
+          clock = gave;
+          timed = timed;
+          log = refl;
+          from = refl;
+          refuses = subst (λ (t : ℤ). Refuses server.settings t party
+              c.args.peer.now.frames.waiting answered.new.said.items ends) same refused.0;
+          tells = inr (refl, refl);
+          leaves = refl;
+        })
+      ],
+    )
