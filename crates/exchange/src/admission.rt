@@ -70,13 +70,13 @@ impl<'a> Admission<'a> {
     }
 
     /// Whether a record is taken, or why it isn't.
-    fn judge(&self, record: &Record) -> Result<(), ExchangeFault>
-        ensures { result ≡ admitted (admission_of self.now) record.now }
+    fn judge(&self, candidate: &Record) -> Result<(), ExchangeFault>
+        ensures { result ≡ admitted (admission_of self.now) candidate.now }
     {
-        if !self.has(record.origin) {
+        if !self.has(candidate.origin) {
             return Err(ExchangeFault::NotAdmitted);
         }
-        if self.is_ahead(record.tick) {
+        if self.is_ahead(candidate.tick) {
             return Err(ExchangeFault::AheadOfClock);
         }
         Ok(())
