@@ -5,7 +5,8 @@
 
 In each round a client inserts value after value, and the program is killed (SIGKILL) while it answers. Then `dump` has to
 show each insert that was answered Good, in order, and at most one more; and Debian's sqlite3, on a copy of the files, has to
-say that the database is whole, with a current value for each record, each at a time of its own, and the last number. Needs sqlite3. Prints a line a round; the first that fails ends the script by an error.
+say that the database is whole, with a current value for each record, each at a time of its own, and the last number. Then the files' rights are looked at, and that a
+store which is gone or empty beside its log is refused. Needs sqlite3. Prints a line a round and a check; the first that fails ends the script by an error.
 """
 import os, random, shutil, socket, struct, subprocess, sys, tempfile, threading, time
 import usage
@@ -121,5 +122,30 @@ def rounds_of_kills():
     print("nothing that was answered Good is missing")
 
 
+def files_alone():
+    """The files are their owner's alone, and a store that is gone or empty beside its log is refused."""
+    kept = {end: open(store + end, "rb").read() for end in ("", "-wal")}
+    found = dumped()
+    modes = [f"{os.stat(store + end).st_mode & 0o777:o}" for end in ("", "-wal")]
+    assert modes == ["600", "600"], modes
+    print("the store and its log are their owner's alone (0600), under the umask 022")
+    for what in ("gone", "empty"):
+        os.remove(store)
+        if what == "empty":
+            open(store, "wb").close()
+        done = subprocess.run([program, "dump", "--settings", settings], stdout=subprocess.PIPE, stderr=subprocess.PIPE, text=True)
+        assert (done.returncode, done.stdout, done.stderr) == (3, "", "uahist: store refused (2)\n"), done
+        assert os.path.exists(store) == (what == "empty") and open(store + "-wal", "rb").read() == kept["-wal"], "a file changed"
+        open(store, "wb").write(kept[""])
+        print(f"a store that is {what} beside its log is refused (2), the log stays, and the file put back")
+    assert dumped() == found
+    os.remove(store + "-wal")
+    os.remove(store)
+    assert dumped() == [] and os.path.exists(store + "-wal")
+    print("then the same is dumped; where both are gone a new store is made")
+
+
 if __name__ == "__main__":
+    os.umask(0o022)
     rounds_of_kills()
+    files_alone()

@@ -1,0 +1,50 @@
+//! The files of a store, before it is opened.
+
+use archive::StoreFault;
+use std::fs::OpenOptions;
+use std::io::ErrorKind;
+use std::os::unix::fs::OpenOptionsExt;
+use std::{fs, io};
+
+/// The least bytes of a log that has a record: its header, a frame's, and the smallest page.
+const LEAST_LOG: u64 = 568;
+
+/// The rights of a store that is made: its owner's alone. Its log takes them over.
+const OWNERS: u32 = 0o600;
+
+/// How many bytes a file has, 0 where none stands at the path.
+fn length(rt: &HostRuntime, path: &str) -> io::Result<u64> {
+    match fs::metadata(rt, path) {
+        Ok(found) => Ok(found.len()),
+        Err(error) if error.kind() == ErrorKind::NotFound => Ok(0),
+        Err(error) => Err(error),
+    }
+}
+
+/// Whether the log of a store at a path has a record. It lies where links of the path lead.
+fn has_log(rt: &HostRuntime, path: &str) -> io::Result<bool> {
+    let log = match fs::canonicalize(rt, path) {
+        Ok(real) => format!(in rt.alloc(); "{}-wal", real.as_str())?,
+        Err(_) => format!(in rt.alloc(); "{path}-wal")?,
+    };
+    Ok(length(rt, log.as_str())? >= LEAST_LOG)
+}
+
+/// Makes the file of a store for its owner alone, where none stands. A store that is gone, or empty, beside a log that has
+/// records is refused, and both stay: an opening would begin anew, and the log may be all that is left. What else can't be read
+/// is left to the opening.
+pub fn prepare(rt: &HostRuntime, path: &str) -> Result<(), StoreFault> {
+    if !matches!(length(rt, path), Ok(0)) {
+        return Ok(());
+    }
+    if matches!(has_log(rt, path), Ok(true)) {
+        return Err(StoreFault::Refused);
+    }
+    let _ = OpenOptions::new()
+        .read(true)
+        .write(true)
+        .create_new(true)
+        .mode(OWNERS)
+        .open(rt, path);
+    Ok(())
+}
