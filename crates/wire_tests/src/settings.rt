@@ -42,7 +42,7 @@ const HEAD: &str =
     "[archive]\nid = '00000000000000000000000000000000'\nreplica = 1\n[server]\nlisten = ''\nurl = ''\napplication = ''\n";
 
 /// What goes on behind the start, and why it is refused, if it is.
-static ROWS: [(&str, Option<SettingsFault>); 46] = [
+static ROWS: [(&str, Option<SettingsFault>); 54] = [
     ("namespace = ''\nanonymous = true", None),
     ("namespace = ''\nanonymous =", Some(SettingsFault::NotToml)),
     (
@@ -197,6 +197,38 @@ static ROWS: [(&str, Option<SettingsFault>); 46] = [
         Some(SettingsFault::BadValue),
     ),
     (
+        "namespace = ''\nanonymous = true\n[door]\nlisten = ''\nreplicas = [2, 64, 1]\nahead = 60",
+        None,
+    ),
+    (
+        "namespace = ''\nanonymous = true\n[door]\nlisten = ''\nreplicas = []\nahead = 31536000",
+        None,
+    ),
+    (
+        "namespace = ''\nanonymous = true\n[door]\nlisten = ''\nreplicas = [2, 0]",
+        Some(SettingsFault::BadValue),
+    ),
+    (
+        "namespace = ''\nanonymous = true\n[door]\nlisten = ''\nreplicas = [65]",
+        Some(SettingsFault::BadValue),
+    ),
+    (
+        "namespace = ''\nanonymous = true\n[door]\nlisten = ''\nreplicas = ['2']",
+        Some(SettingsFault::BadValue),
+    ),
+    (
+        "namespace = ''\nanonymous = true\n[door]\nlisten = ''\nreplicas = 2",
+        Some(SettingsFault::BadValue),
+    ),
+    (
+        "namespace = ''\nanonymous = true\n[door]\nlisten = ''\nahead = 0",
+        Some(SettingsFault::BadValue),
+    ),
+    (
+        "namespace = ''\nanonymous = true\n[door]\nlisten = ''\nahead = 31536001",
+        Some(SettingsFault::BadValue),
+    ),
+    (
         "namespace = ''\nanonymous = true\n[door]\nfrom = []",
         Some(SettingsFault::MissingKey),
     ),
@@ -318,6 +350,30 @@ fn has_door(alloc: Global, text: &str, address: &str) -> bool {
             .is_some_and(|door| door.listen.as_str() == address),
         Err(_) => false,
     }
+}
+
+/// The records that a text's door takes: of which replicas, and how far ahead.
+fn admits(alloc: Global, text: &str, replicas: &[u8], ahead: u32) -> bool {
+    match Settings::read(alloc, text) {
+        Ok(settings) => settings.door().is_some_and(|door| {
+            door.ahead == Some(ahead)
+                && door.replicas.as_ref().is_some_and(|listed| listed
+                    .iter()
+                    .map(|replica| replica.get())
+                    .eq(replicas.iter().copied()))
+        }),
+        Err(_) => false,
+    }
+}
+
+#[test]
+fn admissions_are_read(rt: HostRuntime) -> Result<(), Fail> {
+    let text = format!(in rt.alloc();
+        "{HEAD}namespace = ''\nanonymous = true\n[door]\nlisten = ''\nreplicas = [3, 1, 64]\nahead = 90\n"
+    )?;
+    assert!(rt; admits(rt.alloc(), text.as_str(), &[3, 1, 64], 90));
+    assert!(rt; !admits(rt.alloc(), text.as_str(), &[3, 1], 90));
+    Ok(())
 }
 
 /// The door's text is kept as it is, whatever it spells.
