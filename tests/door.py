@@ -4,7 +4,7 @@
     tests/door.py PROGRAM [CHECK ..]
 
 Servers are started with and without a `[door]`: forged records, clients at the door, servers that call each other's door, `sync`,
-from where peers are taken, password files, readers and writers, wrong addresses and settings. Each line tells what held, or what was otherwise; the exit status is 1 then. All
+from where peers are taken, whose records, and how far ahead of the clock, password files, readers and writers, wrong addresses and settings. Each line tells what held, or what was otherwise; the exit status is 1 then. All
 checks are run where none is named.
 """
 import os, socket, struct, subprocess, sys, tempfile, threading, time
@@ -298,6 +298,85 @@ def from_networks():
         tell(told == (1, f"door's network refused ({place})\n"), f"[door] from has {what}: door's network refused ({place}), status 1", told)
 
 
+def brought(records, sender=2):
+    """What a peer sends that brings these records."""
+    return reading.carries(ARCHIVE, sender, {sender: 1}, records)
+
+
+def record(origin, number, tick, moment, value=666):
+    return reading.Record(origin, number, tick, T, moment, 0, 3, "ann", opcua.u8(1) + int32(value))
+
+
+def present(seconds=0):
+    """The present time, so many seconds later, in ticks."""
+    return int((time.time() + seconds) * 10_000_000) + 116_444_736_000_000_000
+
+
+def admitted_replicas():
+    """Records of the replicas of the settings alone are taken, and of a frame all or none."""
+    server = Server(door_keys="replicas = [2, 3]\n").start()
+    line = server.line()
+    assert updates(line, [insert(1, 5)]) == [(0, [INSERTED])]
+    rows = [("of a replica of theirs", [record(2, 1, present(), 7)], "RXVF", {5: 1, 7: 666}), ("of another one", [record(4, 1, present(), 8)], "RXE 10", {5: 1, 7: 666}),
+            ("in the server's own name", [record(1, 2, present(), 9)], "RXE 10", {5: 1, 7: 666}),
+            ("of one of theirs, and then one of another", [record(3, 1, present(), 10), record(4, 1, present(), 11)], "RXE 10", {5: 1, 7: 666}),
+            ("of another one, and then one of theirs", [record(4, 1, present(), 11), record(3, 1, present(), 10)], "RXE 10", {5: 1, 7: 666}),
+            ("of two of theirs", [record(2, 2, present(), 12), record(3, 1, present(), 10)], "RXVF", {5: 1, 7: 666, 10: 666, 12: 666})]
+    for what, records, letters, values in rows:
+        told = answer(server.door, brought(records) + (DONE if letters == "RXVF" else b""))
+        found = server.values()
+        tell(frames(told.removesuffix(b" and a reset")) == [letters] and found == values, f"replicas = [2, 3]: records {what} are {'taken' if letters == 'RXVF' else 'answered RXE 10, and none of the frame is learned'}", (told, found))
+    told = answer(server.door, reading.asks(ARCHIVE, 4, {}) + DONE)
+    tell(frames(told) == ["RXDF"], "replicas = [2, 3]: a peer of another number that brings nothing is answered", told)
+    said = server.stop()
+    tell(said == "", "the server told nothing of all that", said)
+    server = Server(door_keys="replicas = []\n").start()
+    told = answer(server.door, brought([record(2, 1, present(), 7)]))
+    tell(frames(told.removesuffix(b" and a reset")) == ["RXE 10"] and server.values() == {}, "replicas = []: no record is taken", told)
+    server.stop()
+
+
+def ticks_ahead():
+    """A record whose tick is further ahead of the clock than the settings say isn't taken, nor any other of its frame."""
+    top = 2**62 - 1
+    server = Server(door_keys="ahead = 60\n").start()
+    rows = [("half a minute ahead", [record(2, 1, present(30), 7)], "RXVF", {7: 666}), ("two minutes ahead", [record(2, 2, present(120), 8)], "RXE 9", {7: 666}),
+            ("of yesterday, and then one two minutes ahead", [record(3, 1, present(-86400), 9), record(2, 2, present(120), 8)], "RXE 9", {7: 666}),
+            ("at the last tick there is", [record(3, 1, top, 10)], "RXE 9", {7: 666}), ("of yesterday", [record(3, 1, present(-86400), 9)], "RXVF", {7: 666, 9: 666})]
+    for what, records, letters, values in rows:
+        told = answer(server.door, brought(records) + (DONE if letters == "RXVF" else b""))
+        found = server.values()
+        tell(frames(told.removesuffix(b" and a reset")) == [letters] and found == values, f"ahead = 60: records {what} are {'taken' if letters == 'RXVF' else 'answered RXE 9, and none of the frame is learned'}", (told, found))
+    told = updates(server.line(), [insert(1, 5)])
+    said = server.stop()
+    tell(told == [(0, [INSERTED])] and said == "", "ahead = 60: clients write on behind all that, and the server told nothing", (told, said))
+    server = Server().start()
+    answered = answer(server.door, brought([record(3, 1, top, 10)]) + DONE)
+    told = updates(server.line(), [insert(1, 5)])
+    tell(frames(answered) == ["RXVF"] and told[0][1][0] >= 0x80000000, f"without ahead: a record at the last tick is learned, and no client can write any more ({told[0][1][0]:08X})", (answered, told))
+    server.stop()
+
+
+def calls_that_refuse():
+    """A call ends where the one that was called has records that aren't taken, and is told on both sides."""
+    for what, keys, number, records in (("replicas = [2]", "replicas = [2]\n", 10, [record(4, 1, present(), 7)]), ("ahead = 60", "ahead = 60\n", 9, [record(4, 1, present(600), 7)])):
+        other, server = Server(2).start(), Server(1, door_keys=keys)
+        assert frames(answer(other.door, brought(records, 3) + DONE)) == ["RXVF"]
+        server.start([other.door])
+        time.sleep(2.5)
+        told, values = server.stop(), other.values()
+        tell(told == f"uahist: peer 127.0.0.1:{other.door}: exchange ended ({number})\n" and values == {7: 666} and server.dump() == "",
+             f"{what}: a call of one that holds such a record is told once, as exchange ended ({number}), and nothing is learned", (told, values))
+        server.calls = []
+        server.start()
+        other.stop()
+        other.start([server.door])
+        time.sleep(2.5)
+        told, values = other.stop(), server.values()
+        tell(told == f"uahist: peer 127.0.0.1:{server.door}: exchange ended ({number})\n" and values == {}, f"{what}: a call by one that holds such a record is told there as exchange ended ({number})", (told, values))
+        server.stop()
+
+
 def password_files():
     """A user's password is the first line of a file beside the settings."""
     server = Server(keys="", tables="\n[[user]]\nname = 'ben'\npassword_file = 'secrets/ben'\n")
@@ -435,6 +514,12 @@ def settings():
              ("[door] has another key", text + "\n[door]\nlisten = '127.0.0.1:1'\nport = 1\n", 4, "[door] port"),
              ("[door] from is a text", text + "\n[door]\nlisten = '127.0.0.1:1'\nfrom = '10.0.0.0/8'\n", 3, "[door] from"),
              ("[door] from has a number", text + "\n[door]\nlisten = '127.0.0.1:1'\nfrom = [10]\n", 3, "[door] from"),
+             ("[door] replicas is a number", text + "\n[door]\nlisten = '127.0.0.1:1'\nreplicas = 2\n", 3, "[door] replicas"),
+             ("[door] replicas has a number above 64", text + "\n[door]\nlisten = '127.0.0.1:1'\nreplicas = [2, 65]\n", 3, "[door] replicas"),
+             ("[door] replicas has 0", text + "\n[door]\nlisten = '127.0.0.1:1'\nreplicas = [0]\n", 3, "[door] replicas"),
+             ("[door] replicas has a text", text + "\n[door]\nlisten = '127.0.0.1:1'\nreplicas = [2, '3']\n", 3, "[door] replicas"),
+             ("[door] ahead is 0", text + "\n[door]\nlisten = '127.0.0.1:1'\nahead = 0\n", 3, "[door] ahead"),
+             ("[door] ahead is more than a year", text + "\n[door]\nlisten = '127.0.0.1:1'\nahead = 31536001\n", 3, "[door] ahead"),
              ("a user has neither a password nor a file of it", text.replace(user, ""), 2, "[[user]] 1, password"),
              ("[door] listen is a number", text + "\n[door]\nlisten = 4841\n", 3, "[door] listen"),
              ("door is an array of tables", text + "\n[[door]]\nlisten = '127.0.0.1:1'\n", 3, "door"),
@@ -466,7 +551,7 @@ def one_connection():
             tell(told.status == 0 and frames(told.out) == ["RXVF"] and len(dump.splitlines()) == 1, "answer, without a door: a peer's frame is learned", seen)
 
 
-checks = [a_forged_record, a_client_at_the_door, one_place, two_with_doors, a_call_of_the_wrong_address, from_networks, password_files, sync, readers, addresses, settings, one_connection]
+checks = [a_forged_record, a_client_at_the_door, one_place, two_with_doors, a_call_of_the_wrong_address, from_networks, admitted_replicas, ticks_ahead, calls_that_refuse, password_files, sync, readers, addresses, settings, one_connection]
 checks = [check for check in checks if not sys.argv[2:] or check.__name__ in sys.argv[2:]]
 for check in checks:
     try:
