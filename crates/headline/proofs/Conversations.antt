@@ -1,7 +1,8 @@
 -- What is answered on one connection of many is a turn of a machine.
 use Rattle.std.proofs.Common.{◌≡◌, ℕ, ℤ, List, [], ◌++◌, map, Option, None, Some, Result, Ok, Err, refl, sym, ap, subst, ◌∙◌, inl, inr}
 use Rattle.std.proofs.lemmas.List.{append-nil}
-use Rattle.archive.specs.Store.{Store}
+use Rattle.archive.specs.Store.{Store, CountsFaults, KeepsContent}
+use Rattle.archive.proofs.Calls.{passes-none, stays-none}
 use Rattle.counted_io.specs.declared.fault.ServeFault.{ServeFault}
 use Rattle.exchange.specs.declared.fault.ExchangeFault.{ExchangeFault}
 use Rattle.exchange.specs.Dialogs.{party_of}
@@ -14,12 +15,13 @@ use Rattle.ua_settings.specs.declared.peers.PeerCall.{PeerCall}
 use Rattle.conversation.specs.declared.other_end.OtherEnd.{OtherEnd}
 use Rattle.conversation.specs.declared.other_end.PeerDialog.{PeerDialog}
 use Rattle.conversation.specs.declared.world.World.{World}
+use Rattle.historian.specs.declared.server.Server.{Server}
 use Rattle.conversation.specs.OtherEnds.{ConversationEnding}
-use Rattle.conversation.specs.Answering.{AnswersClient, AnswersPeer, Tells}
+use Rattle.conversation.specs.Answering.{AnswersClient, AnswersPeer, RefusesPeer, Tells}
 use Rattle.conversation.specs.Closing.{LogCalls, TellsCallOf}
 use Rattle.conversation.specs.Starting.{AsksPeer, BeginsBy, StartsCall}
 use Rattle.headline.specs.Machines.{RestartsAs, IsMachine}
-use Rattle.headline.specs.Plants.{AreUnforged, BeginsCall, Plant, plant_after, IsClientTurn, IsPeerTurn, IsCallTurn}
+use Rattle.headline.specs.Plants.{AreUnforged, BeginsCall, Plant, plant_after, IsClientTurn, IsPeerTurn, IsCallTurn, IsRefusalTurn}
 
 -- what is written is what was said, or nothing
 told_part : (said made : List ℕ) (ends : Option (Result PeerEnded ServeFault))
@@ -69,39 +71,74 @@ module _ {A C L : Type 0} (state : A → Store) where
     now = refl;
   }
 
-  pub peer_turns : (v w : World A C L) (peer : PeerDialog) (made : List ℕ)
+  pub peer_turns : (gave : C → List ℤ → C → Type 0) (v w : World A C L) (peer : PeerDialog)
+      (made : List ℕ)
       (ending : Option ConversationEnding) (next : OtherEnd) (old : Plant A) (place : ℕ) (later : A)
-      (answers : AnswersPeer state v peer made ending w next)
+      (answers : AnswersPeer state gave v peer made ending w next)
       → AreUnforged old.written (party_of (state v.server.replica.archive))
       (map (λ t. t.frame) answers.talks.taken)
       → IsMachine state old.machines place v.server.replica.archive
       → (state w.server.replica.archive).honest
       → RestartsAs (state w.server.replica.archive) (state later)
       → IsPeerTurn state old (plant_after old place later made)
-  peer_turns v w peer made ending next old place later answers unforged there honest goes = record {
-    place = place;
-    before = v.server.replica.archive;
-    later = later;
-    made = made;
-    there = there;
-    acts = record {
-      behind = w.server.replica.archive;
-      does = record {
-        start = peer.dialog;
-        came = peer.frames.waiting;
-        said = answers.said;
-        rest = answers.rest;
-        ending = answers.ends;
-        last = answers.last;
-        talks = answers.talks;
-        unforged = unforged;
-        part = told_part answers.said made answers.ends ending answers.tells;
-      };
-      honest = honest;
-      goes = goes;
-    };
-    now = refl;
-  }
+  peer_turns gave v w peer made ending next old place later answers unforged there honest goes =
+      record {
+        place = place;
+        before = v.server.replica.archive;
+        later = later;
+        made = made;
+        there = there;
+        acts = record {
+          behind = w.server.replica.archive;
+          does = record {
+            start = peer.dialog;
+            came = peer.frames.waiting;
+            said = answers.said;
+            rest = answers.rest;
+            ending = answers.ends;
+            last = answers.last;
+            talks = answers.talks;
+            unforged = unforged;
+            part = told_part answers.said made answers.ends ending answers.tells;
+          };
+          honest = honest;
+          goes = goes;
+        };
+        now = refl;
+      }
+
+  pub refusal_turns : (gave : C → List ℤ → C → Type 0) (v w : World A C L) (peer : PeerDialog)
+      (made : List ℕ) (ending : Option ConversationEnding) (next : OtherEnd) (old : Plant A)
+      (place : ℕ) (later : A) → RefusesPeer state gave v peer made ending w next
+      → IsMachine state old.machines place v.server.replica.archive
+      → (state w.server.replica.archive).honest
+      → RestartsAs (state w.server.replica.archive) (state later)
+      → IsRefusalTurn state old (plant_after old place later made)
+  refusal_turns gave v w peer made ending next old place later refuses there honest goes =
+      let same = ap (λ (s : Server A). s.replica.archive) refuses.server in
+      let before = state v.server.replica.archive in record {
+        place = place;
+        before = v.server.replica.archive;
+        later = later;
+        made = made;
+        there = there;
+        acts = record {
+          behind = w.server.replica.archive;
+          does = record {
+            fault = refuses.refuses.fault;
+            told = refuses.refuses.told;
+            said = refuses.said;
+            stays = subst (λ (x : A). KeepsContent before (state x)) (sym same) (stays-none before);
+            passes = subst (λ (x : A). CountsFaults before (state x) []) (sym same)
+                (passes-none before);
+            tells = refuses.refuses.tells;
+            part = told_part refuses.said made refuses.ends ending refuses.tells;
+          };
+          honest = honest;
+          goes = goes;
+        };
+        now = refl;
+      }
 
   -- how a call ended was told, and the archive stays
   told_same : (calls : LogCalls L) (callee : ℕ) (v w : World A C L)

@@ -1,5 +1,5 @@
 -- What happens at a plant, turn by turn, is what happens to the replicas of a past.
-use Rattle.std.proofs.Common.{◌≡◌, ℕ, List, [], ◌∷◌, ◌++◌, map, length, Option, Some, None, Result, Ok, Err, refl, sym, ap, ◌∙◌, subst, inl, inr}
+use Rattle.std.proofs.Common.{◌≡◌, ◌<◌, ◌^◌, ℕ, List, [], ◌∷◌, ◌++◌, map, length, Option, Some, None, Result, Ok, Err, refl, sym, ap, ◌∙◌, subst, inl, inr}
 use Rattle.std.specs.Prelude.{slice_set}
 use Rattle.std.specs.List.{AllByRecursion}
 use Rattle.std.specs.Option.{option_map_or}
@@ -11,9 +11,11 @@ use Rattle.records.proofs.ContentLemmas.{has_from_append}
 use Rattle.archive.specs.Store.{Store}
 use Rattle.archive.proofs.Acting.{left-alone, left-stays}
 use Rattle.exchange.specs.declared.fault.ExchangeFault.{ExchangeFault}
-use Rattle.exchange.specs.declared.message.Message.TheVariants.{Asks}
+use Rattle.exchange.specs.declared.message.Message.TheVariants.{Asks, Ends}
+use Rattle.exchange.specs.declared.message.State.{State}
+use Rattle.exchange.specs.Fault.{exchange_number}
 use Rattle.exchange.specs.Messages.{Party}
-use Rattle.exchange.specs.Dialogs.{Greets, title_by, unfit, records_read, party_of}
+use Rattle.exchange.specs.Dialogs.{Greets, TellsFault, title_by, unfit, records_read, party_of}
 use Rattle.exchange.specs.Frames.{message_at}
 use Rattle.exchange.specs.Running.{AreSites, IsSiteOf}
 use Rattle.exchange.specs.Worlds.{ReplicaState, World, Event, IsReplicaAt, IsConsistent, run}
@@ -23,14 +25,15 @@ use Rattle.ua_peers.specs.Events.{IsSent, WereSent, IsExchange}
 use Rattle.ua_peers.specs.Peers.{Taken, Side, side_of, side_after}
 use Rattle.ua_peers.specs.Wires.{IsFirstPart}
 use Rattle.ua_peers.proofs.Exchanged.{run_append}
+use Rattle.ua_peers.proofs.Joined.{numbered}
 use Rattle.headline.specs.Answers.{IsInUse}
 use Rattle.headline.specs.Executions.{IsLawfulEvent, Execution, IsExecution}
 use Rattle.headline.specs.Machines.{Simulates}
-use Rattle.headline.specs.Plants.{records_at, BringsSent, AreUnforged, IsReplaced, AreLawfulBatches, AnswersMessage, AnswersFrames, BeginsCall, Plant, IsNewPlant, PlantSimulates, PlantExtendsTo, TakesTurn, IsClientTurn, IsPeerTurn, IsCallTurn, IsRestart, IsPlantStep, ArePlantSteps, AreSimulated}
+use Rattle.headline.specs.Plants.{records_at, BringsSent, AreUnforged, IsReplaced, AreLawfulBatches, AnswersMessage, AnswersFrames, BeginsCall, Plant, IsNewPlant, PlantSimulates, PlantExtendsTo, RefusesRecords, TakesTurn, IsClientTurn, IsPeerTurn, IsCallTurn, IsRefusalTurn, IsRestart, IsPlantStep, ArePlantSteps, AreSimulated}
 use Rattle.headline.proofs.Machines.{begun, restarted, simulates_on, set_by, all_there, all_set, updates_lawful, exchange_lawful, in_site, goes_as, lawful_later, ends_at}
 use Rattle.headline.proofs.Times.{sound_at, replica_at, lawful_at}
 use Rattle.headline.proofs.Streams.{frame_in}
-use Rattle.headline.proofs.Turns.{answer_made, frames_made, keeps_run, brings_on, brings_word}
+use Rattle.headline.proofs.Turns.{IsWord, answer_made, frames_made, keeps_run, brings_on, brings_word}
 
 -- ---- frames that come
 
@@ -63,6 +66,14 @@ exchanges_lawful : (i : ℕ) (events : List Event) → AllByRecursion (IsExchang
     → AllByRecursion IsLawfulEvent events
 exchanges_lawful i [] are = tt
 exchanges_lawful i (e ∷ es) are = (exchange_lawful i e are.0, exchanges_lawful i es are.1)
+
+-- what tells a fault brings no records
+fault_word : (pool : List (List Record)) (fault : ExchangeFault)
+    (told : Result State ExchangeFault) (said : List ℕ) → TellsFault fault told [] said
+    → IsWord pool said
+fault_word pool fault told said (inl tells) = let n = numbered fault in
+    inr (Ends (exchange_number fault), subst (λ k. k < 2 ^ 32) (sym n.2) n.1, tells.1, inl refl)
+fault_word pool fault told said (inr none) = inl none.1
 
 -- ---- the past
 
@@ -245,6 +256,27 @@ module _ {A : Type 0} (state : A → Store) where
       word frame (Err f) greets x =
           brings_word (run p.events p.start).pool frame (inl greets.kept.1)
 
+  pub peer_refused : (p : Execution) (old new : Plant A) → PlantSimulates state p old
+      → IsRefusalTurn state old new → PlantExtendsTo state p new
+  peer_refused p old new are turn =
+      let x = there RefusesRecords p old new are turn in
+      let w : World = run p.events p.start in
+      let a : Store = state turn.before in
+      let does = turn.acts.does in
+      let left = left-stays a (state turn.acts.behind) [] (state turn.later).content does.stays
+      does.passes turn.acts.honest turn.acts.goes.content in
+      let same : (state turn.later).content ≡ x.s.content =
+      left-alone a (state turn.later).content x.used.durable x.used.honest x.used.unbroken left
+      ∙ sym x.content in
+      turned RefusesRecords p old new are turn x.s x.at x.is does.passes.id does.passes.own [] tt
+      (record {
+        here = subst (λ (R : Content). IsReplicaAt w turn.place (record x.s { content = R }))
+            (sym same) x.at;
+        others = λ j other. refl;
+      })
+      (brings_part w.pool turn.made does.said does.part
+      (brings_word w.pool does.said (fault_word w.pool does.fault does.told does.said does.tells)))
+
   pub one_restarted : (p : Execution) (old new : Plant A) → PlantSimulates state p old
       → IsRestart state old new → PlantExtendsTo state p new
   one_restarted p old new are restarts =
@@ -265,7 +297,8 @@ module _ {A : Type 0} (state : A → Store) where
   pub stepped : (p : Execution) (old new : Plant A) → PlantSimulates state p old
       → IsPlantStep state old new → PlantExtendsTo state p new
   stepped p old new are (inl (inl turn)) = client_served p old new are turn
-  stepped p old new are (inl (inr turn)) = peer_served p old new are turn
+  stepped p old new are (inl (inr (inl turn))) = peer_served p old new are turn
+  stepped p old new are (inl (inr (inr turn))) = peer_refused p old new are turn
   stepped p old new are (inr (inl turn)) = peer_called p old new are turn
   stepped p old new are (inr (inr restarts)) = one_restarted p old new are restarts
 

@@ -7,11 +7,12 @@ use Rattle.records.specs.Contents.{Content}
 use Rattle.records.specs.Spelling.{IsLawfulRecord}
 use Rattle.records.specs.declared.record.Record.{Record}
 use Rattle.ua_settings.specs.Settings.{SettingsValues}
-use Rattle.archive.specs.Store.{Store}
+use Rattle.archive.specs.Store.{Store, CountsFaults, KeepsContent}
 use Rattle.counted_io.specs.declared.fault.ServeFault.{ServeFault}
 use Rattle.exchange.specs.declared.fault.ExchangeFault.{ExchangeFault}
 use Rattle.exchange.specs.Messages.{Party}
-use Rattle.exchange.specs.Dialogs.{DialogState, Greets, party_of, records_read}
+use Rattle.exchange.specs.declared.message.State.{State}
+use Rattle.exchange.specs.Dialogs.{DialogState, Greets, TellsFault, party_of, records_read}
 use Rattle.exchange.specs.Frames.{message_at}
 use Rattle.exchange.specs.Streams.{FrameContent, AreFrames}
 use Rattle.exchange.specs.Worlds.{ReplicaState, World, IsReplicaAt, run}
@@ -104,6 +105,17 @@ BeginsCall old new made =
     (frame : List ℕ) × (result : Result (Unit {0}) ExchangeFault)
     × Greets old new [] frame result × IsFirstPart made frame
 
+-- a peer's records weren't taken: what is held stays, and so much of the frame that tells the peer
+-- why was written
+pub record RefusesRecords (old new : Store) (made : List ℕ) : Type 0 where
+  pub fault : ExchangeFault
+  pub told : Result State ExchangeFault
+  pub said : List ℕ
+  pub stays : KeepsContent old new
+  pub passes : CountsFaults old new []
+  pub tells : TellsFault fault told [] said
+  pub part : IsFirstPart made said
+
 -- ---- plants
 
 -- machines, and what any of them wrote to peers so far, turn by turn
@@ -169,6 +181,10 @@ module _ {A : Type 0} (state : A → Store) where
   abbrev pub IsCallTurn : Plant A → Plant A → Type 0
   IsCallTurn = TakesTurn BeginsCall
 
+  -- a machine took no records of a peer
+  abbrev pub IsRefusalTurn : Plant A → Plant A → Type 0
+  IsRefusalTurn = TakesTurn RefusesRecords
+
   -- a machine was stopped between its turns, and its store was opened anew
   abbrev pub IsRestart : Plant A → Plant A → Type 0
   IsRestart old new =
@@ -177,7 +193,8 @@ module _ {A : Type 0} (state : A → Store) where
   -- any of these
   abbrev pub IsPlantStep : Plant A → Plant A → Type 0
   IsPlantStep old new =
-      (IsClientTurn old new ⊎ IsPeerTurn old new) ⊎ (IsCallTurn old new ⊎ IsRestart old new)
+      (IsClientTurn old new ⊎ (IsPeerTurn old new ⊎ IsRefusalTurn old new))
+      ⊎ (IsCallTurn old new ⊎ IsRestart old new)
 
   -- each of these plants came of the one before it by a step
   abbrev pub ArePlantSteps : Plant A → List (Plant A) → Type 0

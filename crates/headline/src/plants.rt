@@ -27,13 +27,13 @@ ghost use Rattle.conversation.specs.declared.other_end.OtherEnd.{OtherEnd};
 ghost use Rattle.conversation.specs.declared.other_end.PeerDialog.{PeerDialog};
 ghost use Rattle.conversation.specs.declared.world.World.{World as Shared};
 ghost use Rattle.conversation.specs.OtherEnds.{ConversationEnding};
-ghost use Rattle.conversation.specs.Answering.{AnswersClient, AnswersPeer};
+ghost use Rattle.conversation.specs.Answering.{AnswersClient, AnswersPeer, RefusesPeer};
 ghost use Rattle.conversation.specs.Closing.{log_calls};
 ghost use Rattle.conversation.specs.Starting.{StartsCall};
 ghost use Rattle.headline.specs.Calls.{WasHeld, CallState, GoesBy, call_begun};
 ghost use Rattle.headline.specs.Executions.{Execution, IsExecution};
 ghost use Rattle.headline.specs.Machines.{RestartsAs, IsMachine};
-ghost use Rattle.headline.specs.Plants.{BringsSent, IsReplaced, AreLawfulBatches, AreUnforged, AreWholeFrames, CameOver, Plant, plant_after, IsNewPlant, PlantSimulates, PlantExtendsTo, IsClientTurn, IsPeerTurn, IsCallTurn, IsRestart, ArePlantSteps, AreSimulated};
+ghost use Rattle.headline.specs.Plants.{BringsSent, IsReplaced, AreLawfulBatches, AreUnforged, AreWholeFrames, CameOver, Plant, plant_after, IsNewPlant, PlantSimulates, PlantExtendsTo, IsClientTurn, IsPeerTurn, IsCallTurn, IsRefusalTurn, IsRestart, ArePlantSteps, AreSimulated};
 
 use archive::Archive;
 use conversation::Log;
@@ -96,7 +96,7 @@ pub fn connections_forge_nothing()
 
 /// The headline of plants: machines that serve many clients and peers at once are replicas of a past. A plant that begins with nothing
 /// simulates the empty past, and each thing that happens leads on to a past that goes on behind it: a client's message is answered,
-/// frames of a peer are, a call to a peer begins, a machine is stopped and its store opened anew; also where the store broke in the midst of
+/// frames of a peer are, or its records aren't taken, a call to a peer begins, a machine is stopped and its store opened anew; also where the store broke in the midst of
 /// a turn. These come in any order at any machines, so that between two frames of one dialog anything may happen to both its ends. A peer may
 /// be anybody and say anything, and what is written to it may be lost, come late, twice or in pieces; but records that it brings were in a frame
 /// that a machine of the plant wrote. So at each moment the machines hold what replicas do, and the laws of replicas hold of them, as
@@ -108,6 +108,8 @@ pub fn plants_simulate_an_execution<A: Archive>()
         → IsClientTurn A.state old new → PlantExtendsTo A.state p new }
     ensures peer { (p : Execution) (old new : Plant A) → PlantSimulates A.state p old
         → IsPeerTurn A.state old new → PlantExtendsTo A.state p new }
+    ensures refusal { (p : Execution) (old new : Plant A) → PlantSimulates A.state p old
+        → IsRefusalTurn A.state old new → PlantExtendsTo A.state p new }
     ensures call { (p : Execution) (old new : Plant A) → PlantSimulates A.state p old
         → IsCallTurn A.state old new → PlantExtendsTo A.state p new }
     ensures restart { (p : Execution) (old new : Plant A) → PlantSimulates A.state p old
@@ -118,7 +120,7 @@ pub fn plants_simulate_an_execution<A: Archive>()
 {}
 
 /// What is answered on one connection of many (`conversation`) is a turn of a machine of any plant: a client's message, frames of a peer, as
-/// long as they aren't forged, and the beginning of a call. So what a loop over many connections makes of a machine's archive is turns of a plant.
+/// long as they aren't forged, records of a peer that aren't taken, and the beginning of a call. So what a loop over many connections makes of a machine's archive is turns of a plant.
 pub fn conversations_take_turns<A: Archive, C: Clock, L: Log>()
     ensures client { (v w : Shared A C L) (link : ConnectionState) (made : List ℕ)
         (ending : Option ConversationEnding) (next : OtherEnd) (old : Plant A) (place : ℕ)
@@ -129,13 +131,20 @@ pub fn conversations_take_turns<A: Archive, C: Clock, L: Log>()
         → IsClientTurn A.state old (plant_after old place later []) }
     ensures peer { (v w : Shared A C L) (peer : PeerDialog) (made : List ℕ)
         (ending : Option ConversationEnding) (next : OtherEnd) (old : Plant A) (place : ℕ)
-        (later : A) → (answers : AnswersPeer A.state v peer made ending w next)
+        (later : A) → (answers : AnswersPeer A.state C.gave v peer made ending w next)
         → AreUnforged old.written (party_of (A.state v.server.replica.archive))
         (map (λ t. t.frame) answers.talks.taken)
         → IsMachine A.state old.machines place v.server.replica.archive
         → (A.state w.server.replica.archive).honest
         → RestartsAs (A.state w.server.replica.archive) (A.state later)
         → IsPeerTurn A.state old (plant_after old place later made) }
+    ensures refusal { (v w : Shared A C L) (peer : PeerDialog) (made : List ℕ)
+        (ending : Option ConversationEnding) (next : OtherEnd) (old : Plant A) (place : ℕ)
+        (later : A) → RefusesPeer A.state C.gave v peer made ending w next
+        → IsMachine A.state old.machines place v.server.replica.archive
+        → (A.state w.server.replica.archive).honest
+        → RestartsAs (A.state w.server.replica.archive) (A.state later)
+        → IsRefusalTurn A.state old (plant_after old place later made) }
     ensures call { (callee : ℕ) (v w : Shared A C L) (made : List ℕ)
         (other : Option OtherEnd) (old : Plant A) (place : ℕ) (later : A)
         → StartsCall A.state (log_calls L.told L.told_failed L.told_call) callee v made other w
