@@ -1,0 +1,3 @@
+pub mod DigitsLemmas
+pub mod NumbersLemmas
+pub mod TimesLemmas
