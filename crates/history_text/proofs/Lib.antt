@@ -1,3 +1,5 @@
 pub mod DigitsLemmas
 pub mod NumbersLemmas
 pub mod TimesLemmas
+pub mod StatusLemmas
+pub mod ValuesLemmas

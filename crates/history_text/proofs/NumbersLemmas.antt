@@ -1,14 +1,15 @@
 -- Whole numbers are read as they are defined to be, and what is written is read.
-use Rattle.std.proofs.Common.{◌≡◌, ℕ, suc, ◌^◌, ◌<◌, ℤ, pos, negsuc, neg_ℤ, unsigned_abs, true≢false, List, ◌∷◌, length, Some, None, Result, Ok, Err, Bool, true, false, cond, IfSome, OkIff, ◌&&◌, refl, sym, ap, ◌∙◌, arith}
-use Rattle.std.specs.Int.{Width, w64}
+use Rattle.std.proofs.Common.{◌≡◌, ℕ, suc, ◌^◌, ◌<◌, ◌≤◌, nat_lt, ℤ, pos, negsuc, neg_ℤ, unsigned_abs, true≢false, List, ◌∷◌, length, Some, None, Result, Ok, Err, Bool, true, false, cond, IfSome, OkIff, ◌&&◌, refl, sym, ap, ◌∙◌, arith}
+use Rattle.std.specs.Int.{Width, w8, w16, w32, w64}
 use Rattle.std.specs.Int.RustNames.{FitsSigned}
 use Rattle.std.specs.Result.{result_ok}
 use Rattle.std.specs.Str.Parse.{IsNumeral, digits_value, ParsesUnsigned, ParsesSigned, without_leading_sign, without_leading_plus, signed_digits_value}
 use Rattle.std.proofs.lemmas.Bool.{ltb-true, lt-ltb}
 use Rattle.std.specs.Fmt.{decimal, signed_decimal}
-use Rattle.std.proofs.lemmas.Fmt.{decimal_is_IsNumeral_wide}
+use Rattle.std.proofs.lemmas.Fmt.{decimal_is_IsNumeral_wide, digits_decimal, digits_value-decimal, decimal_nonempty}
+use Rattle.std.proofs.Math.Nat.{pow-le-pow_right}
 use Rattle.std.proofs.lemmas.Result.{Ok-from_Ok_iff}
-use Rattle.std.proofs.lemmas.Str.Parse.{numerals_by_value, tells_digits, parse_signed_digits, parse_signed_minus}
+use Rattle.std.proofs.lemmas.Str.Parse.{numerals_by_value, tells_digits, parse_signed_digits, parse_signed_minus, parse_gives}
 use mir.Val.{hbits}
 use Rattle.history_text.specs.Numbers.{is_numeral, is_within, signed_in, unsigned_in}
 use Rattle.history_text.proofs.DigitsLemmas.{model, all_digits, all_is}
@@ -122,3 +123,48 @@ pub read_w64 : (z : ℤ) → FitsSigned w64 z → signed_in (2 ^ 63) (signed_dec
 read_w64 (pos n) fits = read_signed w64 (2 ^ 63) refl (pos n) fits (omega (arith, fits.sfits))
 read_w64 (negsuc n) fits =
     read_signed w64 (2 ^ 63) refl (negsuc n) fits (omega (arith, fits.sfits))
+
+pub parsed_w8 : {E : Type 0} (text : List ℕ) (r : Result ℤ E) → ParsesSigned w8 10 text r
+    → result_ok r ≡ signed_in (2 ^ 7) text
+parsed_w8 text r = parsed_signed w8 (2 ^ 7) refl text r
+
+pub parsed_w16 : {E : Type 0} (text : List ℕ) (r : Result ℤ E) → ParsesSigned w16 10 text r
+    → result_ok r ≡ signed_in (2 ^ 15) text
+parsed_w16 text r = parsed_signed w16 (2 ^ 15) refl text r
+
+pub parsed_w32 : {E : Type 0} (text : List ℕ) (r : Result ℤ E) → ParsesSigned w32 10 text r
+    → result_ok r ≡ signed_in (2 ^ 31) text
+parsed_w32 text r = parsed_signed w32 (2 ^ 31) refl text r
+
+-- a number of few bits has few digits
+small_signed : (w : Width) (z : ℤ) → hbits w ≤ 63 → FitsSigned w z → unsigned_abs z < 10 ^ 64
+small_signed w (pos n) few fits =
+    omega (arith, fits.sfits, pow-le-pow_right {n = 2} (omega arith) few)
+small_signed w (negsuc n) few fits =
+    omega (arith, fits.sfits, pow-le-pow_right {n = 2} (omega arith) few)
+
+pub read_w8 : (z : ℤ) → FitsSigned w8 z → signed_in (2 ^ 7) (signed_decimal z) ≡ Some z
+read_w8 z fits = read_signed w8 (2 ^ 7) refl z fits (small_signed w8 z (omega arith) fits)
+
+pub read_w16 : (z : ℤ) → FitsSigned w16 z → signed_in (2 ^ 15) (signed_decimal z) ≡ Some z
+read_w16 z fits = read_signed w16 (2 ^ 15) refl z fits (small_signed w16 z (omega arith) fits)
+
+pub read_w32 : (z : ℤ) → FitsSigned w32 z → signed_in (2 ^ 31) (signed_decimal z) ≡ Some z
+read_w32 z fits = read_signed w32 (2 ^ 31) refl z fits (small_signed w32 z (omega arith) fits)
+
+-- an unsigned number is read from its decimal text
+pub read_unsigned : (bits n : ℕ) → bits ≤ 64 → n < 2 ^ bits
+    → unsigned_in bits (decimal n) ≡ Some n
+read_unsigned bits n few lt =
+    let text = decimal n in
+    let small : n < 2 ^ 64 = omega (arith, lt, pow-le-pow_right {n = 2} (omega arith) few) in
+    let value = digits_value-decimal model n small in
+    let v = digits_value 10 (without_leading_plus text) in
+    optional (is_numeral (without_leading_plus text) && nat_lt v (2 ^ bits)) v n
+    (parse_gives model bits text _
+    (undecided (IsNumeral 10 (without_leading_plus text) × (v < 2 ^ bits))
+    (is_numeral (without_leading_plus text) && nat_lt v (2 ^ bits)) v
+    (λ p. both _ _ (numeral_is _ p.0) (lt-ltb _ _ p.1))
+    (λ t. let s = both_hold _ _ t in (is_numeral_so _ s.0, ltb-true _ _ s.1)))
+    (digits_decimal model n small) (decimal_nonempty n small) (omega (arith, value))
+    ∙ ap Ok value)

@@ -1,3 +1,5 @@
 pub mod Digits
 pub mod Numbers
+pub mod Statuses
 pub mod Times
+pub mod Values

@@ -84,7 +84,7 @@ is_fraction_length count = nat_le 1 count && nat_le count 7 || count == 11
 abbrev pub fraction_in : List ℕ → Option ℕ
 fraction_in digits =
     if is_fraction_length (length digits) then digits_in
-        (digits ++ replicate (11 - length digits) 48)
+    (digits ++ replicate (11 - length digits) 48)
     else None
 
 -- the steps of 10 ps that the end of a text says: a Z alone, or a point, digits and a Z

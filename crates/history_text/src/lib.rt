@@ -1,9 +1,18 @@
 //! How moments, status codes and values are written as text and read again.
+//!
+//! What is written is read as the same: `time_text` and `read_time`, `status_text` and
+//! `read_status`, `value_text` and `read_value`. A text that is none is refused by what was
+//! expected.
 #![tactic(auto)]
 
 mod digits;
 mod fault;
+mod numbers;
+mod status;
 mod times;
+mod values;
 
 pub use fault::TextFault;
+pub use status::{kept_status, read_status, status_text};
 pub use times::{Time, read_time, time_text};
+pub use values::{read_value, value_text};

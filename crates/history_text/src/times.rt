@@ -200,7 +200,7 @@ fn steps_in(text: &[u8]) -> Option<Time>
 }
 
 /// The moment that a text says.
-fn time_in(text: &[u8]) -> Option<Time>
+pub(crate) fn time_in(text: &[u8]) -> Option<Time>
     ensures { result ≡ time_in text.now }
 {
     if text.is_empty() || text[0] != b'@' {
@@ -213,10 +213,10 @@ fn time_in(text: &[u8]) -> Option<Time>
 /// Reads a moment: `2026-03-01T12:00:00Z` in UTC with up to 7 digits behind a point, or 11, of a
 /// year from 1601 to 9999; or `@` and its steps of 100 ns since 1601 in decimal, perhaps with a `+`
 /// and four digits, its steps of 10 ps. Any other text is `NoTime`.
-pub fn read_time(text: &[u8]) -> Result<Time, TextFault>
+pub fn read_time(text: &str) -> Result<Time, TextFault>
     ensures { result ≡ ok_or (time_in text.now) NoTime }
 {
-    time_in(text).ok_or(TextFault::NoTime)
+    time_in(text.as_bytes()).ok_or(TextFault::NoTime)
 }
 
 // ---- writing
