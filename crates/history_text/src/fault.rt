@@ -10,7 +10,7 @@ use thiserror::Error;
 #[derive(Clone, Copy, Debug, PartialEq, Eq, Error)]
 pub enum TextFault {
     /// The text is no moment.
-    #[error("expected a time, as 2026-03-01T12:00:00.5Z or @133482240000000000")]
+    #[error("expected a time, as 2026-03-01T12:00:00.5Z or @134168400000000000")]
     NoTime,
     /// The text is no status code.
     #[error("expected a status code: eight hex digits, or Good, or nothing")]
