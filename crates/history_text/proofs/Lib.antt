@@ -3,3 +3,4 @@ pub mod NumbersLemmas
 pub mod TimesLemmas
 pub mod StatusLemmas
 pub mod ValuesLemmas
+pub mod FloatsLemmas

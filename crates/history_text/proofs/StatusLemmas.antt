@@ -1,12 +1,12 @@
 -- Status codes: what is written is read.
-use Rattle.std.proofs.Common.{◌≡◌, ℕ, zero, suc, ◌+◌, ◌*◌, ◌/◌, ◌%◌, ◌^◌, ◌<◌, ◌≤◌, List, [], ◌∷◌, length, get_or, Option, Some, None, Ok, Bool, true, false, cond, ◌==◌, ◌||◌, refl, sym, ap, ◌∙◌, arith, inl, inr}
-use Rattle.std.specs.Prelude.{bit_and, codes}
+use Rattle.std.proofs.Common.{◌≡◌, ℕ, zero, suc, ◌*◌, ◌^◌, ◌<◌, List, [], length, Some, Ok, Bool, true, false, cond, ◌==◌, refl, sym, ap, ◌∙◌, arith, inl, inr}
+use Rattle.std.specs.Prelude.{codes}
 use Rattle.std.specs.Str.{bytes_eq}
-use Rattle.std.specs.Int.{w32, from_be_bytes, to_be_bytes}
+use Rattle.std.specs.Int.{w32, to_be_bytes}
 use Rattle.std.proofs.lemmas.Bool.{cases_Bool, eqb-true}
 use Rattle.std.proofs.lemmas.Nat.{and_assoc, from_be_bytes-to_be_bytes_4}
 use Rattle.std.proofs.lemmas.Slice.Eq.{bytes_eq-Decides}
-use Rattle.hex.specs.Hex.{IsBytes, decode_of, decode_sized, encode_upper, upper_digits}
+use Rattle.hex.specs.Hex.{IsBytes, decode_sized, encode_upper, upper_digits}
 use Rattle.hex.proofs.HexLemmas.{decode_of-encode_upper, decode_sized-twice, length-encode_with}
 use Rattle.ua_binary.specs.declared.codes.Status.{Status}
 use Rattle.history_text.specs.Statuses.{kept, code_in, status_in, status_text}
@@ -35,7 +35,7 @@ code_again n small =
     let bytes : decode_sized text 4 ≡ Ok (to_be_bytes w32 n) =
     decode_sized-twice text 4 long ∙ decode_of-encode_upper _ (be_bytes n) in
     rw (bytes, code_in) (ap (λ k. Some (kept (record { 0 = k })))
-        (from_be_bytes-to_be_bytes_4 n small))
+    (from_be_bytes-to_be_bytes_4 n small))
 
 kept_kept : (status : Status) → kept (kept status) ≡ kept status
 kept_kept status = ap (λ n. record { 0 = n }) (and_assoc 4_294_966_263 status.0 4_294_966_263)
@@ -48,7 +48,7 @@ again status true e small =
 again status false e small =
     let text = encode_upper (to_be_bytes w32 (kept status).0) in
     let long : length text ≡ 8 = length-encode_with upper_digits
-        (to_be_bytes w32 (kept status).0) in
+    (to_be_bytes w32 (kept status).0) in
     let some = other text [] (λ h. absurd (omega (arith, long, h))) in
     let bad = other text (codes "Good") (λ h. absurd (omega (arith, long, h))) in
     rw (some, bad) (code_again (kept status).0 small ∙ ap Some (kept_kept status))

@@ -1,4 +1,5 @@
 pub mod Digits
+pub mod Floats
 pub mod Numbers
 pub mod Statuses
 pub mod Times

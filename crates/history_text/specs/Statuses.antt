@@ -1,5 +1,5 @@
 -- How a status code is written as text and read again.
-use Rattle.std.specs.Prelude.{◌≡◌, ℕ, ◌==◌, ◌||◌, bit_and, List, [], codes, Option, Some, None, Ok, Err, if◌then◌else◌}
+use Rattle.std.specs.Prelude.{ℕ, ◌==◌, ◌||◌, bit_and, List, [], codes, Option, Some, None, Ok, Err, if◌then◌else◌}
 use Rattle.std.specs.Int.{w32, from_be_bytes, to_be_bytes}
 use Rattle.std.specs.Str.{bytes_eq}
 use Rattle.hex.specs.Hex.{decode_sized, encode_upper}
@@ -19,7 +19,7 @@ code_in text =
 abbrev pub status_in : List ℕ → Option Status
 status_in text =
     if bytes_eq text [] || bytes_eq text (codes "Good") then Some
-        (record { 0 = 0 }) else code_in text
+    (record { 0 = 0 }) else code_in text
 
 -- the text of a code: Good, or eight hex digits
 abbrev pub status_text : Status → List ℕ

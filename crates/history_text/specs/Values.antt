@@ -1,5 +1,5 @@
 -- How values are written as text and read again, by the number of their type.
-use Rattle.std.specs.Prelude.{◌≡◌, ◌≢◌, ◌⊎◌, ℕ, ◌^◌, ◌==◌, ℤ, List, [], Option, Some, None, unwrap_or, Bool, true, false, Result, Ok, Err, MatchResult, if◌then◌else◌}
+use Rattle.std.specs.Prelude.{◌≡◌, ◌⊎◌, ℕ, ◌^◌, ◌==◌, List, [], Option, Some, None, unwrap_or, Bool, true, false, Result, Ok, Err, MatchResult, if◌then◌else◌}
 use Rattle.std.specs.Fmt.{decimal, signed_decimal}
 use Rattle.std.specs.Str.{bytes_eq}
 use Rattle.std.specs.Str.Parse.{true_text, false_text}
@@ -7,12 +7,13 @@ use Rattle.hex.specs.Hex.{decode_of, encode_lower}
 use Rattle.ua_binary.specs.declared.values.Ticks.{Ticks}
 use Rattle.ua_variant.specs.declared.value.Scalar.{Scalar}
 use Rattle.ua_variant.specs.declared.value.Scalar.TheVariants.{Boolean, SByte, Byte, Int16, UInt16, Int32, UInt32, Int64, UInt64, Float, Double, String, DateTime, Guid, ByteString, NodeId, StatusCode, QualifiedName, LocalizedText}
+use Rattle.history_text.specs.Floats.{single_in, double_in, single_again, double_again}
 use Rattle.history_text.specs.Numbers.{signed_in, unsigned_in}
 use Rattle.history_text.specs.Statuses.{kept, status_in, status_text}
 use Rattle.history_text.specs.Times.{◌>>=◌, time_in, IsTimeText}
 use Rattle.history_text.specs.declared.times.Time.{Time}
 use Rattle.history_text.specs.declared.fault.TextFault.{TextFault}
-use Rattle.history_text.specs.declared.fault.TextFault.TheVariants.{NoTime, NoStatus, NoBoolean, NoInteger, NoBytes, NoText, OutOfMemory}
+use Rattle.history_text.specs.declared.fault.TextFault.TheVariants.{NoTime, NoStatus, NoBoolean, NoInteger, NoFloat, NoBytes, NoText, OutOfMemory}
 
 -- ---- reading
 
@@ -50,6 +51,8 @@ plain_in number text =
     else if number == 7 then as_value UInt32 NoInteger (unsigned_in 32 text)
     else if number == 8 then as_value Int64 NoInteger (signed_in (2 ^ 63) text)
     else if number == 9 then as_value UInt64 NoInteger (unsigned_in 64 text)
+    else if number == 10 then as_value Float NoFloat (single_in text)
+    else if number == 11 then as_value Double NoFloat (double_in text)
     else if number == 13 then as_value DateTime NoTime (ticks_in text)
     else if number == 19 then as_value StatusCode NoStatus (status_in text)
     else Err NoText
@@ -72,8 +75,6 @@ Answers answer result =
 abbrev pub IsUnwritten : Scalar → Type 0
 IsUnwritten value =
     elim value [
-      | Float _ ↦ Unit {0}
-      | Double _ ↦ Unit {0}
       | Guid _ ↦ Unit {0}
       | NodeId _ ↦ Unit {0}
       | QualifiedName _ ↦ Unit {0}
@@ -81,10 +82,14 @@ IsUnwritten value =
       | _ ↦ ⊥
     ]
 
--- what is read of a value that was written: a null is empty, a code has no bits of the server's
+-- what is read of a value that was written: a null is empty, each NaN is one, and a code has no
+-- bits
+-- of the server's
 abbrev pub read_back : Scalar → Scalar
 read_back value =
     elim value [
+      | Float bytes ↦ Float (single_again bytes)
+      | Double bytes ↦ Double (double_again bytes)
       | String text ↦ String (Some (unwrap_or text []))
       | ByteString bytes ↦ ByteString (Some (unwrap_or bytes []))
       | StatusCode code ↦ StatusCode (kept code)
@@ -104,6 +109,8 @@ IsValueText value text =
       | UInt32 n ↦ text ≡ decimal n
       | Int64 z ↦ text ≡ signed_decimal z
       | UInt64 n ↦ text ≡ decimal n
+      | Float bytes ↦ single_in text ≡ Some (single_again bytes)
+      | Double bytes ↦ double_in text ≡ Some (double_again bytes)
       | String given ↦ text ≡ unwrap_or given []
       | DateTime t ↦ IsTimeText (record { ticks = t.0; pico = 0 }) text
       | ByteString given ↦ text ≡ encode_lower (unwrap_or given [])

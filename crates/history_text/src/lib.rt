@@ -7,6 +7,7 @@
 
 mod digits;
 mod fault;
+mod floats;
 mod numbers;
 mod status;
 mod times;

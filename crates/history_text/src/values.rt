@@ -10,6 +10,7 @@ ghost use Rattle.history_text.specs.Times.{time_in, IsTimeText};
 ghost use Rattle.history_text.specs.declared.fault.TextFault.TheVariants.{NoBytes, NoText, OutOfMemory};
 
 use crate::fault::TextFault;
+use crate::floats::{double_in, double_text, single_in, single_text};
 use crate::numbers::{
     boolean_in, boolean_text, i8_in, i8_text, i16_in, i16_text, i32_in, i32_text, i64_in, i64_text,
     u8_in, u8_text, u16_in, u16_text, u32_in, u32_text, u64_in, u64_text,
@@ -58,6 +59,10 @@ fn plain_in(number: u8, text: &str) -> Result<Scalar, TextFault>
         7 => u32_in(text).map(Scalar::UInt32).ok_or(TextFault::NoInteger),
         8 => i64_in(text).map(Scalar::Int64).ok_or(TextFault::NoInteger),
         9 => u64_in(text).map(Scalar::UInt64).ok_or(TextFault::NoInteger),
+        10 => single_in(text).map(Scalar::Float).ok_or(TextFault::NoFloat),
+        11 => double_in(text)
+            .map(Scalar::Double)
+            .ok_or(TextFault::NoFloat),
         13 => ticks_in(text)
             .map(Scalar::DateTime)
             .ok_or(TextFault::NoTime),
@@ -90,8 +95,8 @@ fn bytes_value(alloc: Global, text: &str) -> Result<Scalar, TextFault>
     }
 }
 
-/// Reads a value of the type of this number: `true` or `false`; a whole number in decimal; a String
-/// as it is; a DateTime as `read_time` does, without picoseconds; bytes as hex digits; a status
+/// Reads a value of the type of this number: `true` or `false`; a whole number in decimal; a Float
+/// or a Double as the nearest to a decimal number, `inf`, `-inf` or `NaN`; a String as it is; a DateTime as `read_time` does, without picoseconds; bytes as hex digits; a status
 /// code. A text that is none is refused by what was expected; the other types are `NoText`.
 pub fn read_value(alloc: Global, number: u8, text: &str) -> Result<Scalar, TextFault>
     ensures { Answers (value_in number text.now) result }
@@ -148,10 +153,11 @@ fn string_text(alloc: Global, text: &Option<Text>) -> Result<Vec<u8>, AllocError
     }
 }
 
-/// A value as text: `true` or `false`; a whole number in decimal; a String as it is; a DateTime as
-/// `time_text` writes it; bytes as hex digits in lower case; a status code as `status_text` writes
-/// it. A null String or ByteString is an empty text. `read_value` reads each again, a null as an
-/// empty one. Values of the other types are `NoText`.
+/// A value as text: `true` or `false`; a whole number in decimal; a Float or a Double as a short
+/// decimal number, `inf`, `-inf` or `NaN`; a String as it is; a DateTime as `time_text` writes it;
+/// bytes as hex digits in lower case; a status code as `status_text` writes it. A null String or
+/// ByteString is an empty text. `read_value` reads each again: a null as an empty one, each NaN as
+/// one. Values of the other types are `NoText`.
 pub fn value_text(alloc: Global, value: &Scalar) -> Result<Vec<u8>, TextFault>
     ensures written { IfOk result (λ text. IsValueText value.now text.items) }
     ensures read { IfOk result (λ text.
@@ -169,6 +175,8 @@ pub fn value_text(alloc: Global, value: &Scalar) -> Result<Vec<u8>, TextFault>
         Scalar::UInt32(value) => u32_text(alloc, *value)?,
         Scalar::Int64(value) => i64_text(alloc, *value)?,
         Scalar::UInt64(value) => u64_text(alloc, *value)?,
+        Scalar::Float(value) => single_text(alloc, value)?,
+        Scalar::Double(value) => double_text(alloc, value)?,
         Scalar::String(value) => string_text(alloc, value)?,
         Scalar::DateTime(value) => ticks_text(alloc, *value)?,
         Scalar::ByteString(value) => bytes_text(alloc, bytes_of(value))?,

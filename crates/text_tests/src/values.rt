@@ -19,7 +19,7 @@ fn is_value(alloc: Global, number: u8, text: &str, written: &str) -> bool {
 }
 
 /// Types, each with a text that is read, and how the value is written.
-static VALUES: [(u8, &str, &str); 32] = [
+static VALUES: [(u8, &str, &str); 47] = [
     (1, "true", "true"),
     (1, "false", "false"),
     (2, "-128", "-128"),
@@ -36,6 +36,21 @@ static VALUES: [(u8, &str, &str); 32] = [
     (8, "9223372036854775807", "9223372036854775807"),
     (8, "-0", "0"),
     (9, "18446744073709551615", "18446744073709551615"),
+    (11, "0.1", "0.1"),
+    (11, "1", "1.0"),
+    (11, "-0", "-0.0"),
+    (11, "inf", "inf"),
+    (11, "-inf", "-inf"),
+    (11, "NaN", "NaN"),
+    (11, "nan", "NaN"),
+    (11, "1e400", "inf"),
+    (11, "5e-324", "5e-324"),
+    (11, "1.7976931348623157e308", "1.7976931348623157e308"),
+    (11, "123456789012345678", "1.2345678901234568e17"),
+    (10, "0.1", "0.1"),
+    (10, "16777217", "16777216.0"),
+    (10, "3.4028235e38", "3.4028235e38"),
+    (10, "-NaN", "NaN"),
     (12, "", ""),
     (12, "a, \"b\" and \u{e9}", "a, \"b\" and \u{e9}"),
     (13, "2026-03-01T12:00:00Z", "2026-03-01T12:00:00.0000000Z"),
@@ -76,7 +91,7 @@ fn fault_of(alloc: Global, number: u8, text: &str) -> Option<TextFault> {
 }
 
 /// Types, each with a text that is refused, and by what.
-static REFUSED: [(u8, &str, TextFault); 27] = [
+static REFUSED: [(u8, &str, TextFault); 31] = [
     (1, "True", TextFault::NoBoolean),
     (1, "1", TextFault::NoBoolean),
     (1, "", TextFault::NoBoolean),
@@ -95,6 +110,10 @@ static REFUSED: [(u8, &str, TextFault); 27] = [
     (8, "9223372036854775808", TextFault::NoInteger),
     (8, "-9223372036854775809", TextFault::NoInteger),
     (9, "18446744073709551616", TextFault::NoInteger),
+    (10, "one", TextFault::NoFloat),
+    (11, "", TextFault::NoFloat),
+    (11, "1,5", TextFault::NoFloat),
+    (11, "0x10", TextFault::NoFloat),
     (13, "noon", TextFault::NoTime),
     (13, "2026-03-01T12:00:00.00000000001Z", TextFault::NoTime),
     (15, "0", TextFault::NoBytes),
@@ -125,5 +144,21 @@ fn nulls_are_empty(rt: HostRuntime) {
             Err(_) => false,
         };
         assert!(rt; empty);
+    }
+}
+
+#[test]
+fn each_nan_is_one(rt: HostRuntime) {
+    let alloc = rt.alloc();
+    let nans = [
+        Scalar::Double([1, 0, 0, 0, 0, 0, 0xF0, 0xFF]),
+        Scalar::Float([1, 0, 0x80, 0x7F]),
+    ];
+    for nan in &nans {
+        let word = match value_text(alloc, nan) {
+            Ok(text) => text.as_slice() == b"NaN".as_slice(),
+            Err(_) => false,
+        };
+        assert!(rt; word);
     }
 }

@@ -1,4 +1,4 @@
-use Rattle.std.proofs.Common.{rules, ◌≡◌, ◌<◌, ◌^◌, ap, subst, ◌∙◌}
+use Rattle.std.proofs.Common.{rules, ◌<◌, ◌^◌, ap, subst, ◌∙◌}
 use Rattle.history_text.specs.Statuses.{status_in}
 use Rattle.history_text.proofs.StatusLemmas.{status_again}
 use Rattle.history_text.proofs.status.status_text.Goals as goal
