@@ -4,3 +4,4 @@ pub mod TimesLemmas
 pub mod StatusLemmas
 pub mod ValuesLemmas
 pub mod FloatsLemmas
+pub mod GuidsLemmas

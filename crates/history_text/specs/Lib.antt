@@ -1,5 +1,6 @@
 pub mod Digits
 pub mod Floats
+pub mod Guids
 pub mod Numbers
 pub mod Statuses
 pub mod Times

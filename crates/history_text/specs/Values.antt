@@ -8,12 +8,13 @@ use Rattle.ua_binary.specs.declared.values.Ticks.{Ticks}
 use Rattle.ua_variant.specs.declared.value.Scalar.{Scalar}
 use Rattle.ua_variant.specs.declared.value.Scalar.TheVariants.{Boolean, SByte, Byte, Int16, UInt16, Int32, UInt32, Int64, UInt64, Float, Double, String, DateTime, Guid, ByteString, NodeId, StatusCode, QualifiedName, LocalizedText}
 use Rattle.history_text.specs.Floats.{single_in, double_in, single_again, double_again}
+use Rattle.history_text.specs.Guids.{guid_in, guid_text}
 use Rattle.history_text.specs.Numbers.{signed_in, unsigned_in}
 use Rattle.history_text.specs.Statuses.{kept, status_in, status_text}
 use Rattle.history_text.specs.Times.{◌>>=◌, time_in, IsTimeText}
 use Rattle.history_text.specs.declared.times.Time.{Time}
 use Rattle.history_text.specs.declared.fault.TextFault.{TextFault}
-use Rattle.history_text.specs.declared.fault.TextFault.TheVariants.{NoTime, NoStatus, NoBoolean, NoInteger, NoFloat, NoBytes, NoText, OutOfMemory}
+use Rattle.history_text.specs.declared.fault.TextFault.TheVariants.{NoTime, NoStatus, NoBoolean, NoInteger, NoFloat, NoGuid, NoBytes, NoText, OutOfMemory}
 
 -- ---- reading
 
@@ -54,6 +55,7 @@ plain_in number text =
     else if number == 10 then as_value Float NoFloat (single_in text)
     else if number == 11 then as_value Double NoFloat (double_in text)
     else if number == 13 then as_value DateTime NoTime (ticks_in text)
+    else if number == 14 then as_value Guid NoGuid (guid_in text)
     else if number == 19 then as_value StatusCode NoStatus (status_in text)
     else Err NoText
 
@@ -75,7 +77,6 @@ Answers answer result =
 abbrev pub IsUnwritten : Scalar → Type 0
 IsUnwritten value =
     elim value [
-      | Guid _ ↦ Unit {0}
       | NodeId _ ↦ Unit {0}
       | QualifiedName _ ↦ Unit {0}
       | LocalizedText _ ↦ Unit {0}
@@ -113,6 +114,7 @@ IsValueText value text =
       | Double bytes ↦ double_in text ≡ Some (double_again bytes)
       | String given ↦ text ≡ unwrap_or given []
       | DateTime t ↦ IsTimeText (record { ticks = t.0; pico = 0 }) text
+      | Guid guid ↦ text ≡ guid_text guid
       | ByteString given ↦ text ≡ encode_lower (unwrap_or given [])
       | StatusCode code ↦ text ≡ status_text code
       | _ ↦ ⊥

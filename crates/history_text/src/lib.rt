@@ -8,6 +8,7 @@
 mod digits;
 mod fault;
 mod floats;
+mod guids;
 mod numbers;
 mod status;
 mod times;

@@ -11,6 +11,7 @@ ghost use Rattle.history_text.specs.declared.fault.TextFault.TheVariants.{NoByte
 
 use crate::fault::TextFault;
 use crate::floats::{double_in, double_text, single_in, single_text};
+use crate::guids::{guid_in, guid_text};
 use crate::numbers::{
     boolean_in, boolean_text, i8_in, i8_text, i16_in, i16_text, i32_in, i32_text, i64_in, i64_text,
     u8_in, u8_text, u16_in, u16_text, u32_in, u32_text, u64_in, u64_text,
@@ -66,6 +67,9 @@ fn plain_in(number: u8, text: &str) -> Result<Scalar, TextFault>
         13 => ticks_in(text)
             .map(Scalar::DateTime)
             .ok_or(TextFault::NoTime),
+        14 => guid_in(text.as_bytes())
+            .map(Scalar::Guid)
+            .ok_or(TextFault::NoGuid),
         19 => status_in(text)
             .map(Scalar::StatusCode)
             .ok_or(TextFault::NoStatus),
@@ -96,8 +100,10 @@ fn bytes_value(alloc: Global, text: &str) -> Result<Scalar, TextFault>
 }
 
 /// Reads a value of the type of this number: `true` or `false`; a whole number in decimal; a Float
-/// or a Double as the nearest to a decimal number, `inf`, `-inf` or `NaN`; a String as it is; a DateTime as `read_time` does, without picoseconds; bytes as hex digits; a status
-/// code. A text that is none is refused by what was expected; the other types are `NoText`.
+/// or a Double as the nearest to a decimal number, `inf`, `-inf` or `NaN`; a String as it is; a
+/// DateTime as `read_time` does, without picoseconds; a Guid with its hyphens; bytes as hex digits;
+/// a status code as `read_status` does. A text that is none is refused by what was expected; the
+/// other types are `NoText`, and `OutOfMemory` says that memory ran out.
 pub fn read_value(alloc: Global, number: u8, text: &str) -> Result<Scalar, TextFault>
     ensures { Answers (value_in number text.now) result }
 {
@@ -154,10 +160,11 @@ fn string_text(alloc: Global, text: &Option<Text>) -> Result<Vec<u8>, AllocError
 }
 
 /// A value as text: `true` or `false`; a whole number in decimal; a Float or a Double as a short
-/// decimal number, `inf`, `-inf` or `NaN`; a String as it is; a DateTime as `time_text` writes it;
-/// bytes as hex digits in lower case; a status code as `status_text` writes it. A null String or
+/// decimal number, `inf`, `-inf` or `NaN`, whose digits are promised to be read as it, and not to be
+/// the fewest; a String as it is; a DateTime as `time_text` writes it; a Guid with its hyphens, and
+/// bytes, as hex digits in lower case; a status code as `status_text` writes it. A null String or
 /// ByteString is an empty text. `read_value` reads each again: a null as an empty one, each NaN as
-/// one. Values of the other types are `NoText`.
+/// one, a code without the bits of the server. Values of the other types are `NoText`.
 pub fn value_text(alloc: Global, value: &Scalar) -> Result<Vec<u8>, TextFault>
     ensures written { IfOk result (λ text. IsValueText value.now text.items) }
     ensures read { IfOk result (λ text.
@@ -179,6 +186,7 @@ pub fn value_text(alloc: Global, value: &Scalar) -> Result<Vec<u8>, TextFault>
         Scalar::Double(value) => double_text(alloc, value)?,
         Scalar::String(value) => string_text(alloc, value)?,
         Scalar::DateTime(value) => ticks_text(alloc, *value)?,
+        Scalar::Guid(value) => guid_text(alloc, value)?,
         Scalar::ByteString(value) => bytes_text(alloc, bytes_of(value))?,
         Scalar::StatusCode(value) => status_text(alloc, *value)?,
         _ => return Err(TextFault::NoText),

@@ -2,6 +2,7 @@
 
 use history_text::{TextFault, read_value, value_text};
 use std::alloc::Global;
+use ua_binary::Guid;
 use ua_variant::Scalar;
 
 /// Whether a text is read as a value of this type, and the value is written as this text.
@@ -19,7 +20,7 @@ fn is_value(alloc: Global, number: u8, text: &str, written: &str) -> bool {
 }
 
 /// Types, each with a text that is read, and how the value is written.
-static VALUES: [(u8, &str, &str); 47] = [
+static VALUES: [(u8, &str, &str); 48] = [
     (1, "true", "true"),
     (1, "false", "false"),
     (2, "-128", "-128"),
@@ -61,6 +62,11 @@ static VALUES: [(u8, &str, &str); 47] = [
         "2026-03-01T12:00:00.00000010000Z",
         "2026-03-01T12:00:00.0000001Z",
     ),
+    (
+        14,
+        "72962B91-fa75-4ae6-8d28-b404dc7daf63",
+        "72962b91-fa75-4ae6-8d28-b404dc7daf63",
+    ),
     (15, "", ""),
     (15, "00ff7F", "00ff7f"),
     (19, "", "Good"),
@@ -91,7 +97,7 @@ fn fault_of(alloc: Global, number: u8, text: &str) -> Option<TextFault> {
 }
 
 /// Types, each with a text that is refused, and by what.
-static REFUSED: [(u8, &str, TextFault); 31] = [
+static REFUSED: [(u8, &str, TextFault); 35] = [
     (1, "True", TextFault::NoBoolean),
     (1, "1", TextFault::NoBoolean),
     (1, "", TextFault::NoBoolean),
@@ -116,6 +122,18 @@ static REFUSED: [(u8, &str, TextFault); 31] = [
     (11, "0x10", TextFault::NoFloat),
     (13, "noon", TextFault::NoTime),
     (13, "2026-03-01T12:00:00.00000000001Z", TextFault::NoTime),
+    (14, "", TextFault::NoGuid),
+    (14, "72962b91fa754ae68d28b404dc7daf63", TextFault::NoGuid),
+    (
+        14,
+        "{2962b91-fa75-4ae6-8d28-b404dc7daf6}",
+        TextFault::NoGuid,
+    ),
+    (
+        14,
+        "72962b91-fa75-4ae6-8d28-b404dc7dag63",
+        TextFault::NoGuid,
+    ),
     (15, "0", TextFault::NoBytes),
     (15, "0g", TextFault::NoBytes),
     (19, "bad", TextFault::NoStatus),
@@ -145,6 +163,23 @@ fn nulls_are_empty(rt: HostRuntime) {
         };
         assert!(rt; empty);
     }
+}
+
+/// The parts of a Guid are those of its text.
+#[test]
+fn guids_have_their_parts(rt: HostRuntime) {
+    let alloc = rt.alloc();
+    let guid = Scalar::Guid(Guid {
+        first: 0x7296_2B91,
+        second: 0xFA75,
+        third: 0x4AE6,
+        last: [0x8D, 0x28, 0xB4, 0x04, 0xDC, 0x7D, 0xAF, 0x63],
+    });
+    let good = match value_text(alloc, &guid) {
+        Ok(text) => text.as_slice() == b"72962b91-fa75-4ae6-8d28-b404dc7daf63".as_slice(),
+        Err(_) => false,
+    };
+    assert!(rt; good);
 }
 
 #[test]

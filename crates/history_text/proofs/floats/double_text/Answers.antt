@@ -10,7 +10,7 @@ pub returns-then-bits-gt9218868437227405312 : goal.returns-then-bits-gt921886843
 returns-then-bits-gt9218868437227405312 c = IfOk-weaker c.from_slice.result _ _
     (λ text written. double_nan c.args.bytes.now text.items c.from_le_bytes-bits.result
     c.from_le_bytes-bits.ensures c.if-bits-gt9218868437227405312.true written)
-        c.from_slice.ensures.items
+    c.from_slice.ensures.items
 
 pub float_from_bits-bits : goal.float_from_bits-bits
 float_from_bits-bits c =
