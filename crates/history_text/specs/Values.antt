@@ -40,29 +40,39 @@ ticks_in text = time_in text >>= ticks_of
 abbrev pub bytes_in : List ℕ → Option (List ℕ)
 bytes_in text = elim (decode_of text) [ Ok bytes ↦ Some bytes | Err _ ↦ None ]
 
--- a value that needs no memory, by the number of its type
+-- a signed whole number, by the number of its type
+abbrev pub signed_value_in : (number : ℕ) → List ℕ → Result Scalar TextFault
+signed_value_in number text =
+    if number == 2 then as_value SByte NoInteger (signed_in (2 ^ 7) text)
+    else if number == 4 then as_value Int16 NoInteger (signed_in (2 ^ 15) text)
+    else if number == 6 then as_value Int32 NoInteger (signed_in (2 ^ 31) text)
+    else if number == 8 then as_value Int64 NoInteger (signed_in (2 ^ 63) text)
+    else Err NoText
+
+-- a whole number, by the number of its type
+abbrev pub whole_value_in : (number : ℕ) → List ℕ → Result Scalar TextFault
+whole_value_in number text =
+    if number == 3 then as_value Byte NoInteger (unsigned_in 8 text)
+    else if number == 5 then as_value UInt16 NoInteger (unsigned_in 16 text)
+    else if number == 7 then as_value UInt32 NoInteger (unsigned_in 32 text)
+    else if number == 9 then as_value UInt64 NoInteger (unsigned_in 64 text)
+    else signed_value_in number text
+
+-- a number, a moment, a Guid or a status code, by the number of its type
 abbrev pub plain_in : (number : ℕ) → List ℕ → Result Scalar TextFault
 plain_in number text =
-    if number == 1 then as_value Boolean NoBoolean (boolean_in text)
-    else if number == 2 then as_value SByte NoInteger (signed_in (2 ^ 7) text)
-    else if number == 3 then as_value Byte NoInteger (unsigned_in 8 text)
-    else if number == 4 then as_value Int16 NoInteger (signed_in (2 ^ 15) text)
-    else if number == 5 then as_value UInt16 NoInteger (unsigned_in 16 text)
-    else if number == 6 then as_value Int32 NoInteger (signed_in (2 ^ 31) text)
-    else if number == 7 then as_value UInt32 NoInteger (unsigned_in 32 text)
-    else if number == 8 then as_value Int64 NoInteger (signed_in (2 ^ 63) text)
-    else if number == 9 then as_value UInt64 NoInteger (unsigned_in 64 text)
-    else if number == 10 then as_value Float NoFloat (single_in text)
+    if number == 10 then as_value Float NoFloat (single_in text)
     else if number == 11 then as_value Double NoFloat (double_in text)
     else if number == 13 then as_value DateTime NoTime (ticks_in text)
     else if number == 14 then as_value Guid NoGuid (guid_in text)
     else if number == 19 then as_value StatusCode NoStatus (status_in text)
-    else Err NoText
+    else whole_value_in number text
 
 -- a value, by the number of its type
 abbrev pub value_in : (number : ℕ) → List ℕ → Result Scalar TextFault
 value_in number text =
-    if number == 12 then Ok (String (Some text))
+    if number == 1 then as_value Boolean NoBoolean (boolean_in text)
+    else if number == 12 then Ok (String (Some text))
     else if number == 15 then as_value (λ bytes. ByteString (Some bytes)) NoBytes (bytes_in text)
     else plain_in number text
 

@@ -44,14 +44,11 @@ fn ticks_in(text: &str) -> Option<Ticks>
     }
 }
 
-/// A value that needs no memory.
+/// A number, a moment, a Guid or a status code.
 fn plain_in(number: u8, text: &str) -> Result<Scalar, TextFault>
     ensures { result ≡ plain_in number text.now }
 {
     match number {
-        1 => boolean_in(text)
-            .map(Scalar::Boolean)
-            .ok_or(TextFault::NoBoolean),
         2 => i8_in(text).map(Scalar::SByte).ok_or(TextFault::NoInteger),
         3 => u8_in(text).map(Scalar::Byte).ok_or(TextFault::NoInteger),
         4 => i16_in(text).map(Scalar::Int16).ok_or(TextFault::NoInteger),
@@ -108,6 +105,9 @@ pub fn read_value(alloc: Global, number: u8, text: &str) -> Result<Scalar, TextF
     ensures { Answers (value_in number text.now) result }
 {
     match number {
+        1 => boolean_in(text)
+            .map(Scalar::Boolean)
+            .ok_or(TextFault::NoBoolean),
         12 => Ok(Scalar::String(Some(Text::from_str(alloc, text)?))),
         15 => bytes_value(alloc, text),
         _ => plain_in(number, text),
