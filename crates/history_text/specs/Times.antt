@@ -135,7 +135,7 @@ date_text date =
     last_digits 4 (unsigned_abs date.year) ++ 45 ∷ last_digits 2 date.month
     ++ 45 ∷ last_digits 2 date.day
 
--- a second of a day: T12:00:00
+-- a second of a day, behind a T: 12:00:00
 abbrev pub clock_text : (second : ℕ) → List ℕ
 clock_text second =
     84 ∷ last_digits 2 (second / 3600) ++ 58 ∷ last_digits 2 (second / 60 % 60)
