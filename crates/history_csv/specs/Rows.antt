@@ -1,0 +1,194 @@
+-- How a node's history is written as CSV, a value or a modification a row, and a row read again.
+use Rattle.std.specs.Prelude.{◌≡◌, ◌⊎◌, ℕ, nat_lt, ℤ, ⊤, List, [], ◌∷◌, ◌++◌, codes, Option, Some, None, ok_or, unwrap_or, Result, Ok, Err, MatchResult, if◌then◌else◌}
+use Rattle.std.specs.Str.{bytes_eq}
+use Rattle.csv.specs.Machine.{next_record}
+use Rattle.csv.specs.Reading.{default_config}
+use Rattle.csv.specs.declared.parser.State.TheVariants.{StartRecord}
+use Rattle.csv.specs.Writing.{default_writer, row_text}
+use Rattle.ua_binary.specs.declared.codes.Status.{Status}
+use Rattle.ua_binary.specs.declared.values.NodeId.{NodeId}
+use Rattle.ua_variant.specs.Scalar.{scalar_number}
+use Rattle.ua_variant.specs.declared.value.Scalar.{Scalar as OneValue}
+use Rattle.ua_variant.specs.declared.value.Variant.{Variant}
+use Rattle.ua_variant.specs.declared.value.Variant.TheVariants.{Null, Scalar, Array}
+use Rattle.ua_variant.specs.declared.data.DataValue.{DataValue}
+use Rattle.ua_variant.specs.declared.update_type.HistoryUpdateType.{HistoryUpdateType}
+use Rattle.ua_variant.specs.declared.update_type.HistoryUpdateType.TheVariants.{Insert, Replace, Update, Delete}
+use Rattle.records.specs.Moments.{moment, ticks_of, pico_of}
+use Rattle.records.specs.declared.shown.Held.{Held}
+use Rattle.records.specs.declared.shown.Entry.{Entry}
+use Rattle.history_text.specs.Statuses.{kept, status_in, status_text}
+use Rattle.history_text.specs.Times.{◌>>=◌, time_in, IsTimeText}
+use Rattle.history_text.specs.Values.{value_in, read_back, IsUnwritten, IsValueText}
+use Rattle.history_text.specs.declared.times.Time.{Time}
+use Rattle.history_text.specs.declared.fault.TextFault.TheVariants.{NoTime, NoStatus}
+use Rattle.history_csv.specs.Nodes.{node_in, node_text}
+use Rattle.history_csv.specs.declared.fields.Row.{Row}
+use Rattle.history_csv.specs.declared.fault.RowFault.{RowFault}
+use Rattle.history_csv.specs.declared.fault.RowFault.TheVariants as fault
+
+-- ---- reading
+
+-- the answer is given, unless memory ran out
+abbrev pub Answers : {A : Type 0} → Result A RowFault → Result A RowFault → Type 0
+Answers answer result =
+    MatchResult result (λ v. answer ≡ Ok v) (λ e. (e ≡ fault.OutOfMemory) ⊎ (answer ≡ Err e))
+
+-- the moment of these parts, where its picoseconds are at most 9,999 steps of 10
+abbrev pub moment_by_parts : Time → Option ℤ
+moment_by_parts time = if nat_lt 9999 time.pico then None else Some (moment time.ticks time.pico)
+
+-- the moment that a text says
+abbrev pub moment_in : List ℕ → Option ℤ
+moment_in text = time_in text >>= moment_by_parts
+
+-- the value of a type that a text says; an empty one may say that there is none
+abbrev pub optional_in : (number : ℕ) → List ℕ → Result (Option OneValue) RowFault
+optional_in number text =
+    elim (value_in number text) [
+      | Ok value ↦ Ok (Some value)
+      | Err why ↦ if bytes_eq text [] then Ok None else Err (fault.Value why)
+    ]
+
+-- the second step from what the first one gave, if it gave something
+abbrev pub and_then : {A B : Type 0} → Result A RowFault → (A → Result B RowFault)
+    → Result B RowFault
+and_then (Ok x) f = f x
+and_then (Err e) f = Err e
+
+-- the row that four texts say
+abbrev pub row_in : (number : ℕ) → (node time value status : List ℕ) → Result Row RowFault
+row_in number node time value status =
+    and_then (ok_or (node_in node) fault.Node) λ node.
+    and_then (ok_or (moment_in time) (fault.Time NoTime)) λ time.
+    and_then (optional_in number value) λ value.
+    and_then (ok_or (status_in status) (fault.Status NoStatus)) λ status.
+    Ok (record { node = node; time = time; value = value; status = status })
+
+-- the row that fields say: four
+abbrev pub row_of : (number : ℕ) → List (List ℕ) → Result Row RowFault
+row_of number (node ∷ time ∷ value ∷ status ∷ []) = row_in number node time value status
+row_of number _ = Err fault.Fields
+
+-- ---- writing
+
+-- the fields of the header over values
+abbrev pub value_names : List (List ℕ)
+value_names = codes "node" ∷ codes "time" ∷ codes "value" ∷ codes "status" ∷ []
+
+-- the fields of the header over modifications
+abbrev pub change_names : List (List ℕ)
+change_names = value_names ++ codes "change" ∷ codes "changed" ∷ codes "user" ∷ []
+
+-- the parts of a moment
+abbrev pub time_of : ℤ → Time
+time_of time = record { ticks = ticks_of time; pico = pico_of time }
+
+-- a text that is written for a value that may be none: nothing; an array has no text
+abbrev pub IsVariantText : Option Variant → List ℕ → Type 0
+IsVariantText given text =
+    elim given [
+      | None ↦ text ≡ []
+      | Some v ↦ elim v [ Null ↦ text ≡ [] | Scalar s ↦ IsValueText s text | Array _ ↦ ⊥ ]
+    ]
+
+-- the text of a status, which is good where there is none
+abbrev pub code_text : Option Status → List ℕ
+code_text status = status_text (unwrap_or status (record { 0 = 0 }))
+
+-- a value has no text: an array, and a value of some types
+abbrev pub IsTextless : Option Variant → Type 0
+IsTextless given =
+    elim given [
+      | None ↦ ⊥
+      | Some v ↦ elim v [ Null ↦ ⊥ | Scalar s ↦ IsUnwritten s | Array _ ↦ ⊤ ]
+    ]
+
+-- the texts of a value and of its status
+abbrev pub AreDataTexts : DataValue → (value status : List ℕ) → Type 0
+AreDataTexts given value status = IsVariantText given.value value
+    × (status ≡ code_text given.status)
+
+-- the fields of a live value's row
+abbrev pub AreValueFields : NodeId → Held → List (List ℕ) → Type 0
+AreValueFields node held (name ∷ time ∷ value ∷ status ∷ []) =
+    (name ≡ node_text node) × IsTimeText (time_of held.time) time
+    × AreDataTexts held.value value status
+AreValueFields node held _ = ⊥
+
+-- what was done, in a word
+abbrev pub change_word : HistoryUpdateType → List ℕ
+change_word kind =
+    elim kind [
+      | Insert ↦ codes "insert"
+      | Replace ↦ codes "replace"
+      | Update ↦ codes "update"
+      | Delete ↦ codes "delete"
+    ]
+
+-- the texts of a value that a modification shows and of its status: nothing where it shows none
+abbrev pub AreShownTexts : Option DataValue → (value status : List ℕ) → Type 0
+AreShownTexts shown value status =
+    elim shown [
+      | None ↦ (value ≡ []) × (status ≡ [])
+      | Some given ↦ AreDataTexts given value status
+    ]
+
+-- a modification shows a value that has no text
+abbrev pub ShowsTextless : Option DataValue → Type 0
+ShowsTextless shown = elim shown [ None ↦ ⊥ | Some given ↦ IsTextless given.value ]
+
+-- the fields of a modification's row: those of the value that it shows, what was done, when, by
+-- whom
+abbrev pub AreChangeFields : NodeId → Entry → List (List ℕ) → Type 0
+AreChangeFields node entry (name ∷ time ∷ value ∷ status ∷ change ∷ changed ∷ user ∷ []) =
+    (name ≡ node_text node) × IsTimeText (time_of entry.time) time
+    × AreShownTexts entry.value value status × (change ≡ change_word entry.kind)
+    × IsTimeText (record { ticks = entry.tick; pico = 0 }) changed × (user ≡ entry.user)
+AreChangeFields node entry _ = ⊥
+
+-- a row is appended, of such fields
+abbrev pub IsAppended : (old new : List ℕ) → (List (List ℕ) → Type 0) → Type 0
+IsAppended old new AreFields =
+    (fields : List (List ℕ)) × (new ≡ old ++ row_text default_writer fields) × AreFields fields
+
+-- ---- what is read again
+
+-- the type of this number, where there is a value
+abbrev pub IsTypeOf : (number : ℕ) → Option Variant → Type 0
+IsTypeOf number given =
+    elim given [
+      | None ↦ ⊤
+      | Some v ↦ elim v [ Null ↦ ⊤ | Scalar s ↦ number ≡ scalar_number s | Array _ ↦ ⊤ ]
+    ]
+
+-- what is read of a value that was written: of none, what an empty field says
+abbrev pub read_again : (number : ℕ) → Option Variant → Result (Option OneValue) RowFault
+read_again number given =
+    elim given [
+      | None ↦ optional_in number []
+      | Some v ↦ elim v [ Scalar s ↦ Ok (Some (read_back s)) | _ ↦ optional_in number [] ]
+    ]
+
+-- the row that is read of one that was written
+abbrev pub row_again : (number : ℕ) → NodeId → Held → Result Row RowFault
+row_again number node held =
+    and_then (read_again number held.value.value) λ value.
+    Ok (record {
+      node = node;
+      time = held.time;
+      value = value;
+      status = kept (unwrap_or held.value.status (record { 0 = 0 }));
+    })
+
+-- the fields of a live value's row, which are read as that value
+abbrev pub AreReadFields : NodeId → Held → List (List ℕ) → Type 0
+AreReadFields node held fields = AreValueFields node held fields
+    × ((number : ℕ) → IsTypeOf number held.value.value
+    → row_of number fields ≡ row_again number node held)
+
+-- the row that a text begins by, as the kit's `csv` reads it
+abbrev pub row_at : (number : ℕ) → List ℕ → Result Row RowFault
+row_at number text =
+    elim (next_record default_config StartRecord [] [] text)
+    [ Some read ↦ row_of number read.0 | None ↦ Err fault.Fields ]

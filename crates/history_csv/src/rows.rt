@@ -1,0 +1,262 @@
+//! Rows of CSV: a history's values and modifications, and a row of values read again.
+
+ghost use Rattle.std.specs.Prelude.{◌≡◌, ◌≢◌, ◌⊎◌, ◌∷◌, ◌++◌, [], ℕ, List, length, map, codes, OnOk, OnErr, IfOk, IfErr, MatchOption, Some};
+ghost use Rattle.csv.specs.Records.{fields_of};
+ghost use Rattle.csv.specs.Writing.{default_writer, row_text};
+ghost use Rattle.history_text.specs.Times.{IsTimeText};
+ghost use Rattle.history_text.specs.declared.fault.TextFault.TheVariants as Why;
+ghost use Rattle.history_csv.specs.Rows.{Answers, row_of, value_names, change_names, change_word, IsTextless, ShowsTextless, AreReadFields, AreChangeFields, IsAppended};
+
+use crate::fault::RowFault;
+use crate::fields::{Fields, Row, row_in};
+use crate::nodes::node_text;
+use crate::texts::{ValueTexts, change_word, data_texts, moment_text, shown_texts, tick_text};
+use csv::{Error, StringRecord, WriterBuilder};
+use history_text::TextFault;
+use records::{Entry, Held};
+use std::alloc::Global;
+use ua_binary::NodeId;
+
+// ---- reading
+
+/// The fields of a row, where they are four.
+fn four(record: &StringRecord) -> Option<Fields<'_>>
+    ensures { MatchOption result (length (fields_of record.now) ≢ 4)
+        (λ row. fields_of record.now
+        ≡ row.node.now ∷ row.time.now ∷ row.value.now ∷ row.status.now ∷ []) }
+{
+    if record.len() != 4 {
+        return None;
+    }
+    let Some(node) = record.get(0) else {
+        return None;
+    };
+    let Some(time) = record.get(1) else {
+        return None;
+    };
+    let Some(value) = record.get(2) else {
+        return None;
+    };
+    let Some(status) = record.get(3) else {
+        return None;
+    };
+    Some(Fields {
+        node,
+        time,
+        value,
+        status,
+    })
+}
+
+/// Reads a row of values, as the kit's `csv` gives it: a node, a source time, a value of the type
+/// of this number, and a status, each as it is written. An empty value says that there is none, but
+/// of a String or a ByteString an empty one, and of a StatusCode a good one. A row that hasn't four
+/// fields is `Fields`, and else the first field that is wrong is told with what was expected;
+/// `OutOfMemory` says that memory ran out.
+pub fn read_row(alloc: Global, number: u8, record: &StringRecord) -> Result<Row, RowFault>
+    ensures { Answers (row_of number (fields_of record.now)) result }
+{
+    match four(record) {
+        Some(fields) => row_in(alloc, number, fields),
+        None => Err(RowFault::Fields),
+    }
+}
+
+// ---- writing
+
+/// A row's text.
+fn row_text(alloc: Global, fields: &[&[u8]]) -> Result<Vec<u8>, Error>
+    ensures { IfOk result (λ text.
+        text.items ≡ row_text default_writer (map (λ field. field.now) fields.now)) }
+{
+    let mut writer = WriterBuilder::new().from_writer(Vec::new(alloc));
+    writer.write_fields(fields)?;
+    match writer.into_inner() {
+        Ok(text) => Ok(text),
+        Err(fault) => Err(fault.into_error()),
+    }
+}
+
+/// Appends a row.
+fn put_row(alloc: Global, out: &mut Vec<u8>, fields: &[&[u8]]) -> Result<(), TextFault>
+    ensures put { OnOk result (out.new.items
+        ≡ out.old.items ++ row_text default_writer (map (λ field. field.now) fields.now)) }
+    ensures refused { IfErr result (λ e. e ≡ Why.OutOfMemory) }
+    ensures kept { OnErr result (out.new.items ≡ out.old.items) }
+{
+    match row_text(alloc, fields) {
+        Ok(text) => {
+            out.extend_from_slice(text.as_slice())?;
+            Ok(())
+        }
+        Err(_) => Err(TextFault::OutOfMemory),
+    }
+}
+
+/// Appends the header of a CSV of values, a row of `node`, `time`, `value` and `status`. The one
+/// error is `OutOfMemory`, and then nothing is appended.
+pub fn put_value_header(alloc: Global, out: &mut Vec<u8>) -> Result<(), TextFault>
+    ensures put { OnOk result
+        (out.new.items ≡ out.old.items ++ row_text default_writer value_names) }
+    ensures refused { IfErr result (λ e. e ≡ Why.OutOfMemory) }
+    ensures kept { OnErr result (out.new.items ≡ out.old.items) }
+{
+    put_row(alloc, out, &[b"node", b"time", b"value", b"status"])
+}
+
+/// Appends the header of a CSV of modifications: behind the fields of a value, `change`, `changed`
+/// and `user`. The one error is `OutOfMemory`, and then nothing is appended.
+pub fn put_change_header(alloc: Global, out: &mut Vec<u8>) -> Result<(), TextFault>
+    ensures put { OnOk result
+        (out.new.items ≡ out.old.items ++ row_text default_writer change_names) }
+    ensures refused { IfErr result (λ e. e ≡ Why.OutOfMemory) }
+    ensures kept { OnErr result (out.new.items ≡ out.old.items) }
+{
+    put_row(
+        alloc,
+        out,
+        &[
+            b"node", b"time", b"value", b"status", b"change", b"changed", b"user",
+        ],
+    )
+}
+
+/// The texts of a live value's row.
+#[derive(Drop)]
+struct RowTexts {
+    node: Vec<u8>,
+    time: Vec<u8>,
+    shown: ValueTexts,
+}
+
+/// The texts of a live value's row.
+#[tactic(auto, using(crate::proofs::RowsLemmas::row_is_read))]
+fn row_texts(alloc: Global, node: &NodeId, held: &Held) -> Result<RowTexts, TextFault>
+    ensures written { IfOk result (λ row. AreReadFields node.now held.now
+        (row.node.items ∷ row.time.items ∷ row.shown.value.items ∷ row.shown.status.items ∷ [])) }
+    ensures refused { IfErr result (λ e. (e ≡ Why.OutOfMemory)
+        ⊎ (IsTextless held.now.value.value × (e ≡ Why.NoText))) }
+{
+    let node = node_text(alloc, node)?;
+    let time = moment_text(alloc, held.time)?;
+    let shown = data_texts(alloc, &held.value)?;
+    Ok(RowTexts { node, time, shown })
+}
+
+/// Appends a live value as a row: its node, its source time, its value and its status. No value is
+/// an empty field, and no status a good one. What is written is read again by `read_row` at the
+/// number of the value's type: a null text or byte string as an empty one, each NaN as one, a code
+/// without the bits of the server. An array, and a value that has no text, is `NoText`;
+/// `OutOfMemory` says that memory ran out. After an error nothing is appended.
+pub fn put_value_row(
+    alloc: Global,
+    out: &mut Vec<u8>,
+    node: &NodeId,
+    held: &Held,
+) -> Result<(), TextFault>
+    ensures written { OnOk result
+        (IsAppended out.old.items out.new.items (AreReadFields node.now held.now)) }
+    ensures refused { IfErr result (λ e. (e ≡ Why.OutOfMemory)
+        ⊎ (IsTextless held.now.value.value × (e ≡ Why.NoText))) }
+    ensures kept { OnErr result (out.new.items ≡ out.old.items) }
+{
+    let row = row_texts(alloc, node, held)?;
+    put_row(
+        alloc,
+        out,
+        &[
+            row.node.as_slice(),
+            row.time.as_slice(),
+            row.shown.value.as_slice(),
+            row.shown.status.as_slice(),
+        ],
+    )
+}
+
+/// The texts of what was done, when, and by whom.
+#[derive(Drop)]
+struct MadeTexts {
+    change: Vec<u8>,
+    changed: Vec<u8>,
+    user: Vec<u8>,
+}
+
+/// The texts of what was done, when, and by whom.
+fn made_texts(alloc: Global, entry: &Entry) -> Result<MadeTexts, TextFault>
+    ensures change { IfOk result (λ made. made.change.items ≡ change_word entry.now.kind) }
+    ensures changed { IfOk result (λ made.
+        IsTimeText (record { ticks = entry.now.tick; pico = 0 }) made.changed.items) }
+    ensures user { IfOk result (λ made. made.user.items ≡ entry.now.user) }
+    ensures refused { IfErr result (λ e. e ≡ Why.OutOfMemory) }
+{
+    let change = Vec::from_slice(alloc, change_word(entry.kind).as_bytes())?;
+    let changed = tick_text(alloc, entry.tick)?;
+    let user = Vec::from_slice(alloc, entry.user.as_str().as_bytes())?;
+    Ok(MadeTexts {
+        change,
+        changed,
+        user,
+    })
+}
+
+/// The texts of a modification's row.
+#[derive(Drop)]
+struct ChangeTexts {
+    node: Vec<u8>,
+    time: Vec<u8>,
+    shown: ValueTexts,
+    made: MadeTexts,
+}
+
+/// The texts of a modification's row.
+fn change_texts(alloc: Global, node: &NodeId, entry: &Entry) -> Result<ChangeTexts, TextFault>
+    ensures written { IfOk result (λ row. AreChangeFields node.now entry.now
+        (row.node.items ∷ row.time.items ∷ row.shown.value.items ∷ row.shown.status.items
+        ∷ row.made.change.items ∷ row.made.changed.items ∷ row.made.user.items ∷ [])) }
+    ensures refused { IfErr result (λ e. (e ≡ Why.OutOfMemory)
+        ⊎ (ShowsTextless entry.now.value × (e ≡ Why.NoText))) }
+{
+    let node = node_text(alloc, node)?;
+    let time = moment_text(alloc, entry.time)?;
+    let shown = shown_texts(alloc, &entry.value)?;
+    let made = made_texts(alloc, entry)?;
+    Ok(ChangeTexts {
+        node,
+        time,
+        shown,
+        made,
+    })
+}
+
+/// Appends a modification as a row: its node, its source time, the value that it took the place of
+/// and its status, else its own; then what was done (`insert`, `replace`, `update`, `delete`), when,
+/// and by whom. A delete of nothing has an empty value and an empty status. An array, and a value
+/// that has no text, is `NoText`; `OutOfMemory` says that memory ran out. After an error nothing is
+/// appended.
+pub fn put_change_row(
+    alloc: Global,
+    out: &mut Vec<u8>,
+    node: &NodeId,
+    entry: &Entry,
+) -> Result<(), TextFault>
+    ensures written { OnOk result
+        (IsAppended out.old.items out.new.items (AreChangeFields node.now entry.now)) }
+    ensures refused { IfErr result (λ e. (e ≡ Why.OutOfMemory)
+        ⊎ (ShowsTextless entry.now.value × (e ≡ Why.NoText))) }
+    ensures kept { OnErr result (out.new.items ≡ out.old.items) }
+{
+    let row = change_texts(alloc, node, entry)?;
+    put_row(
+        alloc,
+        out,
+        &[
+            row.node.as_slice(),
+            row.time.as_slice(),
+            row.shown.value.as_slice(),
+            row.shown.status.as_slice(),
+            row.made.change.as_slice(),
+            row.made.changed.as_slice(),
+            row.made.user.as_slice(),
+        ],
+    )
+}

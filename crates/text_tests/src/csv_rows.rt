@@ -1,0 +1,196 @@
+//! Rows of CSV.
+
+use csv::{ReaderBuilder, StringRecord};
+use history_csv::{
+    Row, RowFault, put_change_header, put_change_row, put_value_header, put_value_row, read_node,
+    read_row,
+};
+use history_text::TextFault;
+use records::{Entry, Held, Moment};
+use stamp::ReplicaNo;
+use std::alloc::Global;
+use ua_binary::{Status, Text};
+use ua_variant::{DataValue, HistoryUpdateType, Scalar, Variant};
+
+/// A value with a status.
+fn value_of(value: Option<Variant>, status: Option<Status>) -> DataValue {
+    DataValue {
+        value,
+        status,
+        source_time: None,
+        source_pico: None,
+        server_time: None,
+        server_pico: None,
+    }
+}
+
+/// Whether a row that was read is written as this text.
+fn is_written(alloc: Global, row: Row, text: &str) -> bool {
+    let Row {
+        node,
+        time,
+        value,
+        status,
+    } = row;
+    let held = Held {
+        time,
+        value: value_of(value.map(Variant::Scalar), Some(status)),
+        extra: false,
+    };
+    let mut out = Vec::new(alloc);
+    match put_value_row(alloc, &mut out, &node, &held) {
+        Ok(()) => out.as_slice() == text.as_bytes(),
+        Err(_) => false,
+    }
+}
+
+/// The row that a text begins by.
+fn row_at(alloc: Global, number: u8, text: &str) -> Result<Row, RowFault> {
+    let mut reader = ReaderBuilder::new()
+        .has_headers(false)
+        .from_reader(alloc, text.as_bytes());
+    let mut record = StringRecord::new(alloc);
+    match reader.read_record(&mut record) {
+        Ok(true) => read_row(alloc, number, &record),
+        _ => Err(RowFault::OutOfMemory),
+    }
+}
+
+/// Whether a text is read as a row of this type, which is written as that text.
+fn is_row(alloc: Global, number: u8, text: &str, written: &str) -> bool {
+    match row_at(alloc, number, text) {
+        Ok(row) => is_written(alloc, row, written),
+        Err(_) => false,
+    }
+}
+
+/// Types, each with a row that is read, and how it is written.
+static ROWS: [(u8, &str, &str); 10] = [
+    (
+        11,
+        "i=2258,2026-03-01T12:00:00.0000000Z,0.1,Good\n",
+        "i=2258,2026-03-01T12:00:00.0000000Z,0.1,Good\n",
+    ),
+    (
+        11,
+        "i=2258,2026-03-01T12:00:00Z,1,\r\ni=2259,@0,2,\r\n",
+        "i=2258,2026-03-01T12:00:00.0000000Z,1.0,Good\n",
+    ),
+    (
+        11,
+        "\"i=2258\",\"2026-03-01T12:00:00.00000000001Z\",NaN,80320000",
+        "i=2258,2026-03-01T12:00:00.00000000001Z,NaN,80320000\n",
+    ),
+    (
+        12,
+        "\"ns=1;s=a,b\",@-1,\"say \"\"hi\"\"\nnow\",809b0408\n",
+        "\"ns=1;s=a,b\",@-1,\"say \"\"hi\"\"\nnow\",809B0000\n",
+    ),
+    (12, "s=,@-1,,\n", "s=,@-1,,Good\n"),
+    (12, "s=,@-1+0001,\"\r\",\n", "s=,@-1+0001,\"\r\",Good\n"),
+    (6, "i=1,@-1,,809B0000\n", "i=1,@-1,,809B0000\n"),
+    (6, "i=1,@-1,-5,Good\n", "i=1,@-1,-5,Good\n"),
+    (15, "i=1,@-1,00FF,\n", "i=1,@-1,00ff,Good\n"),
+    (19, "i=1,@-1,,\n", "i=1,@-1,Good,Good\n"),
+];
+
+#[test]
+fn rows_are_written(rt: HostRuntime) {
+    let alloc = rt.alloc();
+    for (number, text, written) in &ROWS {
+        let good = is_row(alloc, *number, text, written);
+        assert!(rt; good, "{text}");
+    }
+}
+
+/// Types, each with a text that is no row, and why.
+static REFUSED: [(u8, &str, RowFault); 10] = [
+    (6, "i=1,@0,5\n", RowFault::Fields),
+    (6, "i=1,@0,5,Good,\n", RowFault::Fields),
+    (6, "i=1;@0;5;Good\n", RowFault::Fields),
+    (6, "x,noon,five,good\n", RowFault::Node),
+    (6, "i=1,noon,five,good\n", RowFault::Time(TextFault::NoTime)),
+    (6, "i=1,@0,five,good\n", RowFault::Value(TextFault::NoInteger)),
+    (6, "i=1,@0,5,good\n", RowFault::Status(TextFault::NoStatus)),
+    (1, "i=1,@0,5,Good\n", RowFault::Value(TextFault::NoBoolean)),
+    (17, "i=1,@0,i=85,Good\n", RowFault::Value(TextFault::NoText)),
+    (6, "node,time,value,status\n", RowFault::Node),
+];
+
+/// Why a text is no row.
+fn fault_of(alloc: Global, number: u8, text: &str) -> Option<RowFault> {
+    match row_at(alloc, number, text) {
+        Ok(_) => None,
+        Err(fault) => Some(fault),
+    }
+}
+
+#[test]
+fn rows_are_refused(rt: HostRuntime) {
+    let alloc = rt.alloc();
+    for (number, text, fault) in &REFUSED {
+        let refused = fault_of(alloc, *number, text) == Some(*fault);
+        assert!(rt; refused, "{text}");
+    }
+}
+
+/// Whether both headers stand one behind the other.
+fn has_headers(alloc: Global) -> bool {
+    let mut out = Vec::new(alloc);
+    let values = put_value_header(alloc, &mut out).is_ok();
+    let changes = put_change_header(alloc, &mut out).is_ok();
+    let text = "node,time,value,status\nnode,time,value,status,change,changed,user\n";
+    values && changes && out.as_slice() == text.as_bytes()
+}
+
+#[test]
+fn headers_are_written(rt: HostRuntime) {
+    let good = has_headers(rt.alloc());
+    assert!(rt; good);
+}
+
+/// What is written of a modification of ns=1;s=T, made at noon.
+fn is_change(alloc: Global, kind: HistoryUpdateType, value: Option<DataValue>, text: &str) -> bool {
+    let Ok(user) = Text::from_str(alloc, "a,b") else {
+        return false;
+    };
+    let Some(origin) = ReplicaNo::new(1) else {
+        return false;
+    };
+    let Ok(node) = read_node(alloc, "ns=1;s=T") else {
+        return false;
+    };
+    let entry = Entry {
+        time: Moment::at(-1),
+        value,
+        kind,
+        tick: 134_168_400_000_000_000,
+        origin,
+        user,
+    };
+    let mut out = Vec::new(alloc);
+    match put_change_row(alloc, &mut out, &node, &entry) {
+        Ok(()) => out.as_slice() == text.as_bytes(),
+        Err(_) => false,
+    }
+}
+
+#[test]
+fn changes_are_written(rt: HostRuntime) {
+    let alloc = rt.alloc();
+    let five = value_of(Some(Variant::Scalar(Scalar::Int32(5))), None);
+    let replaced = is_change(
+        alloc,
+        HistoryUpdateType::Replace,
+        Some(five),
+        "ns=1;s=T,@-1,5,Good,replace,2026-03-01T12:00:00.0000000Z,\"a,b\"\n",
+    );
+    assert!(rt; replaced);
+    let deleted = is_change(
+        alloc,
+        HistoryUpdateType::Delete,
+        None,
+        "ns=1;s=T,@-1,,,delete,2026-03-01T12:00:00.0000000Z,\"a,b\"\n",
+    );
+    assert!(rt; deleted);
+}
