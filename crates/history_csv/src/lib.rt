@@ -15,4 +15,8 @@ pub use fault::RowFault;
 pub use fields::Row;
 pub use laws::a_written_row_is_read_again;
 pub use nodes::{node_text, read_node};
-pub use rows::{put_change_header, put_change_row, put_value_header, put_value_row, read_row};
+pub use rows::{
+    ChangeTexts, MadeTexts, RowTexts, change_texts, put_change_header, put_change_row,
+    put_value_header, put_value_row, read_row, row_texts,
+};
+pub use texts::ValueTexts;

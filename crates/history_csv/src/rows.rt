@@ -123,15 +123,19 @@ pub fn put_change_header(alloc: Global, out: &mut Vec<u8>) -> Result<(), TextFau
 
 /// The texts of a live value's row.
 #[derive(Drop)]
-struct RowTexts {
-    node: Vec<u8>,
-    time: Vec<u8>,
-    shown: ValueTexts,
+pub struct RowTexts {
+    /// The node.
+    pub node: Vec<u8>,
+    /// The source time.
+    pub time: Vec<u8>,
+    /// The value and its status.
+    pub shown: ValueTexts,
 }
 
-/// The texts of a live value's row.
+/// The texts of a live value's row, as `put_value_row` writes them. An array, and a value that has no
+/// text, is `NoText`; `OutOfMemory` says that memory ran out.
 #[tactic(auto, using(crate::proofs::RowsLemmas::row_is_read))]
-fn row_texts(alloc: Global, node: &NodeId, held: &Held) -> Result<RowTexts, TextFault>
+pub fn row_texts(alloc: Global, node: &NodeId, held: &Held) -> Result<RowTexts, TextFault>
     ensures written { IfOk result (λ row. AreReadFields node.now held.now
         (row.node.items ∷ row.time.items ∷ row.shown.value.items ∷ row.shown.status.items ∷ [])) }
     ensures refused { IfErr result (λ e. (e ≡ Why.OutOfMemory)
@@ -175,10 +179,13 @@ pub fn put_value_row(
 
 /// The texts of what was done, when, and by whom.
 #[derive(Drop)]
-struct MadeTexts {
-    change: Vec<u8>,
-    changed: Vec<u8>,
-    user: Vec<u8>,
+pub struct MadeTexts {
+    /// What was done, in a word.
+    pub change: Vec<u8>,
+    /// When.
+    pub changed: Vec<u8>,
+    /// By whom.
+    pub user: Vec<u8>,
 }
 
 /// The texts of what was done, when, and by whom.
@@ -201,15 +208,20 @@ fn made_texts(alloc: Global, entry: &Entry) -> Result<MadeTexts, TextFault>
 
 /// The texts of a modification's row.
 #[derive(Drop)]
-struct ChangeTexts {
-    node: Vec<u8>,
-    time: Vec<u8>,
-    shown: ValueTexts,
-    made: MadeTexts,
+pub struct ChangeTexts {
+    /// The node.
+    pub node: Vec<u8>,
+    /// The source time.
+    pub time: Vec<u8>,
+    /// The value that it shows, and its status.
+    pub shown: ValueTexts,
+    /// What was done, when, and by whom.
+    pub made: MadeTexts,
 }
 
-/// The texts of a modification's row.
-fn change_texts(alloc: Global, node: &NodeId, entry: &Entry) -> Result<ChangeTexts, TextFault>
+/// The texts of a modification's row, as `put_change_row` writes them. An array, and a value that has
+/// no text, is `NoText`; `OutOfMemory` says that memory ran out.
+pub fn change_texts(alloc: Global, node: &NodeId, entry: &Entry) -> Result<ChangeTexts, TextFault>
     ensures written { IfOk result (λ row. AreChangeFields node.now entry.now
         (row.node.items ∷ row.time.items ∷ row.shown.value.items ∷ row.shown.status.items
         ∷ row.made.change.items ∷ row.made.changed.items ∷ row.made.user.items ∷ [])) }

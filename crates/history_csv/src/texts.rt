@@ -80,9 +80,11 @@ fn variant_text(alloc: Global, value: &Option<Variant>) -> Result<Vec<u8>, TextF
 
 /// The texts of a value and of its status.
 #[derive(Drop)]
-pub(crate) struct ValueTexts {
-    pub(crate) value: Vec<u8>,
-    pub(crate) status: Vec<u8>,
+pub struct ValueTexts {
+    /// The value.
+    pub value: Vec<u8>,
+    /// The status.
+    pub status: Vec<u8>,
 }
 
 /// The texts of a value and of its status.

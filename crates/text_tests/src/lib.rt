@@ -1,4 +1,4 @@
-//! Tests: moments, status codes, values, node ids and rows of CSV as text, in rows.
+//! Tests: moments, status codes, values, node ids, rows of CSV and printed histories as text, in rows.
 #![tactic(auto)]
 
 #[cfg(test)]
@@ -7,5 +7,7 @@ mod csv_rows;
 mod moments;
 #[cfg(test)]
 mod node_ids;
+#[cfg(test)]
+mod reports;
 #[cfg(test)]
 mod values;

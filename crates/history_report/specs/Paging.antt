@@ -1,0 +1,105 @@
+-- A list in pages, and what was printed of it so far.
+use Rattle.std.specs.Prelude.{◌≡◌, ◌⊎◌, ℕ, ℤ, pos, ◌≤ℤ◌, ◌-◌, ◌^◌, List, [], ◌∷◌, ◌++◌, take, Option, Result, Ok, Err, MatchResult}
+use Rattle.std.specs.Io.KnownBytes.{Appends}
+use Rattle.counted_io.specs.Bytes.{AppendsPart}
+use Rattle.stamp.specs.Numbers.{number_of}
+use Rattle.ua_binary.specs.declared.values.NodeId.{NodeId}
+use Rattle.records.specs.Contents.{Content, cut}
+use Rattle.records.specs.Moments.{moment}
+use Rattle.records.specs.declared.shown.Held.{Held}
+use Rattle.records.specs.declared.shown.Entry.{Entry}
+use Rattle.archive.specs.Reading.{range_of, log_of}
+use Rattle.archive.specs.declared.reading.Direction.TheVariants.{Forward}
+use Rattle.archive.specs.Store.{Store, StepResult, StoreFailed}
+use Rattle.archive.specs.Steps.{Transitions}
+use Rattle.archive.specs.declared.fault.StoreFault.{StoreFault}
+use Rattle.history_text.specs.declared.fault.TextFault.{TextFault}
+use Rattle.history_text.specs.declared.fault.TextFault.TheVariants as Why
+use Rattle.history_report.specs.declared.fault.ReportFault.{ReportFault}
+use Rattle.history_report.specs.declared.fault.ReportFault.TheVariants as fault
+use Rattle.history_report.specs.declared.pages.Pages.{Pages}
+use Rattle.history_report.specs.Reports.{AreLines, IsAt, store_faults_of}
+
+-- ---- the times of records
+
+-- the last moment of all
+abbrev pub greatest_time : ℤ
+greatest_time = moment (pos (2 ^ 63 - 1)) 9999
+
+-- the moment of a lawful record
+abbrev pub IsTime : ℤ → Type 0
+IsTime time = (pos 1 ≤ℤ time) × (time ≤ℤ greatest_time)
+
+-- ---- pages
+
+-- the live values that are still to come
+abbrev pub values_left : NodeId → Pages → Content → List Held
+values_left node pages R =
+    range_of (cut R (number_of pages.within)) node pages.span.from pages.span.to Forward
+
+-- the modifications that are still to come
+abbrev pub changes_left : NodeId → Pages → Content → List Entry
+changes_left node pages R =
+    log_of (cut R (number_of pages.within)) node pages.span.from pages.span.to pages.after Forward
+
+-- a page of what was still to come, and what is still to come behind it; an empty one is the last
+abbrev pub IsPageOf : {X : Type 0} → (page more rest : List X) → Type 0
+IsPageOf page more rest = (page ++ more ≡ rest) × (page ≡ [] → more ≡ [])
+
+-- the archive answered this page
+abbrev pub GivesPage : {X : Type 0} → Store → Store → List X → (more rest : Content → List X)
+    → Type 0
+GivesPage old new page more rest =
+    Transitions old new [] (λ marks R S. (S ≡ R) × IsPageOf page (more R) (rest R))
+
+-- the archive met this fault of its store
+abbrev pub Fails : Store → Store → StoreFault → Type 0
+Fails old new why = Transitions old new (StoreFailed why ∷ []) (λ marks R S. S ≡ R)
+
+-- ---- lines
+
+-- a line of such was put behind a text
+abbrev pub IsPut : (old new : List ℕ) → (List ℕ → Type 0) → Type 0
+IsPut old new IsLine = (line : List ℕ) × (new ≡ old ++ line) × IsLine line
+
+-- why a line isn't put
+abbrev pub IsWhy : (HasNoText : Type 0) → TextFault → Type 0
+IsWhy HasNoText why = (why ≡ Why.OutOfMemory) ⊎ (HasNoText × (why ≡ Why.NoText))
+
+-- the lines of these were put behind a text, or of those before the first that isn't put
+abbrev pub PutsLines : {X : Type 0} → (X → List ℕ → Type 0) → (X → Type 0) → List X
+    → (old new : List ℕ) → Result (Unit {0}) TextFault → Type 0
+PutsLines IsLine HasNoText xs old new result =
+    MatchResult result (λ done. IsPut old new (AreLines IsLine xs))
+    (λ why. (k : ℕ) × IsPut old new (AreLines IsLine (take k xs))
+    × IsWhy (IsAt HasNoText xs k) why)
+
+-- what ends a report, by why a line isn't put
+abbrev pub fault_told : TextFault → ReportFault
+fault_told why = elim why [ Why.NoText ↦ fault.NoText | _ ↦ fault.OutOfMemory ]
+
+-- the fault isn't one of the store's
+abbrev pub IsOwn : ReportFault → Type 0
+IsOwn why = store_faults_of (Err why) ≡ []
+
+-- the lines of these were sent, or a first part of them; before one without a text all of them
+abbrev pub SendsLines : {X : Type 0} → (X → List ℕ → Type 0) → (X → Type 0) → List X
+    → (before after : Option (List ℕ)) → Result (Unit {0}) ReportFault → Type 0
+SendsLines IsLine HasNoText xs before after result =
+    MatchResult result
+    (λ done. (lines : List ℕ) × AreLines IsLine xs lines × Appends before after lines)
+    (λ why. IsOwn why × ((k : ℕ) × (lines : List ℕ) × AreLines IsLine (take k xs) lines
+    × AppendsPart before after lines
+    × (why ≡ fault.NoText → Appends before after lines × IsAt HasNoText xs k)))
+
+-- so far the lines of the first of these were printed, and the others are still to come
+abbrev pub IsSoFar : {X : Type 0} → (X → List ℕ → Type 0) → (all rest : List X)
+    → (before now : Option (List ℕ)) → Type 0
+IsSoFar {X} IsLine all rest before now =
+    (done : List X) × (lines : List ℕ) × (done ++ rest ≡ all) × AreLines IsLine done lines
+    × Appends before now lines
+
+abbrev pub Printing : {X : Type 0} → (X → List ℕ → Type 0) → Store → Store
+    → (all rest : Content → List X) → (before now : Option (List ℕ)) → Type 0
+Printing IsLine old new all rest before now =
+    Transitions old new [] (λ marks R S. (S ≡ R) × IsSoFar IsLine (all R) (rest R) before now)

@@ -1,0 +1,40 @@
+-- How a history is shown as a table for people.
+use Rattle.std.specs.Prelude.{ℕ, ◌-◌, ◌==◌, ◌||◌, ◌&&◌, nat_lt, nat_le, Bool, List, [], ◌∷◌, ◌++◌, length, filter, replicate, if◌then◌else◌}
+
+-- a control byte, or the second byte of a control character of two, U+0080 to U+009F
+abbrev pub is_control : (before b : ℕ) → Bool
+is_control before b = nat_lt b 32 || b == 127 || (before == 194 && nat_lt b 160)
+
+-- the bytes behind this one as they are shown: a question mark in place of each such byte
+abbrev pub shown_after : (before : ℕ) → List ℕ → List ℕ
+shown_after before [] = []
+shown_after before (b ∷ text) = (if is_control before b then 63 else b) ∷ shown_after b text
+
+-- a text as it is shown
+abbrev pub shown : List ℕ → List ℕ
+shown text = shown_after 0 text
+
+-- the byte begins a character of UTF-8
+abbrev pub is_first : ℕ → Bool
+is_first b = nat_lt b 128 || nat_le 192 b
+
+-- how many characters a text has
+abbrev pub characters : List ℕ → ℕ
+characters text = length (filter is_first text)
+
+-- a field in a column of this width: blanks up to it, and two more
+abbrev pub cell : (width : ℕ) → List ℕ → List ℕ
+cell width text =
+    shown text ++ replicate (width - characters (shown text)) 32 ++ 32 ∷ 32 ∷ []
+
+-- the last field of a line
+abbrev pub last_cell : List ℕ → List ℕ
+last_cell text = shown text ++ 10 ∷ []
+
+-- the fields of a row, but for the node, as a line of the table
+abbrev pub table_line : List (List ℕ) → List ℕ
+table_line (node ∷ time ∷ value ∷ status ∷ []) = cell 28 time ++ cell 24 value ++ last_cell status
+table_line (node ∷ time ∷ value ∷ status ∷ change ∷ changed ∷ user ∷ []) =
+    cell 28 time ++ cell 24 value ++ cell 8 status ++ cell 8 change ++ cell 28 changed
+    ++ last_cell user
+table_line _ = []

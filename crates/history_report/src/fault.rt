@@ -1,0 +1,21 @@
+//! What ended a report before its end.
+
+use archive::StoreFault;
+use thiserror::Error;
+
+/// What ended a report before its end.
+#[derive(Clone, Copy, Debug, PartialEq, Eq, Error)]
+pub enum ReportFault {
+    /// The archive met this fault of its store.
+    #[error("{0}")]
+    Store(StoreFault),
+    /// The next value is an array, or of a type that has no text.
+    #[error("values of this type are not written as text")]
+    NoText,
+    /// A write failed, or took nothing.
+    #[error("a write failed")]
+    Write,
+    /// Memory ran out.
+    #[error("out of memory")]
+    OutOfMemory,
+}

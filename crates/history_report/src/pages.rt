@@ -1,0 +1,81 @@
+//! What an archive is asked for, a page at a time.
+
+ghost use Rattle.std.specs.Prelude.{◌≡◌, MatchResult};
+ghost use Rattle.archive.specs.Reading.{place_of};
+ghost use Rattle.history_report.specs.Paging.{values_left, changes_left, GivesPage, Fails};
+
+use crate::report::Report;
+use crate::span::Span;
+use archive::{Archive, Direction, LogPlace, StoreFault};
+use records::{Entry, Held};
+use stamp::{Stamp, Vector};
+use std::alloc::Global;
+
+/// The most items of a page.
+const MOST: usize = 100;
+
+/// What is still to come of a node's history.
+#[derive(Debug, Drop)]
+pub(crate) struct Pages {
+    /// The records that are shown.
+    pub(crate) within: Vector,
+    /// The moments that are still to come.
+    pub(crate) span: Span,
+    /// The place behind which modifications are still to come.
+    pub(crate) after: Option<LogPlace>,
+}
+
+/// The next page of live values; an empty one is the last.
+pub(crate) fn next_values<A: Archive>(
+    alloc: Global,
+    archive: &mut A,
+    report: &Report,
+    pages: &mut Pages,
+) -> Result<Vec<Held>, StoreFault>
+    ensures { MatchResult result
+        (λ page. GivesPage (A.state archive.old) (A.state archive.new) page.items
+        (values_left report.now.node pages.new) (values_left report.now.node pages.old))
+        (λ why. Fails (A.state archive.old) (A.state archive.new) why) }
+{
+    let Span { from, to } = pages.span;
+    let way = Direction::Forward;
+    let page = archive.range(alloc, &report.node, from, to, way, MOST, &pages.within)?;
+    if let Some(last) = page.as_slice().last() {
+        pages.span = pages.span.behind(last.time);
+    }
+    Ok(page)
+}
+
+/// The place of a modification.
+fn place_of(entry: &Entry) -> LogPlace
+    ensures { result ≡ place_of entry.now }
+{
+    LogPlace {
+        time: entry.time,
+        stamp: Stamp {
+            tick: entry.tick,
+            origin: entry.origin,
+        },
+    }
+}
+
+/// The next page of modifications; an empty one is the last.
+pub(crate) fn next_changes<A: Archive>(
+    alloc: Global,
+    archive: &mut A,
+    report: &Report,
+    pages: &mut Pages,
+) -> Result<Vec<Entry>, StoreFault>
+    ensures { MatchResult result
+        (λ page. GivesPage (A.state archive.old) (A.state archive.new) page.items
+        (changes_left report.now.node pages.new) (changes_left report.now.node pages.old))
+        (λ why. Fails (A.state archive.old) (A.state archive.new) why) }
+{
+    let Span { from, to } = pages.span;
+    let (after, way) = (pages.after, Direction::Forward);
+    let page = archive.log(alloc, &report.node, from, to, after, way, MOST, &pages.within)?;
+    if let Some(last) = page.as_slice().last() {
+        pages.after = Some(place_of(last));
+    }
+    Ok(page)
+}

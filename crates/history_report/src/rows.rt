@@ -1,0 +1,123 @@
+//! What a line is printed of, and many of them at once.
+
+ghost use Rattle.std.specs.Prelude.{◌≡◌, IsErrOf};
+ghost use Rattle.counted_io.specs.Bytes.{counted};
+ghost use Rattle.history_csv.specs.Rows.{IsTextless, ShowsTextless};
+ghost use Rattle.history_report.specs.Reports.{IsValueLine, IsChangeLine};
+ghost use Rattle.history_report.specs.Paging.{PutsLines, SendsLines, fault_told};
+
+use crate::fault::ReportFault;
+use crate::lines::{put_change_line, put_value_line};
+use crate::report::Report;
+use counted_io::Counted;
+use history_text::TextFault;
+use records::{Entry, Held};
+use std::alloc::Global;
+use std::io::Write;
+
+/// A live value, or a modification.
+pub(crate) trait Row {
+    ghost use Rattle.std.specs.Prelude.{◌≡◌, ℕ, List, IfErr, OnOk, OnErr};
+    ghost use Rattle.history_report.specs.declared.report.Report.{Report};
+    ghost use Rattle.history_report.specs.Paging.{IsPut, IsWhy};
+
+    /// What its lines are.
+    ghost is_line: { Report → Self → List ℕ → Type 0 };
+
+    /// It shows a value that has no text.
+    ghost is_textless: { Self → Type 0 };
+
+    /// Appends it as a line. `NoText` says that it shows a value that has no text, and `OutOfMemory`
+    /// that memory ran out; then nothing is appended.
+    fn put_line(
+        &self,
+        alloc: Global,
+        report: &Report,
+        out: &mut Vec<u8>,
+    ) -> Result<(), TextFault>
+        ensures written { OnOk result
+            (IsPut out.old.items out.new.items (is_line report.now self.now)) }
+        ensures refused { IfErr result (IsWhy (is_textless self.now)) }
+        ensures kept { OnErr result (out.new.items ≡ out.old.items) };
+}
+
+impl Row for Held {
+    ghost is_line = { IsValueLine };
+
+    ghost is_textless = { λ held. IsTextless held.value.value };
+
+    fn put_line(
+        &self,
+        alloc: Global,
+        report: &Report,
+        out: &mut Vec<u8>,
+    ) -> Result<(), TextFault> {
+        put_value_line(alloc, report, self, out)
+    }
+}
+
+impl Row for Entry {
+    ghost is_line = { IsChangeLine };
+
+    ghost is_textless = { λ entry. ShowsTextless entry.value };
+
+    fn put_line(
+        &self,
+        alloc: Global,
+        report: &Report,
+        out: &mut Vec<u8>,
+    ) -> Result<(), TextFault> {
+        put_change_line(alloc, report, self, out)
+    }
+}
+
+/// Appends a line for each row, up to one that isn't put.
+fn put_rows<T: Row>(
+    alloc: Global,
+    report: &Report,
+    rows: &[T],
+    out: &mut Vec<u8>,
+) -> Result<(), TextFault>
+    ensures { PutsLines (T.is_line report.now) T.is_textless rows.now out.old.items out.new.items
+        result }
+{
+    for row in rows {
+        row.put_line(alloc, report, out)?;
+    }
+    Ok(())
+}
+
+/// What ends a report, by why a text wasn't put.
+pub(crate) fn fault_of(fault: TextFault) -> ReportFault
+    ensures { result ≡ fault_told fault }
+{
+    match fault {
+        TextFault::NoText => ReportFault::NoText,
+        _ => ReportFault::OutOfMemory,
+    }
+}
+
+/// Prints a line for each row, up to one that can't be put; `text` is where they are made.
+pub(crate) fn send_rows<T: Row, W: Write>(
+    alloc: Global,
+    report: &Report,
+    rows: &[T],
+    text: &mut Vec<u8>,
+    output: &mut Counted<W>,
+) -> Result<(), ReportFault>
+    ensures sends { SendsLines (T.is_line report.now) T.is_textless rows.now
+        (W.contents output.old.inner) (W.contents output.new.inner) result }
+    ensures write { IsErrOf result ReportFault.Write → output.new.faults ≡ counted output.old.faults }
+    ensures kept { (IsErrOf result ReportFault.Write → ⊥) → output.new.faults ≡ output.old.faults }
+{
+    text.clear();
+    let put = put_rows(alloc, report, rows, text);
+    match output.send(text.as_slice()) {
+        Ok(()) => {}
+        Err(_) => return Err(ReportFault::Write),
+    }
+    match put {
+        Ok(()) => Ok(()),
+        Err(fault) => Err(fault_of(fault)),
+    }
+}

@@ -1,0 +1,338 @@
+//! A node's history, printed.
+
+use HistoryUpdateType::{Delete, Insert, Replace};
+use archive::{Archive, LearnFault, ListArchive, StoreFault};
+use counted_io::Counted;
+use history_csv::read_node;
+use history_report::{Report, ReportFault, print_report};
+use records::{Moment, Record};
+use stamp::ReplicaNo;
+use std::alloc::Global;
+use ua_binary::{NodeId, Text};
+use ua_variant::{DataValue, HistoryUpdateType, Scalar, Variant};
+use uuid::Uuid;
+
+/// 2026-03-01T12:00:00Z.
+const NOON: i64 = 134_168_400_000_000_000;
+
+/// A second.
+const SECOND: i64 = 10_000_000;
+
+/// What is written: a text, or the node of Objects, which has no text.
+#[derive(Clone, Copy)]
+enum Written {
+    Text(&'static str),
+    Objects,
+    Nothing,
+}
+
+/// An update: its node, seconds behind noon, what was asked, and what is written.
+type Row = (&'static str, i64, HistoryUpdateType, Written);
+
+/// Updates, one after the other.
+static ROWS: [Row; 7] = [
+    ("ns=1;s=T", 1, Insert, Written::Text("one")),
+    (
+        "ns=1;s=T",
+        3,
+        Insert,
+        Written::Text("a,b\x1b[31m\u{9b}m"),
+    ),
+    ("ns=1;s=T", 2, Insert, Written::Text("\u{fc}ber")),
+    ("ns=1;s=T", 1, Replace, Written::Text("uno")),
+    ("ns=1;s=T", 3, Delete, Written::Nothing),
+    ("i=5", 1, Insert, Written::Text("one")),
+    ("i=5", 2, Insert, Written::Objects),
+];
+
+/// A node by its text.
+fn node_of(alloc: Global, text: &str) -> Result<NodeId, StoreFault> {
+    match read_node(alloc, text) {
+        Ok(node) => Ok(node),
+        Err(_) => Err(StoreFault::OutOfMemory),
+    }
+}
+
+/// What is written, as a value.
+fn variant_of(alloc: Global, written: Written) -> Result<Option<Variant>, StoreFault> {
+    match written {
+        Written::Text(text) => {
+            let text = Text::from_str(alloc, text)?;
+            Ok(Some(Variant::Scalar(Scalar::String(Some(text)))))
+        }
+        Written::Objects => Ok(Some(Variant::Scalar(Scalar::NodeId(NodeId::Numeric(0, 85))))),
+        Written::Nothing => Ok(None),
+    }
+}
+
+/// The record of an update, of this number.
+fn record_of(alloc: Global, number: u64, row: &Row) -> Result<Record, StoreFault> {
+    let (node, second, asked, written) = *row;
+    let Some(origin) = ReplicaNo::new(1) else {
+        return Err(StoreFault::WrongReplica);
+    };
+    let node = node_of(alloc, node)?;
+    let user = Text::from_str(alloc, "ann")?;
+    let value = variant_of(alloc, written)?;
+    Ok(Record {
+        origin,
+        number,
+        tick: NOON.saturating_add(SECOND.saturating_mul(60i64.saturating_add_unsigned(number))),
+        node,
+        time: Moment::at(NOON.saturating_add(SECOND.saturating_mul(second))),
+        asked,
+        user,
+        value: DataValue {
+            value,
+            status: None,
+            source_time: None,
+            source_pico: None,
+            server_time: None,
+            server_pico: None,
+        },
+    })
+}
+
+/// What an archive answers to an update.
+fn learn<A: Archive>(
+    alloc: Global,
+    archive: &mut A,
+    number: u64,
+    row: &Row,
+) -> Result<bool, LearnFault> {
+    let record = record_of(alloc, number, row)?;
+    if record.is_lawful() {
+        archive.learn(&record)
+    } else {
+        Err(LearnFault::Store(StoreFault::Refused))
+    }
+}
+
+/// An archive that holds nothing.
+fn empty_archive(alloc: Global) -> Result<ListArchive, StoreFault> {
+    match ReplicaNo::new(1) {
+        Some(one) => Ok(ListArchive::new(alloc, Uuid::nil(), one)),
+        None => Err(StoreFault::WrongReplica),
+    }
+}
+
+/// An archive takes all the updates.
+fn learn_all<A: Archive>(alloc: Global, archive: &mut A) -> Result<(), LearnFault> {
+    let mut number = 0u64;
+    for row in &ROWS {
+        number = number.saturating_add(1);
+        learn(alloc, archive, number, row)?;
+    }
+    Ok(())
+}
+
+/// A report: its node, its first second and its last, whether of modifications, whether as CSV; how
+/// it ends, and what is printed.
+type Case = (
+    &'static str,
+    Option<i64>,
+    Option<i64>,
+    bool,
+    bool,
+    Result<(), ReportFault>,
+    &'static [u8],
+);
+
+/// Reports.
+static CASES: [Case; 9] = [
+    (
+        "ns=1;s=T",
+        None,
+        None,
+        false,
+        true,
+        Ok(()),
+        b"node,time,value,status\n\
+          ns=1;s=T,2026-03-01T12:00:01.0000000Z,uno,Good\n\
+          ns=1;s=T,2026-03-01T12:00:02.0000000Z,\xc3\xbcber,Good\n",
+    ),
+    (
+        "ns=1;s=T",
+        Some(1),
+        Some(2),
+        false,
+        true,
+        Ok(()),
+        b"node,time,value,status\n\
+          ns=1;s=T,2026-03-01T12:00:01.0000000Z,uno,Good\n",
+    ),
+    (
+        "ns=1;s=T",
+        Some(2),
+        Some(2),
+        false,
+        true,
+        Ok(()),
+        b"node,time,value,status\n",
+    ),
+    (
+        "ns=1;s=T",
+        None,
+        None,
+        false,
+        false,
+        Ok(()),
+        b"time                          value                     status\n\
+          2026-03-01T12:00:01.0000000Z  uno                       Good\n\
+          2026-03-01T12:00:02.0000000Z  \xc3\xbcber                      Good\n",
+    ),
+    (
+        "ns=1;s=T",
+        None,
+        Some(3),
+        true,
+        true,
+        Ok(()),
+        b"node,time,value,status,change,changed,user\n\
+          ns=1;s=T,2026-03-01T12:00:01.0000000Z,one,Good,replace,2026-03-01T12:01:04.0000000Z,ann\n\
+          ns=1;s=T,2026-03-01T12:00:01.0000000Z,one,Good,insert,2026-03-01T12:01:01.0000000Z,ann\n\
+          ns=1;s=T,2026-03-01T12:00:02.0000000Z,\xc3\xbcber,Good,insert,2026-03-01T12:01:03.0000000Z,ann\n",
+    ),
+    (
+        "ns=1;s=T",
+        Some(3),
+        None,
+        true,
+        false,
+        Ok(()),
+        b"time                          value                     status    \
+          change    changed                       user\n\
+          2026-03-01T12:00:03.0000000Z  a,b?[31m\xc2?m               Good      \
+          delete    2026-03-01T12:01:05.0000000Z  ann\n\
+          2026-03-01T12:00:03.0000000Z  a,b?[31m\xc2?m               Good      \
+          insert    2026-03-01T12:01:02.0000000Z  ann\n",
+    ),
+    (
+        "i=5",
+        None,
+        None,
+        false,
+        true,
+        Err(ReportFault::NoText),
+        b"node,time,value,status\n\
+          i=5,2026-03-01T12:00:01.0000000Z,one,Good\n",
+    ),
+    (
+        "i=5",
+        Some(2),
+        None,
+        true,
+        false,
+        Err(ReportFault::NoText),
+        b"time                          value                     status    \
+          change    changed                       user\n",
+    ),
+    (
+        "i=6",
+        None,
+        None,
+        false,
+        false,
+        Ok(()),
+        b"time                          value                     status\n",
+    ),
+];
+
+/// So many seconds behind noon.
+fn moment_of(second: i64) -> Moment {
+    Moment::at(NOON.saturating_add(SECOND.saturating_mul(second)))
+}
+
+/// Whether a report of the archive ends so, and prints this.
+fn is_printed<A: Archive>(alloc: Global, archive: &mut A, case: &Case) -> bool {
+    let (node, from, to, changes, csv, end, text) = *case;
+    let Ok(node) = node_of(alloc, node) else {
+        return false;
+    };
+    let report = Report {
+        node,
+        from: from.map(moment_of),
+        to: to.map(moment_of),
+        changes,
+        csv,
+    };
+    let mut output = Counted::new(Vec::new(alloc));
+    let ended = print_report(alloc, archive, &report, &mut output);
+    let printed = output.into_inner();
+    ended == end && printed.as_slice() == text
+}
+
+/// Whether the archive's reports are as they should be; else the first that isn't.
+fn wrong_case<A: Archive>(alloc: Global, archive: &mut A) -> Option<usize> {
+    let mut place = 0;
+    for case in &CASES {
+        if !is_printed(alloc, archive, case) {
+            return Some(place);
+        }
+        place = place.saturating_add(1usize);
+    }
+    None
+}
+
+/// Which report of the updates is wrong, if one is.
+fn wrong_report(alloc: Global) -> Result<Option<usize>, LearnFault> {
+    let mut archive = empty_archive(alloc)?;
+    learn_all(alloc, &mut archive)?;
+    Ok(wrong_case(alloc, &mut archive))
+}
+
+#[test]
+fn reports_are_printed(rt: HostRuntime) {
+    let wrong = wrong_report(rt.alloc());
+    assert!(rt; wrong == Ok(None), "{wrong:?}");
+}
+
+/// An archive takes so many values of one node.
+fn learn_many<A: Archive>(alloc: Global, archive: &mut A, count: u64) -> Result<(), LearnFault> {
+    let mut second = 0i64;
+    for number in 1..=count {
+        second = second.saturating_add(1);
+        let row = ("i=7", second, Insert, Written::Text("x"));
+        learn(alloc, archive, number, &row)?;
+    }
+    Ok(())
+}
+
+/// How many lines a report has.
+fn line_count<A: Archive>(alloc: Global, archive: &mut A, changes: bool) -> Option<usize> {
+    let Ok(node) = node_of(alloc, "i=7") else {
+        return None;
+    };
+    let report = Report {
+        node,
+        from: None,
+        to: None,
+        changes,
+        csv: false,
+    };
+    let mut output = Counted::new(Vec::new(alloc));
+    if print_report(alloc, archive, &report, &mut output).is_err() {
+        return None;
+    }
+    let printed = output.into_inner();
+    let ends = printed.as_slice().iter().filter(|byte| **byte == b'\n');
+    Some(ends.count())
+}
+
+/// Whether a history of so many values has a line for each, and a header.
+fn has_lines(alloc: Global, count: u64, lines: usize) -> Result<bool, LearnFault> {
+    let mut archive = empty_archive(alloc)?;
+    learn_many(alloc, &mut archive, count)?;
+    let values = line_count(alloc, &mut archive, false) == Some(lines);
+    let changes = line_count(alloc, &mut archive, true) == Some(lines);
+    Ok(values && changes)
+}
+
+#[test]
+fn pages_join(rt: HostRuntime) {
+    let alloc = rt.alloc();
+    let one = has_lines(alloc, 100, 101);
+    assert!(rt; one == Ok(true));
+    let more = has_lines(alloc, 205, 206);
+    assert!(rt; more == Ok(true));
+}
