@@ -86,15 +86,15 @@ pub(crate) fn span_of(report: &Report) -> Span
 
 impl Span {
     /// Its moments that are behind one.
-    pub(crate) fn behind(&self, limit: Moment) -> Span
+    pub(crate) fn behind(self, limit: Moment) -> Span
         ensures { (t : ℤ) → is_between result.from result.to t
-            ≡ (is_between self.now.from self.now.to t && int_lt limit t) }
+            ≡ (is_between self.from self.to t && int_lt limit t) }
     {
         if self.to <= limit {
             return empty_span();
         }
         if limit < self.from {
-            return *self;
+            return self;
         }
         Span {
             from: next(limit),
