@@ -1,6 +1,7 @@
 -- Pages of a history, and what they are of.
 use Rattle.std.proofs.Common.{◌≡◌, ℕ, zero, suc, ◌+◌, ◌-◌, ◌≤◌, ◌<◌, ℤ, pos, ◌≤ℤ◌, Bool, true, false, cond, ◌&&◌, min, List, [], ◌∷◌, ◌++◌, filter, take, drop, length, reverse, slice_get, Option, Some, None, Ok, Err, refl, sym, ap, ◌∙◌, subst, arith, inl, inr}
 use Rattle.std.specs.Prelude.{int_lt}
+use Rattle.std.proofs.Common.{add-one}
 use Rattle.std.specs.List.{AllByRecursion}
 use Rattle.std.proofs.lemmas.Bool.{true≢false}
 use Rattle.std.proofs.lemmas.Bool.Decides.{nat_tests}
@@ -9,7 +10,7 @@ use Rattle.std.proofs.lemmas.List.{take-append-drop, length-take}
 use Rattle.std.proofs.lemmas.Option.{slice_get_within}
 use Rattle.stamp.specs.Numbers.{number_of}
 use Rattle.ua_binary.specs.declared.values.NodeId.{NodeId}
-use Rattle.records.specs.Lists.{Has, IsPairwise}
+use Rattle.records.specs.Lists.{Has, IsPairwise, last}
 use Rattle.records.specs.Contents.{Content, vec, cut}
 use Rattle.records.specs.Records.{live_value, modifications_at, versions}
 use Rattle.records.specs.Moments.{whole_again, pico_within}
@@ -23,6 +24,7 @@ use Rattle.archive.specs.Store.{Store, Asks, IsLawfulContent, StoreFailed}
 use Rattle.archive.specs.Steps.{Transitions}
 use Rattle.archive.specs.declared.fault.StoreFault.{StoreFault}
 use Rattle.archive.specs.declared.reading.Direction.TheVariants.{Forward}
+use Rattle.archive.specs.declared.reading.LogPlace.{LogPlace}
 use Rattle.archive.proofs.Acting.{there-behind, moves-stays, moves-as, left-before}
 use Rattle.archive.proofs.Calls.{in_use}
 use Rattle.archive.proofs.Ranges.{range_goes}
@@ -32,7 +34,7 @@ use Rattle.archive.proofs.Turning.{has_from_filter_map, has_from_flat_map, has_f
 use Rattle.history_report.specs.declared.pages.Pages.{Pages}
 use Rattle.history_report.specs.declared.report.Report.{Report}
 use Rattle.history_report.specs.Reports.{is_asked, values_asked, changes_asked}
-use Rattle.history_report.specs.Paging.{IsTime, values_left, changes_left, IsPageOf, GivesPage, Fails}
+use Rattle.history_report.specs.Paging.{IsTime, IsBehind, place_behind, values_left, changes_left, IsPageOf, GivesPage, Fails}
 
 -- ---- lists
 
@@ -92,6 +94,15 @@ module _ {X : Type 0} where
         ∙ (ap (λ l. l ++ drop (length (take (suc k) xs)) xs) is ∙ page-drop (suc k) xs),
         λ e. absurd (omega (arith, some, ap length e)),
       )
+
+  no-last : (page : List X) → last page ≡ None → page ≡ []
+  no-last [] e = refl
+  no-last (x ∷ xs) e = absurd (omega (arith, get-none (x ∷ xs) (length (x ∷ xs) - 1) e))
+    where
+      get-none : (ys : List X) (k : ℕ) → slice_get ys k ≡ None → length ys ≤ k
+      get-none [] k e = omega arith
+      get-none (y ∷ ys) zero e = absurd cc
+      get-none (y ∷ ys) (suc k) e = omega (arith, get-none ys k e)
 
   page-none : (k : ℕ) (page xs : List X) → page ≡ take (suc k) xs → page ≡ []
       → IsPageOf page xs xs
@@ -174,71 +185,90 @@ range_on R node from to from' to' k h behind at =
     ∙ past_is_drop (λ a b. int_lt a.time b.time) past_back (range_of R node from to Forward) k h
     (range_goes R node from to Forward) at)
 
+abbrev IsPast : Option Held → (from to new_from new_to : ℤ) → Type 0
+IsPast o from to new_from new_to =
+    elim o [
+      | None ↦ (new_from ≡ from) × (new_to ≡ to)
+      | Some h ↦ (t : ℤ) → is_between new_from new_to t
+          ≡ (is_between from to t && int_lt h.time t)
+    ]
+
 module _ (t u : Store) (node : NodeId) (old new : Pages) (page : List Held)
     (asks : Transitions t u [] (λ marks R S. (S ≡ R) × IsLawfulContent R
     × (page ≡ take 100 (values_left node old R)))) where
-  pub values-end : new ≡ old → page ≡ []
-      → GivesPage t u page (values_left node new) (values_left node old)
-  values-end same none =
-      subst (λ p. GivesPage t u page (values_left node p) (values_left node old)) (sym same)
-      (moves-as t u [] (λ marks R S. (S ≡ R) × IsLawfulContent R
-      × (page ≡ take 100 (values_left node old R)))
-      (λ marks R S. (S ≡ R) × IsPageOf page (values_left node old R) (values_left node old R))
-      (λ ms R S p. (p.0, page-none 99 page (values_left node old R) p.2 none)) asks)
+  -- what is still to come behind the page
+  values-rest : new.within ≡ old.within
+      → IsBehind page old.span.from old.span.to new.span.from new.span.to → (R : Content)
+      → page ≡ take 100 (values_left node old R)
+      → IsPageOf page (values_left node new R) (values_left node old R)
+  values-rest within behind R is = go (last page) refl behind
+    where
+      same : (w : List ℕ) → w ≡ old.within → (from to : ℤ) → from ≡ old.span.from
+          → to ≡ old.span.to → range_of (cut R (number_of w)) node from to Forward
+          ≡ values_left node old R
+      same w e from to low high =
+          ap (λ (v : List ℕ). range_of (cut R (number_of v)) node from to Forward) e
+          ∙ (ap (λ x. range_of (cut R (number_of old.within)) node x to Forward) low
+          ∙ ap (λ x. range_of (cut R (number_of old.within)) node old.span.from x Forward) high)
 
-  pub values-next : (h : Held) → slice_get page (length page - 1) ≡ Some h
-      → new.within ≡ old.within
-      → ((t : ℤ) → is_between new.span.from new.span.to t
-      ≡ (is_between old.span.from old.span.to t && int_lt h.time t))
+      go : (o : Option Held) → last page ≡ o
+          → IsPast o old.span.from old.span.to new.span.from new.span.to → IsPageOf page (values_left node new R) (values_left node old R)
+      go None none kept =
+          subst (λ (l : List Held). IsPageOf page l (values_left node old R))
+          (sym (same new.within within new.span.from new.span.to kept.0 kept.1))
+          (page-none 99 page (values_left node old R) is (no-last page none))
+      go (Some h) at past = page-last 99 page (values_left node new R) (values_left node old R) h is
+          at
+          (ap (λ (v : List ℕ). range_of (cut R (number_of v)) node new.span.from new.span.to
+          Forward) within
+          ∙ (range_on (cut R (number_of old.within)) node old.span.from old.span.to new.span.from
+          new.span.to (length page - 1) h past
+          (of_take 100 (length page - 1) (values_left node old R) h
+          (ap (λ (l : List Held). slice_get l (length page - 1)) (sym is) ∙ at))
+          ∙ ap (λ n. drop n (values_left node old R)) (sym (add-one (length page - 1)))))
+
+  pub values-page : new.within ≡ old.within
+      → IsBehind page old.span.from old.span.to new.span.from new.span.to
       → GivesPage t u page (values_left node new) (values_left node old)
-  values-next h at within behind =
+  values-page within behind =
       moves-as t u [] (λ marks R S. (S ≡ R) × IsLawfulContent R
       × (page ≡ take 100 (values_left node old R)))
       (λ marks R S. (S ≡ R) × IsPageOf page (values_left node new R) (values_left node old R))
-      (λ ms R S p. (p.0, page-last 99 page (values_left node new R) (values_left node old R) h p.2
-      at (rest R p.2))) asks
-    where
-      rest : (R : Content) → page ≡ take 100 (values_left node old R)
-          → values_left node new R ≡ drop (length page - 1 + 1) (values_left node old R)
-      rest R is =
-          ap (λ (v : List ℕ). range_of (cut R (number_of v)) node new.span.from new.span.to Forward)
-          within
-          ∙ (range_on (cut R (number_of old.within)) node old.span.from old.span.to new.span.from
-          new.span.to (length page - 1) h behind
-          (of_take 100 (length page - 1) (values_left node old R) h
-          (ap (λ (l : List Held). slice_get l (length page - 1)) (sym is) ∙ at))
-          ∙ ap (λ n. drop n (values_left node old R)) (omega arith))
+      (λ ms R S p. (p.0, values-rest within behind R p.2)) asks
 
 -- ---- modifications
 
 module _ (t u : Store) (node : NodeId) (old new : Pages) (page : List Entry)
     (asks : Transitions t u [] (λ marks R S. (S ≡ R) × IsLawfulContent R
     × (page ≡ take 100 (changes_left node old R)))) where
-  pub changes-end : new ≡ old → page ≡ []
-      → GivesPage t u page (changes_left node new) (changes_left node old)
-  changes-end same none =
-      subst (λ p. GivesPage t u page (changes_left node p) (changes_left node old)) (sym same)
-      (moves-as t u [] (λ marks R S. (S ≡ R) × IsLawfulContent R
-      × (page ≡ take 100 (changes_left node old R)))
-      (λ marks R S. (S ≡ R) × IsPageOf page (changes_left node old R) (changes_left node old R))
-      (λ ms R S p. (p.0, page-none 99 page (changes_left node old R) p.2 none)) asks)
+  abbrev left_behind : Content → Option LogPlace → List Entry
+  left_behind R place =
+      log_of (cut R (number_of old.within)) node old.span.from old.span.to place Forward
 
-  pub changes-next : (e : Entry) → slice_get page (length page - 1) ≡ Some e
-      → new ≡ record old { after = Some (place_of e) }
+  changes-rest : (R : Content) → IsLawfulContent R → page ≡ take 100 (changes_left node old R)
+      → IsPageOf page (left_behind R (place_behind old.after page)) (changes_left node old R)
+  changes-rest R lawful is = go (last page) refl
+    where
+      go : (o : Option Entry) → last page ≡ o → IsPageOf page
+          (left_behind R (elim o [ None ↦ old.after | Some e ↦ Some (place_of e) ]))
+          (changes_left node old R)
+      go None none = page-none 99 page (changes_left node old R) is (no-last page none)
+      go (Some e) at = page-last 99 page (left_behind R (Some (place_of e)))
+          (changes_left node old R) e is at
+          (log_resumes (cut R (number_of old.within)) node old.span.from old.span.to old.after
+          Forward (length page - 1) e (closed_cut R (number_of old.within) lawful.closed)
+          (of_take 100 (length page - 1) (changes_left node old R) e
+          (ap (λ (l : List Entry). slice_get l (length page - 1)) (sym is) ∙ at)))
+
+  pub changes-page : new ≡ record old { after = place_behind old.after page }
       → GivesPage t u page (changes_left node new) (changes_left node old)
-  changes-next e at same =
+  changes-page same =
       subst (λ p. GivesPage t u page (changes_left node p) (changes_left node old)) (sym same)
       (moves-as t u [] (λ marks R S. (S ≡ R) × IsLawfulContent R
       × (page ≡ take 100 (changes_left node old R)))
-      (λ marks R S. (S ≡ R) × IsPageOf page (next R) (changes_left node old R))
-      (λ ms R S p. (p.0, page-last 99 page (next R) (changes_left node old R) e p.2 at
-      (log_resumes (cut R (number_of old.within)) node old.span.from old.span.to old.after Forward
-      (length page - 1) e (closed_cut R (number_of old.within) p.1.closed)
-      (of_take 100 (length page - 1) (changes_left node old R) e
-      (ap (λ (l : List Entry). slice_get l (length page - 1)) (sym p.2) ∙ at))))) asks)
-    where
-      next : Content → List Entry
-      next R = changes_left node (record old { after = Some (place_of e) }) R
+      (λ marks R S. (S ≡ R) × IsPageOf page (left_behind R (place_behind old.after page))
+      (changes_left node old R))
+      (λ ms R S p. (p.0, changes-rest R p.1 p.2)) asks)
 
 -- ---- all pages are what is asked for
 

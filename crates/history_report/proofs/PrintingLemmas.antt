@@ -2,7 +2,9 @@
 use Rattle.std.proofs.Common.{◌≡◌, ◌⊎◌, ℕ, zero, suc, ◌+◌, ◌-◌, ◌≤◌, ◌<◌, Bool, true, false, List, [], ◌∷◌, ◌++◌, take, drop, length, slice_get, append-nil, append_assoc, Option, Some, None, Result, Ok, Err, refl, sym, ap, ◌∙◌, subst, arith, inl, inr}
 use Rattle.std.specs.Io.KnownBytes.{Appends}
 use Rattle.std.proofs.KnownBytes.{Appends-nil, Appends-trans}
-use Rattle.std.proofs.lemmas.List.{take-append-drop}
+use Rattle.std.specs.Prelude.{◌==◌}
+use Rattle.std.proofs.lemmas.Bool.{eqb-true}
+use Rattle.std.proofs.lemmas.List.{take-append-drop, nil_from_length}
 use Rattle.records.specs.Contents.{Content, vec}
 use Rattle.records.specs.declared.shown.Held.{Held}
 use Rattle.records.specs.declared.shown.Entry.{Entry}
@@ -42,6 +44,9 @@ get-front : {X : Type 0} (xs ys : List X) (x : X) → slice_get xs 0 ≡ Some x
     → slice_get (xs ++ ys) 0 ≡ Some x
 get-front [] ys x e = absurd cc
 get-front (y ∷ xs) ys x e = e
+
+pub no-items : {X : Type 0} (l : List X) → (length l == 0) ≡ true → l ≡ []
+no-items l e = nil_from_length l (eqb-true (length l) 0 e)
 
 -- ---- a run of pages
 

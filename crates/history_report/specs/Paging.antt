@@ -1,15 +1,17 @@
 -- A list in pages, and what was printed of it so far.
-use Rattle.std.specs.Prelude.{◌≡◌, ◌⊎◌, ℕ, ℤ, pos, ◌≤ℤ◌, ◌-◌, ◌^◌, List, [], ◌∷◌, ◌++◌, take, Option, Result, Ok, Err, MatchResult}
+use Rattle.std.specs.Prelude.{◌≡◌, ◌⊎◌, ℕ, ℤ, pos, ◌≤ℤ◌, ◌-◌, ◌^◌, List, [], ◌∷◌, ◌++◌, take, int_lt, ◌&&◌, Option, Some, None, Result, Ok, Err, MatchResult}
 use Rattle.std.specs.Io.KnownBytes.{Appends}
 use Rattle.counted_io.specs.Bytes.{AppendsPart}
 use Rattle.stamp.specs.Numbers.{number_of}
 use Rattle.ua_binary.specs.declared.values.NodeId.{NodeId}
+use Rattle.records.specs.Lists.{last}
 use Rattle.records.specs.Contents.{Content, cut}
 use Rattle.records.specs.Moments.{moment}
 use Rattle.records.specs.declared.shown.Held.{Held}
 use Rattle.records.specs.declared.shown.Entry.{Entry}
-use Rattle.archive.specs.Reading.{range_of, log_of}
+use Rattle.archive.specs.Reading.{is_between, place_of, range_of, log_of}
 use Rattle.archive.specs.declared.reading.Direction.TheVariants.{Forward}
+use Rattle.archive.specs.declared.reading.LogPlace.{LogPlace}
 use Rattle.archive.specs.Store.{Store, StepResult, StoreFailed}
 use Rattle.archive.specs.Steps.{Transitions}
 use Rattle.archive.specs.declared.fault.StoreFault.{StoreFault}
@@ -41,6 +43,19 @@ values_left node pages R =
 abbrev pub changes_left : NodeId → Pages → Content → List Entry
 changes_left node pages R =
     log_of (cut R (number_of pages.within)) node pages.span.from pages.span.to pages.after Forward
+
+-- the moments of the one span that are behind the last of these, where there is one
+abbrev pub IsBehind : List Held → (from to new_from new_to : ℤ) → Type 0
+IsBehind rows from to new_from new_to =
+    elim (last rows) [
+      | None ↦ (new_from ≡ from) × (new_to ≡ to)
+      | Some h ↦ (t : ℤ) → is_between new_from new_to t
+          ≡ (is_between from to t && int_lt h.time t)
+    ]
+
+-- the place of the last of these, where there is one
+abbrev pub place_behind : Option LogPlace → List Entry → Option LogPlace
+place_behind place rows = elim (last rows) [ None ↦ place | Some e ↦ Some (place_of e) ]
 
 -- a page of what was still to come, and what is still to come behind it; an empty one is the last
 abbrev pub IsPageOf : {X : Type 0} → (page more rest : List X) → Type 0
@@ -88,9 +103,9 @@ abbrev pub SendsLines : {X : Type 0} → (X → List ℕ → Type 0) → (X → 
 SendsLines IsLine HasNoText xs before after result =
     MatchResult result
     (λ done. (lines : List ℕ) × AreLines IsLine xs lines × Appends before after lines)
-    (λ why. IsOwn why × ((k : ℕ) × (lines : List ℕ) × AreLines IsLine (take k xs) lines
+    (λ why. IsOwn why × (k : ℕ) × (lines : List ℕ) × AreLines IsLine (take k xs) lines
     × AppendsPart before after lines
-    × (why ≡ fault.NoText → Appends before after lines × IsAt HasNoText xs k)))
+    × (why ≡ fault.NoText → Appends before after lines × IsAt HasNoText xs k))
 
 -- so far the lines of the first of these were printed, and the others are still to come
 abbrev pub IsSoFar : {X : Type 0} → (X → List ℕ → Type 0) → (all rest : List X)

@@ -2,7 +2,7 @@
 
 ghost use Rattle.std.specs.Prelude.{◌≡◌, MatchResult};
 ghost use Rattle.archive.specs.Reading.{place_of};
-ghost use Rattle.history_report.specs.Paging.{values_left, changes_left, GivesPage, Fails};
+ghost use Rattle.history_report.specs.Paging.{IsBehind, place_behind, values_left, changes_left, GivesPage, Fails};
 
 use crate::report::Report;
 use crate::span::Span;
@@ -25,6 +25,16 @@ pub(crate) struct Pages {
     pub(crate) after: Option<LogPlace>,
 }
 
+/// The moments of a span that are behind the last of some live values, where there is one.
+fn span_behind(span: Span, rows: &[Held]) -> Span
+    ensures { IsBehind rows.now span.from span.to result.from result.to }
+{
+    match rows.last() {
+        Some(last) => span.behind(last.time),
+        None => span,
+    }
+}
+
 /// The next page of live values; an empty one is the last.
 pub(crate) fn next_values<A: Archive>(
     alloc: Global,
@@ -39,10 +49,11 @@ pub(crate) fn next_values<A: Archive>(
 {
     let Span { from, to } = pages.span;
     let way = Direction::Forward;
-    let page = archive.range(alloc, &report.node, from, to, way, MOST, &pages.within)?;
-    if let Some(last) = page.as_slice().last() {
-        pages.span = pages.span.behind(last.time);
-    }
+    let page = match archive.range(alloc, &report.node, from, to, way, MOST, &pages.within) {
+        Ok(page) => page,
+        Err(fault) => return Err(fault),
+    };
+    pages.span = span_behind(pages.span, page.as_slice());
     Ok(page)
 }
 
@@ -56,6 +67,16 @@ fn place_of(entry: &Entry) -> LogPlace
             tick: entry.tick,
             origin: entry.origin,
         },
+    }
+}
+
+/// What is still to come is behind the last of some modifications, where there is one.
+fn go_behind(pages: &mut Pages, rows: &[Entry])
+    ensures { pages.new ≡ record pages.old { after = place_behind pages.old.after rows.now } }
+{
+    match rows.last() {
+        Some(last) => pages.after = Some(place_of(last)),
+        None => {}
     }
 }
 
@@ -73,9 +94,10 @@ pub(crate) fn next_changes<A: Archive>(
 {
     let Span { from, to } = pages.span;
     let (after, way) = (pages.after, Direction::Forward);
-    let page = archive.log(alloc, &report.node, from, to, after, way, MOST, &pages.within)?;
-    if let Some(last) = page.as_slice().last() {
-        pages.after = Some(place_of(last));
-    }
+    let page = match archive.log(alloc, &report.node, from, to, after, way, MOST, &pages.within) {
+        Ok(page) => page,
+        Err(fault) => return Err(fault),
+    };
+    go_behind(pages, page.as_slice());
     Ok(page)
 }

@@ -82,7 +82,10 @@ fn put_rows<T: Row>(
         result }
 {
     for row in rows {
-        row.put_line(alloc, report, out)?;
+        match row.put_line(alloc, report, out) {
+            Ok(()) => {}
+            Err(fault) => return Err(fault),
+        }
     }
     Ok(())
 }

@@ -1,0 +1,29 @@
+use Rattle.std.proofs.Common.{◌≡◌, List, take, refl, subst}
+use Rattle.stamp.specs.Numbers.{number_of}
+use Rattle.records.specs.Contents.{Content, cut}
+use Rattle.records.specs.declared.shown.Held.{Held}
+use Rattle.archive.specs.Reading.{range_of}
+use Rattle.archive.specs.declared.reading.Direction.TheVariants.{Forward}
+use Rattle.history_report.specs.Paging.{IsBehind, values_left}
+use Rattle.history_report.proofs.PageLemmas.{answered, unanswered, values-page}
+use Rattle.history_report.proofs.pages.next_values.Goals as goal
+
+pub returns-in-Err : goal.returns-in-Err
+returns-in-Err g c =
+    let state = g.A.Archive.state in
+    unanswered (state c.args.archive.now) (state c.range.new.self) c.in-Err.fault
+    (λ v. v.items ≡ take 100 (values_left c.args.report.now.node c.args.pages.now
+    (state c.args.archive.now).content)) c.in-Err.ensures.asks
+
+pub returns : goal.returns
+returns g c =
+    let state = g.A.Archive.state in
+    let old = c.args.pages.now in
+    let page = c.in-Ok.page in
+    values-page (state c.args.archive.now) (state c.range.new.self) c.args.report.now.node old
+    (record old { span = c.span_behind.result }) page.items
+    (answered (state c.args.archive.now) (state c.range.new.self)
+    (λ (R : Content) v. v.items ≡ take 100 (values_left c.args.report.now.node old R)) page
+    c.in-Ok.ensures.asks) refl
+    (subst (λ (l : List Held). IsBehind l old.span.from old.span.to c.span_behind.result.from
+    c.span_behind.result.to) c.as_slice.ensures.value c.span_behind.ensures)
