@@ -110,10 +110,10 @@ module _ {X : Type 0} (IsLine : X → List ℕ → Type 0) (HasNoText : X → Ty
           (λ marks R S. (S ≡ R) × IsSoFar IsLine (all R) (rest R) before now)
           (λ marks R S. S ≡ R)
           (λ marks R S. (S ≡ R)
-          × (faults_of (StoreFailed why ∷ []) ≡ store_faults_of (Err (fault.Store why)))
-          × PrintsLines IsLine HasNoText [] (all R) before now (Err (fault.Store why)))
-          (λ ms ns R S T p e. (e ∙ p.0, refl,
-          so-far-part (all R) (rest R) before now (fault.Store why) (λ k. absurd cc) p.1)) so q,
+          × ((faults_of (StoreFailed why ∷ []) ≡ store_faults_of (Err (fault.Store why)))
+          × PrintsLines IsLine HasNoText [] (all R) before now (Err (fault.Store why))))
+          (λ ms ns R S T p e. (e ∙ p.0, (refl,
+          so-far-part (all R) (rest R) before now (fault.Store why) (λ k. absurd cc) p.1))) so q,
     )
 
     module _ (page : List X) (more : Content → List X) (q : GivesPage t u page more rest) where
@@ -171,10 +171,10 @@ module _ {X : Type 0} (IsLine : X → List ℕ → Type 0) (HasNoText : X → Ty
     endless = (
       [],
       moves-as s t [] (λ marks R S. (S ≡ R) × IsSoFar IsLine (all R) (rest R) before now)
-          (λ marks R S. (S ≡ R) × ([] ≡ store_faults_of (Err fault.OutOfMemory))
-          × PrintsLines IsLine HasNoText [] (all R) before now (Err fault.OutOfMemory))
-          (λ ms R S p. (p.0, refl, so-far-part (all R) (rest R) before now fault.OutOfMemory
-          (λ k. absurd cc) p.1)) so,
+          (λ marks R S. (S ≡ R) × (([] ≡ store_faults_of (Err fault.OutOfMemory))
+          × PrintsLines IsLine HasNoText [] (all R) before now (Err fault.OutOfMemory)))
+          (λ ms R S p. (p.0, (refl, so-far-part (all R) (rest R) before now fault.OutOfMemory
+          (λ k. absurd cc) p.1))) so,
     )
 
   -- ---- behind a header
@@ -207,18 +207,24 @@ module _ {X : Type 0} (IsLine : X → List ℕ → Type 0) (HasNoText : X → Ty
 
 -- ---- a report
 
+-- of modifications, or of live values
+abbrev PrintsBy : Bool → Report → Content → (before after : Option (List ℕ))
+    → Result (Unit {0}) ReportFault → Type 0
+PrintsBy changes report R before after result =
+    elim changes [
+      | true ↦ PrintsLines (IsChangeLine report) (λ e. ShowsTextless e.value) (header_of report)
+          (changes_asked R report) before after result
+      | false ↦ PrintsLines (IsValueLine report) (λ h. IsTextless h.value.value) (header_of report)
+          (values_asked R report) before after result
+    ]
+
 -- a report of which at most a part of the header was printed
 pub report-breaks : (report : Report) (R : Content) (before after : Option (List ℕ))
     (why : ReportFault) → (why ≡ fault.NoText → ⊥) → AppendsPart before after (header_of report)
     → PrintsReport report R before after (Err why)
 report-breaks report R before after why other part = go report.changes
   where
-    go : (changes : Bool) → elim changes [
-      | true ↦ PrintsLines (IsChangeLine report) (λ e. ShowsTextless e.value) (header_of report)
-          (changes_asked R report) before after (Err why)
-      | false ↦ PrintsLines (IsValueLine report) (λ h. IsTextless h.value.value) (header_of report)
-          (values_asked R report) before after (Err why)
-    ]
+    go : (changes : Bool) → PrintsBy changes report R before after (Err why)
     go true = header-breaks (IsChangeLine report) (λ e. ShowsTextless e.value) (header_of report)
         (changes_asked R report) before after why other part
     go false = header-breaks (IsValueLine report) (λ h. IsTextless h.value.value)
@@ -231,10 +237,10 @@ not-asked report t u before why fails = (
   StoreFailed why ∷ [],
   moves-as t u (StoreFailed why ∷ []) (λ marks R S. S ≡ R)
       (λ marks R S. (S ≡ R)
-      × (faults_of (StoreFailed why ∷ []) ≡ store_faults_of (Err (fault.Store why)))
-      × PrintsReport report R before before (Err (fault.Store why)))
-      (λ ms R S e. (e, refl, report-breaks report R before before (fault.Store why)
-      (λ k. absurd cc) ([], header_of report, refl, Appends-nil before))) fails,
+      × ((faults_of (StoreFailed why ∷ []) ≡ store_faults_of (Err (fault.Store why)))
+      × PrintsReport report R before before (Err (fault.Store why))))
+      (λ ms R S e. (e, (refl, report-breaks report R before before (fault.Store why)
+      (λ k. absurd cc) ([], header_of report, refl, Appends-nil before)))) fails,
 )
 
 -- which records are shown
@@ -251,10 +257,10 @@ module _ (report : Report) (t u w : Store) (numbers : List ℕ) (shown : AreShow
     [],
     moves-as t u [] (λ marks R S. (S ≡ R) × IsLawfulContent R
         × ((o : ℕ) → number_of numbers o ≡ vec R o))
-        (λ marks R S. (S ≡ R) × ([] ≡ store_faults_of (Err why))
-        × PrintsReport report R before now (Err why))
-        (λ ms R S p. (p.0, quiet because, report-breaks report R before now why (other because)
-        part)) shown,
+        (λ marks R S. (S ≡ R) × (([] ≡ store_faults_of (Err why))
+        × PrintsReport report R before now (Err why)))
+        (λ ms R S p. (p.0, (quiet because, report-breaks report R before now why (other because)
+        part))) shown,
   )
     where
       quiet : (why ≡ fault.Write) ⊎ (why ≡ fault.OutOfMemory) → [] ≡ store_faults_of (Err why)
@@ -276,10 +282,11 @@ module _ (report : Report) (t u w : Store) (numbers : List ℕ) (shown : AreShow
       used,
       moves-then t u w [] used (λ marks R S. (S ≡ R) × IsLawfulContent R
           × ((o : ℕ) → number_of numbers o ≡ vec R o))
-          (λ marks R S. (S ≡ R) × (faults_of used ≡ store_faults_of result) × Printed R)
-          (λ marks R S. (S ≡ R) × (faults_of used ≡ store_faults_of result)
-          × PrintsReport report R before after result)
-          (λ ms ns R S T p q. (q.0 ∙ p.0, q.1, f R p.1 p.2 (subst Printed p.0 q.2))) shown reads,
+          (λ marks R S. (S ≡ R) × ((faults_of used ≡ store_faults_of result) × Printed R))
+          (λ marks R S. (S ≡ R) × ((faults_of used ≡ store_faults_of result)
+          × PrintsReport report R before after result))
+          (λ ms ns R S T p q. (q.0 ∙ p.0, (q.1.0, f R p.1 p.2 (subst Printed p.0 q.1.1)))) shown
+          reads,
     )
 
     pub values-reported : (pages : Pages) → pages.within ≡ numbers
@@ -290,12 +297,7 @@ module _ (report : Report) (t u w : Store) (numbers : List ℕ) (shown : AreShow
     values-reported pages within span values reads =
         joined (λ R. PrintsLines (IsValueLine report) (λ h. IsTextless h.value.value)
         [] (values_left report.node pages R) now after result) reads (λ R lawful is printed.
-        subst (λ (b : Bool). elim b [
-          | true ↦ PrintsLines (IsChangeLine report) (λ e. ShowsTextless e.value) (header_of report)
-              (changes_asked R report) before after result
-          | false ↦ PrintsLines (IsValueLine report) (λ h. IsTextless h.value.value)
-              (header_of report) (values_asked R report) before after result
-        ]) (sym values)
+        subst (λ (b : Bool). PrintsBy b report R before after result) (sym values)
         (behind-header (IsValueLine report) (λ h. IsTextless h.value.value) (header_of report)
         (values_asked R report) before now after result head
         (subst (λ (l : List Held). PrintsLines (IsValueLine report)
@@ -311,12 +313,7 @@ module _ (report : Report) (t u w : Store) (numbers : List ℕ) (shown : AreShow
     changes-reported pages within first span changes reads =
         joined (λ R. PrintsLines (IsChangeLine report) (λ e. ShowsTextless e.value)
         [] (changes_left report.node pages R) now after result) reads (λ R lawful is printed.
-        subst (λ (b : Bool). elim b [
-          | true ↦ PrintsLines (IsChangeLine report) (λ e. ShowsTextless e.value) (header_of report)
-              (changes_asked R report) before after result
-          | false ↦ PrintsLines (IsValueLine report) (λ h. IsTextless h.value.value)
-              (header_of report) (values_asked R report) before after result
-        ]) (sym changes)
+        subst (λ (b : Bool). PrintsBy b report R before after result) (sym changes)
         (behind-header (IsChangeLine report) (λ e. ShowsTextless e.value) (header_of report)
         (changes_asked R report) before now after result head
         (subst (λ (l : List Entry). PrintsLines (IsChangeLine report)

@@ -106,7 +106,7 @@ abbrev pub ReadsFor : Store → Store → Result (Unit {0}) ReportFault → (Con
 ReadsFor old new result Printed =
     (used : List StepResult)
     × Transitions old new used (λ marks R S. (S ≡ R)
-    × (faults_of used ≡ store_faults_of result) × Printed R)
+    × ((faults_of used ≡ store_faults_of result) × Printed R))
 
 -- a report of what an archive holds was printed
 abbrev pub Prints : Report → Store → Store → (before after : Option (List ℕ))

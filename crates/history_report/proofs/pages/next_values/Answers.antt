@@ -21,9 +21,9 @@ returns g c =
     let old = c.args.pages.now in
     let page = c.in-Ok.page in
     values-page (state c.args.archive.now) (state c.range.new.self) c.args.report.now.node old
-    (record old { span = c.span_behind.result }) page.items
+    (record old { span = c.span_behind-pages.result }) page.items
     (answered (state c.args.archive.now) (state c.range.new.self)
     (λ (R : Content) v. v.items ≡ take 100 (values_left c.args.report.now.node old R)) page
     c.in-Ok.ensures.asks) refl
-    (subst (λ (l : List Held). IsBehind l old.span.from old.span.to c.span_behind.result.from
-    c.span_behind.result.to) c.as_slice.ensures.value c.span_behind.ensures)
+    (subst (λ (l : List Held). IsBehind l old.span.from old.span.to c.span_behind-pages.result.from
+    c.span_behind-pages.result.to) c.as_slice.ensures.value c.span_behind-pages.ensures)
