@@ -1,13 +1,12 @@
 -- Lines one behind the other.
-use Rattle.std.proofs.Common.{◌≡◌, ◌⊎◌, ℕ, zero, suc, ◌+◌, ◌≤◌, ◌<◌, List, [], ◌∷◌, ◌++◌, take, drop, get_or, length, slice_get, append-nil, append_assoc, Option, Some, Result, Ok, Err, refl, sym, ap, ◌∙◌, subst, arith, inl, inr}
+use Rattle.std.proofs.Common.{◌≡◌, ℕ, ◌+◌, ◌≤◌, ◌<◌, List, [], ◌∷◌, ◌++◌, take, get_or, length, append-nil, append_assoc, Option, Result, Ok, Err, refl, sym, ap, ◌∙◌, subst, arith, inl, inr}
 use Rattle.std.specs.Io.KnownBytes.{Appends}
 use Rattle.std.proofs.lemmas.List.{take_more, take_all}
 use Rattle.std.proofs.lemmas.Option.{slice_get-get_or}
 use Rattle.counted_io.specs.Bytes.{AppendsPart}
 use Rattle.history_text.specs.declared.fault.TextFault.{TextFault}
-use Rattle.history_text.specs.declared.fault.TextFault.TheVariants as Why
 use Rattle.history_report.specs.declared.fault.ReportFault.TheVariants as fault
-use Rattle.history_report.specs.Reports.{AreLines, IsAt}
+use Rattle.history_report.specs.Reports.{AreLines}
 use Rattle.history_report.specs.Paging.{IsPut, IsWhy, PutsLines, SendsLines, fault_told}
 
 pub lines-append : {X : Type 0} (IsLine : X → List ℕ → Type 0) (xs ys : List X) (s t : List ℕ)
@@ -67,7 +66,8 @@ module _ {X : Type 0} (IsLine : X → List ℕ → Type 0) (HasNoText : X → Ty
   -- of what was put a first part was sent
   pub sends-part : (before after : Option (List ℕ)) (text : List ℕ)
       (put : Result (Unit {0}) TextFault) → PutsLines IsLine HasNoText xs [] text put
-      → AppendsPart before after text → SendsLines IsLine HasNoText xs before after (Err fault.Write)
+      → AppendsPart before after text
+      → SendsLines IsLine HasNoText xs before after (Err fault.Write)
   sends-part before after text (Ok done) (lines, same, are) part = (
     refl,
     length xs,

@@ -1,12 +1,10 @@
 -- Pages of a history, and what they are of.
-use Rattle.std.proofs.Common.{◌≡◌, ℕ, zero, suc, ◌+◌, ◌-◌, ◌≤◌, ◌<◌, ℤ, pos, ◌≤ℤ◌, Bool, true, false, cond, ◌&&◌, min, List, [], ◌∷◌, ◌++◌, filter, take, drop, length, reverse, slice_get, Option, Some, None, Ok, Err, refl, sym, ap, ◌∙◌, subst, arith, inl, inr}
+use Rattle.std.proofs.Common.{◌≡◌, ℕ, zero, suc, ◌+◌, ◌-◌, ◌≤◌, ◌<◌, ℤ, Bool, true, false, cond, ◌&&◌, List, [], ◌∷◌, ◌++◌, filter, take, drop, length, reverse, slice_get, Option, Some, None, Ok, Err, refl, sym, ap, ◌∙◌, subst, arith, inl, inr}
 use Rattle.std.specs.Prelude.{int_lt}
 use Rattle.std.proofs.Common.{add-one}
 use Rattle.std.specs.List.{AllByRecursion}
-use Rattle.std.proofs.lemmas.Bool.{true≢false}
 use Rattle.std.proofs.lemmas.Bool.Decides.{nat_tests}
 use Rattle.std.proofs.lemmas.Int.{ints}
-use Rattle.std.proofs.lemmas.List.{take-append-drop, length-take}
 use Rattle.std.proofs.lemmas.Option.{slice_get_within}
 use Rattle.stamp.specs.Numbers.{number_of}
 use Rattle.ua_binary.specs.declared.values.NodeId.{NodeId}
@@ -19,7 +17,7 @@ use Rattle.records.specs.declared.shown.Held.{Held}
 use Rattle.records.specs.declared.shown.Entry.{Entry}
 use Rattle.records.proofs.CutLemmas.{closed_cut, cut_whole}
 use Rattle.records.proofs.LatestLemmas.{story_has}
-use Rattle.archive.specs.Reading.{times, lives, log, is_past, is_between, follows, place_of, range_of, log_of}
+use Rattle.archive.specs.Reading.{times, lives, log, is_between, place_of, range_of, log_of}
 use Rattle.archive.specs.Store.{Store, Asks, IsLawfulContent, StoreFailed}
 use Rattle.archive.specs.Steps.{Transitions}
 use Rattle.archive.specs.declared.fault.StoreFault.{StoreFault}
@@ -90,8 +88,8 @@ module _ {X : Type 0} where
       let some : length page - 1 < length page = slice_get_within page (length page - 1) x at in
       let whole : length page - 1 + 1 ≡ length page = omega (arith, some) in (
         ap (λ l. page ++ l) (behind ∙ (ap (λ n. drop n xs) whole
-        ∙ ap (λ (l : List X). drop (length l) xs) is))
-        ∙ (ap (λ l. l ++ drop (length (take (suc k) xs)) xs) is ∙ page-drop (suc k) xs),
+            ∙ ap (λ (l : List X). drop (length l) xs) is))
+            ∙ (ap (λ l. l ++ drop (length (take (suc k) xs)) xs) is ∙ page-drop (suc k) xs),
         λ e. absurd (omega (arith, some, ap length e)),
       )
 
@@ -155,9 +153,12 @@ answered t u IsAnswer a asks =
     moves-stays t u [] (λ marks R S. (S ≡ R) × IsLawfulContent R × IsAnswer R a)
     asks.leaves.passes asks.stays (there-behind t u None asks.leaves) (λ honest R h.
     let is : t.content ≡ R = left-before t u R asks.leaves honest h in
-    let rests = asks.leaves.before (asks.leaves.passes.honest honest) (in_use t u asks.leaves) in
-    (refl, subst IsLawfulContent is rests.lawful, subst (λ C. IsAnswer C a) is
-    (asks.answer honest)))
+    let rests = asks.leaves.before (asks.leaves.passes.honest honest) (in_use t u asks.leaves) in (
+      refl,
+      subst IsLawfulContent is rests.lawful,
+      subst (λ C. IsAnswer C a) is
+          (asks.answer honest),
+    ))
 
 -- a fault of its store
 pub unanswered : {A : Type 0} (t u : Store) (why : StoreFault) (P : A → Type 0)
@@ -212,7 +213,8 @@ module _ (t u : Store) (node : NodeId) (old new : Pages) (page : List Held)
           ∙ ap (λ x. range_of (cut R (number_of old.within)) node old.span.from x Forward) high)
 
       go : (o : Option Held) → last page ≡ o
-          → IsPast o old.span.from old.span.to new.span.from new.span.to → IsPageOf page (values_left node new R) (values_left node old R)
+          → IsPast o old.span.from old.span.to new.span.from new.span.to
+          → IsPageOf page (values_left node new R) (values_left node old R)
       go None none kept =
           subst (λ (l : List Held). IsPageOf page l (values_left node old R))
           (sym (same new.within within new.span.from new.span.to kept.0 kept.1))

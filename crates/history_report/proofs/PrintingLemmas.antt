@@ -1,5 +1,5 @@
 -- A history, printed one page after the other behind a header.
-use Rattle.std.proofs.Common.{◌≡◌, ◌⊎◌, ℕ, zero, suc, ◌+◌, ◌-◌, ◌≤◌, ◌<◌, Bool, true, false, List, [], ◌∷◌, ◌++◌, take, drop, length, slice_get, append-nil, append_assoc, Option, Some, None, Result, Ok, Err, refl, sym, ap, ◌∙◌, subst, arith, inl, inr}
+use Rattle.std.proofs.Common.{◌≡◌, ◌⊎◌, ℕ, zero, suc, Bool, true, false, List, [], ◌∷◌, ◌++◌, take, drop, length, slice_get, append-nil, append_assoc, Option, Some, None, Result, Ok, Err, refl, sym, ap, ◌∙◌, subst, inl, inr}
 use Rattle.std.specs.Io.KnownBytes.{Appends}
 use Rattle.std.proofs.KnownBytes.{Appends-nil, Appends-trans}
 use Rattle.std.specs.Prelude.{◌==◌}
@@ -9,19 +9,19 @@ use Rattle.records.specs.Contents.{Content, vec}
 use Rattle.records.specs.declared.shown.Held.{Held}
 use Rattle.records.specs.declared.shown.Entry.{Entry}
 use Rattle.stamp.specs.Numbers.{number_of}
-use Rattle.archive.specs.Store.{Store, StepResult, StoreFailed, IsLawfulContent, faults_of}
+use Rattle.archive.specs.Store.{Store, StoreFailed, IsLawfulContent, faults_of}
 use Rattle.archive.specs.Steps.{Transitions}
 use Rattle.archive.specs.declared.fault.StoreFault.{StoreFault}
 use Rattle.archive.proofs.Acting.{moves-none, moves-then, moves-as}
 use Rattle.counted_io.specs.Bytes.{AppendsPart}
-use Rattle.counted_io.proofs.Parts.{part-first, part-second}
+use Rattle.counted_io.proofs.Parts.{part-second}
 use Rattle.history_csv.specs.Rows.{IsTextless, ShowsTextless}
 use Rattle.history_report.specs.declared.pages.Pages.{Pages}
 use Rattle.history_report.specs.declared.report.Report.{Report}
 use Rattle.history_report.specs.declared.fault.ReportFault.{ReportFault}
 use Rattle.history_report.specs.declared.fault.ReportFault.TheVariants as fault
-use Rattle.history_report.specs.Reports.{AreLines, IsAt, BreaksOff, PrintsLines, ReadsFor, PrintsReport, Prints, store_faults_of, header_of, IsValueLine, IsChangeLine, values_asked, changes_asked}
-use Rattle.history_report.specs.Paging.{values_left, changes_left, IsPageOf, GivesPage, Fails, SendsLines, IsOwn, IsSoFar, Printing}
+use Rattle.history_report.specs.Reports.{AreLines, BreaksOff, PrintsLines, ReadsFor, PrintsReport, Prints, store_faults_of, header_of, IsValueLine, IsChangeLine, values_asked, changes_asked}
+use Rattle.history_report.specs.Paging.{values_left, changes_left, IsPageOf, GivesPage, Fails, SendsLines, IsSoFar, Printing}
 use Rattle.history_report.proofs.LineLemmas.{lines-append}
 use Rattle.history_report.proofs.PageLemmas.{IsSpanOf, values-all, changes-all}
 
@@ -85,11 +85,13 @@ module _ {X : Type 0} (IsLine : X → List ℕ → Type 0) (HasNoText : X → Ty
         part-second before now after lines new sent part,
         λ e. let stop = none e in (
           Appends-trans before now after lines new sent stop.0,
-          (stop.1.0,
-          ap (λ l. slice_get l (length front)) parts
-              ∙ (get-behind front (drop k page ++ more)
-              ∙ get-front (drop k page) more stop.1.0 (get-drop k page ∙ stop.1.1)),
-          stop.1.2),
+          (
+            stop.1.0,
+            ap (λ l. slice_get l (length front)) parts
+                ∙ (get-behind front (drop k page ++ more)
+                ∙ get-front (drop k page) more stop.1.0 (get-drop k page ∙ stop.1.1)),
+            stop.1.2,
+          ),
         ),
       )
 
@@ -112,8 +114,13 @@ module _ {X : Type 0} (IsLine : X → List ℕ → Type 0) (HasNoText : X → Ty
           (λ marks R S. (S ≡ R)
           × ((faults_of (StoreFailed why ∷ []) ≡ store_faults_of (Err (fault.Store why)))
           × PrintsLines IsLine HasNoText [] (all R) before now (Err (fault.Store why))))
-          (λ ms ns R S T p e. (e ∙ p.0, (refl,
-          so-far-part (all R) (rest R) before now (fault.Store why) (λ k. absurd cc) p.1))) so q,
+          (λ ms ns R S T p e. (
+            e ∙ p.0,
+            (
+              refl,
+              so-far-part (all R) (rest R) before now (fault.Store why) (λ k. absurd cc) p.1,
+            ),
+          )) so q,
     )
 
     module _ (page : List X) (more : Content → List X) (q : GivesPage t u page more rest) where
@@ -125,8 +132,11 @@ module _ {X : Type 0} (IsLine : X → List ℕ → Type 0) (HasNoText : X → Ty
           moves-then s t u [] [] (λ marks R S. (S ≡ R)
           × IsSoFar IsLine (all R) (rest R) before now)
           (λ marks R S. (S ≡ R) × IsPageOf page (more R) (rest R)) (λ marks R S. (S ≡ R) × To R)
-          (λ ms ns R S T p a. (a.0 ∙ p.0, f R p.1
-          (subst (λ C. IsPageOf page (more C) (rest C)) p.0 a.1))) so q
+          (λ ms ns R S T p a. (
+            a.0 ∙ p.0,
+            f R p.1
+                (subst (λ C. IsPageOf page (more C) (rest C)) p.0 a.1),
+          )) so q
 
       pub ended : page ≡ [] → ReadsFor s u (Ok tt)
           (λ R. PrintsLines IsLine HasNoText [] (all R) before now (Ok tt))
@@ -149,8 +159,11 @@ module _ {X : Type 0} (IsLine : X → List ℕ → Type 0) (HasNoText : X → Ty
         [],
         told (λ R. ([] ≡ store_faults_of (Err why))
             × PrintsLines IsLine HasNoText [] (all R) before after (Err why))
-            (λ R is p. (sym sends.0, so-far-breaks (all R) (rest R) page (more R) before now after
-            why is p.0 sends)),
+            (λ R is p. (
+              sym sends.0,
+              so-far-breaks (all R) (rest R) page (more R) before now after
+                  why is p.0 sends,
+            )),
       )
 
       pub goes-on : SendsLines IsLine HasNoText page now after (Ok tt)
@@ -173,8 +186,14 @@ module _ {X : Type 0} (IsLine : X → List ℕ → Type 0) (HasNoText : X → Ty
       moves-as s t [] (λ marks R S. (S ≡ R) × IsSoFar IsLine (all R) (rest R) before now)
           (λ marks R S. (S ≡ R) × (([] ≡ store_faults_of (Err fault.OutOfMemory))
           × PrintsLines IsLine HasNoText [] (all R) before now (Err fault.OutOfMemory)))
-          (λ ms R S p. (p.0, (refl, so-far-part (all R) (rest R) before now fault.OutOfMemory
-          (λ k. absurd cc) p.1))) so,
+          (λ ms R S p. (
+            p.0,
+            (
+              refl,
+              so-far-part (all R) (rest R) before now fault.OutOfMemory
+                  (λ k. absurd cc) p.1,
+            ),
+          )) so,
     )
 
   -- ---- behind a header
@@ -239,8 +258,14 @@ not-asked report t u before why fails = (
       (λ marks R S. (S ≡ R)
       × ((faults_of (StoreFailed why ∷ []) ≡ store_faults_of (Err (fault.Store why)))
       × PrintsReport report R before before (Err (fault.Store why))))
-      (λ ms R S e. (e, (refl, report-breaks report R before before (fault.Store why)
-      (λ k. absurd cc) ([], header_of report, refl, Appends-nil before)))) fails,
+      (λ ms R S e. (
+        e,
+        (
+          refl,
+          report-breaks report R before before (fault.Store why)
+              (λ k. absurd cc) ([], header_of report, refl, Appends-nil before),
+        ),
+      )) fails,
 )
 
 -- which records are shown
@@ -259,8 +284,14 @@ module _ (report : Report) (t u w : Store) (numbers : List ℕ) (shown : AreShow
         × ((o : ℕ) → number_of numbers o ≡ vec R o))
         (λ marks R S. (S ≡ R) × (([] ≡ store_faults_of (Err why))
         × PrintsReport report R before now (Err why)))
-        (λ ms R S p. (p.0, (quiet because, report-breaks report R before now why (other because)
-        part))) shown,
+        (λ ms R S p. (
+          p.0,
+          (
+            quiet because,
+            report-breaks report R before now why (other because)
+                part,
+          ),
+        )) shown,
   )
     where
       quiet : (why ≡ fault.Write) ⊎ (why ≡ fault.OutOfMemory) → [] ≡ store_faults_of (Err why)

@@ -1,5 +1,5 @@
 -- A list in pages, and what was printed of it so far.
-use Rattle.std.specs.Prelude.{◌≡◌, ◌⊎◌, ℕ, ℤ, pos, ◌≤ℤ◌, ◌-◌, ◌^◌, List, [], ◌∷◌, ◌++◌, take, int_lt, ◌&&◌, Option, Some, None, Result, Ok, Err, MatchResult}
+use Rattle.std.specs.Prelude.{◌≡◌, ◌⊎◌, ℕ, ℤ, pos, ◌≤ℤ◌, ◌-◌, ◌^◌, List, [], ◌∷◌, ◌++◌, take, int_lt, ◌&&◌, Option, Some, None, Result, Err, MatchResult}
 use Rattle.std.specs.Io.KnownBytes.{Appends}
 use Rattle.counted_io.specs.Bytes.{AppendsPart}
 use Rattle.stamp.specs.Numbers.{number_of}
@@ -12,7 +12,7 @@ use Rattle.records.specs.declared.shown.Entry.{Entry}
 use Rattle.archive.specs.Reading.{is_between, place_of, range_of, log_of}
 use Rattle.archive.specs.declared.reading.Direction.TheVariants.{Forward}
 use Rattle.archive.specs.declared.reading.LogPlace.{LogPlace}
-use Rattle.archive.specs.Store.{Store, StepResult, StoreFailed}
+use Rattle.archive.specs.Store.{Store, StoreFailed}
 use Rattle.archive.specs.Steps.{Transitions}
 use Rattle.archive.specs.declared.fault.StoreFault.{StoreFault}
 use Rattle.history_text.specs.declared.fault.TextFault.{TextFault}

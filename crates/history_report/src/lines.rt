@@ -30,11 +30,7 @@ fn put_csv_header(alloc: Global, changes: bool, out: &mut Vec<u8>) -> Result<(),
 }
 
 /// Appends the header.
-pub(crate) fn put_header(
-    alloc: Global,
-    report: &Report,
-    out: &mut Vec<u8>,
-) -> Result<(), TextFault>
+pub(crate) fn put_header(alloc: Global, report: &Report, out: &mut Vec<u8>) -> Result<(), TextFault>
     ensures { OnOk result (out.new.items ≡ out.old.items ++ header_of report.now) }
 {
     if report.csv {

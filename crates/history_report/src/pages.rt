@@ -94,7 +94,16 @@ pub(crate) fn next_changes<A: Archive>(
 {
     let Span { from, to } = pages.span;
     let (after, way) = (pages.after, Direction::Forward);
-    let page = match archive.log(alloc, &report.node, from, to, after, way, MOST, &pages.within) {
+    let page = match archive.log(
+        alloc,
+        &report.node,
+        from,
+        to,
+        after,
+        way,
+        MOST,
+        &pages.within,
+    ) {
         Ok(page) => page,
         Err(fault) => return Err(fault),
     };

@@ -29,12 +29,7 @@ pub(crate) trait Row {
 
     /// Appends it as a line. `NoText` says that it shows a value that has no text, and `OutOfMemory`
     /// that memory ran out; then nothing is appended.
-    fn put_line(
-        &self,
-        alloc: Global,
-        report: &Report,
-        out: &mut Vec<u8>,
-    ) -> Result<(), TextFault>
+    fn put_line(&self, alloc: Global, report: &Report, out: &mut Vec<u8>) -> Result<(), TextFault>
         ensures written { OnOk result
             (IsPut out.old.items out.new.items (is_line report.now self.now)) }
         ensures refused { IfErr result (IsWhy (is_textless self.now)) }
@@ -46,12 +41,7 @@ impl Row for Held {
 
     ghost is_textless = { λ held. IsTextless held.value.value };
 
-    fn put_line(
-        &self,
-        alloc: Global,
-        report: &Report,
-        out: &mut Vec<u8>,
-    ) -> Result<(), TextFault> {
+    fn put_line(&self, alloc: Global, report: &Report, out: &mut Vec<u8>) -> Result<(), TextFault> {
         put_value_line(alloc, report, self, out)
     }
 }
@@ -61,12 +51,7 @@ impl Row for Entry {
 
     ghost is_textless = { λ entry. ShowsTextless entry.value };
 
-    fn put_line(
-        &self,
-        alloc: Global,
-        report: &Report,
-        out: &mut Vec<u8>,
-    ) -> Result<(), TextFault> {
+    fn put_line(&self, alloc: Global, report: &Report, out: &mut Vec<u8>) -> Result<(), TextFault> {
         put_change_line(alloc, report, self, out)
     }
 }

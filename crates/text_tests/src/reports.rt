@@ -32,12 +32,7 @@ type Row = (&'static str, i64, HistoryUpdateType, Written);
 /// Updates, one after the other.
 static ROWS: [Row; 7] = [
     ("ns=1;s=T", 1, Insert, Written::Text("one")),
-    (
-        "ns=1;s=T",
-        3,
-        Insert,
-        Written::Text("a,b\x1b[31m\u{9b}m"),
-    ),
+    ("ns=1;s=T", 3, Insert, Written::Text("a,b\x1b[31m\u{9b}m")),
     ("ns=1;s=T", 2, Insert, Written::Text("\u{fc}ber")),
     ("ns=1;s=T", 1, Replace, Written::Text("uno")),
     ("ns=1;s=T", 3, Delete, Written::Nothing),

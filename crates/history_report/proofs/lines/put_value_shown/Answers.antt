@@ -7,7 +7,9 @@ returns-clause-written c =
       c.in_ok-line.line.items,
       c.in_ok-extend_from_slice.ensures.items
           ∙ ap (λ (l : List ℕ). c.args.out.now.items ++ l) c.as_slice.ensures.value,
-      (row.node.items ∷ row.time.items ∷ row.shown.value.items ∷ row.shown.status.items ∷ [],
-      c.in_ok-line.ensures,
-      c.in_ok-row.ensures.written.0),
+      (
+        row.node.items ∷ row.time.items ∷ row.shown.value.items ∷ row.shown.status.items ∷ [],
+        c.in_ok-line.ensures,
+        c.in_ok-row.ensures.written.0,
+      ),
     )

@@ -1,7 +1,6 @@
-use Rattle.std.proofs.Common.{◌≡◌, List, Option, take, ap, ◌∙◌}
+use Rattle.std.proofs.Common.{◌≡◌, List, take, ap, ◌∙◌}
 use Rattle.records.specs.Contents.{Content}
 use Rattle.records.specs.declared.shown.Entry.{Entry}
-use Rattle.archive.specs.declared.reading.LogPlace.{LogPlace}
 use Rattle.history_report.specs.declared.pages.Pages.{Pages}
 use Rattle.history_report.specs.Paging.{place_behind, changes_left}
 use Rattle.history_report.proofs.PageLemmas.{answered, unanswered, changes-page}

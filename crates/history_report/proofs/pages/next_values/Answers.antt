@@ -1,9 +1,6 @@
 use Rattle.std.proofs.Common.{◌≡◌, List, take, refl, subst}
-use Rattle.stamp.specs.Numbers.{number_of}
-use Rattle.records.specs.Contents.{Content, cut}
+use Rattle.records.specs.Contents.{Content}
 use Rattle.records.specs.declared.shown.Held.{Held}
-use Rattle.archive.specs.Reading.{range_of}
-use Rattle.archive.specs.declared.reading.Direction.TheVariants.{Forward}
 use Rattle.history_report.specs.Paging.{IsBehind, values_left}
 use Rattle.history_report.proofs.PageLemmas.{answered, unanswered, values-page}
 use Rattle.history_report.proofs.pages.next_values.Goals as goal

@@ -1,4 +1,4 @@
-use Rattle.std.proofs.Common.{◌≡◌, List, [], sym, ◌∙◌, subst}
+use Rattle.std.proofs.Common.{List, sym, ◌∙◌, subst}
 use Rattle.std.specs.Prelude.{Err, Ok}
 use Rattle.records.specs.declared.shown.Entry.{Entry}
 use Rattle.history_csv.specs.Rows.{ShowsTextless}

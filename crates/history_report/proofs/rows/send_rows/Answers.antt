@@ -1,4 +1,4 @@
-use Rattle.std.proofs.Common.{◌≡◌, [], ℕ, List, subst, sym, ◌∙◌}
+use Rattle.std.proofs.Common.{ℕ, List, subst}
 use Rattle.counted_io.specs.Bytes.{AppendsPart}
 use Rattle.history_report.specs.Paging.{PutsLines}
 use Rattle.history_report.proofs.LineLemmas.{sends-part}
