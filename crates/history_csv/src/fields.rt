@@ -50,14 +50,21 @@ fn moment_by_parts(time: Time) -> Option<Moment>
     })
 }
 
+/// Reads a moment as a row has it, a source time with its picoseconds. A text that says none is None.
+pub fn read_moment(text: &str) -> Option<Moment>
+    ensures { result ≡ moment_in text.now }
+{
+    match read_time(text) {
+        Ok(time) => moment_by_parts(time),
+        Err(_) => None,
+    }
+}
+
 /// The moment of a row.
 fn moment_in(text: &str) -> Result<Moment, RowFault>
     ensures { result ≡ ok_or (moment_in text.now) (Fault.Time Why.NoTime) }
 {
-    match read_time(text) {
-        Ok(time) => moment_by_parts(time).ok_or(RowFault::Time(TextFault::NoTime)),
-        Err(_) => Err(RowFault::Time(TextFault::NoTime)),
-    }
+    read_moment(text).ok_or(RowFault::Time(TextFault::NoTime))
 }
 
 /// The status of a row.

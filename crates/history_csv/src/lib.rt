@@ -12,7 +12,7 @@ mod rows;
 mod texts;
 
 pub use fault::RowFault;
-pub use fields::Row;
+pub use fields::{Row, read_moment};
 pub use laws::a_written_row_is_read_again;
 pub use nodes::{node_text, read_node};
 pub use rows::{
