@@ -1,14 +1,16 @@
 -- How a history is shown as a table for people.
 use Rattle.std.specs.Prelude.{ℕ, ◌-◌, ◌==◌, ◌||◌, ◌&&◌, nat_lt, nat_le, Bool, List, [], ◌∷◌, ◌++◌, length, filter, replicate, if◌then◌else◌}
 
--- a control byte, or the second byte of a control character of two, U+0080 to U+009F
-abbrev pub is_control : (before b : ℕ) → Bool
-is_control before b = nat_lt b 32 || b == 127 || (before == 194 && nat_lt b 160)
+-- a byte behind this one as it is shown: what controls a terminal as a question mark, and the
+-- second byte of U+0080 to U+009F as that of an inverted one
+abbrev pub shown_byte : (before b : ℕ) → ℕ
+shown_byte before b =
+    if before == 194 && nat_lt b 160 then 191 else if nat_lt b 32 || b == 127 then 63 else b
 
--- the bytes behind this one as they are shown: a question mark in place of each such byte
+-- the bytes behind this one as they are shown
 abbrev pub shown_after : (before : ℕ) → List ℕ → List ℕ
 shown_after before [] = []
-shown_after before (b ∷ text) = (if is_control before b then 63 else b) ∷ shown_after b text
+shown_after before (b ∷ text) = shown_byte before b ∷ shown_after b text
 
 -- a text as it is shown
 abbrev pub shown : List ℕ → List ℕ

@@ -2,7 +2,7 @@
 
 ghost use Rattle.std.specs.Prelude.{◌≡◌, ◌++◌, ◌∷◌, [], IfOk, OnOk, replicate, if◌then◌else◌};
 ghost use Rattle.history_csv.specs.Rows.{value_names, change_names};
-ghost use Rattle.history_report.specs.Tables.{is_control, shown, is_first, characters, cell, last_cell, table_line};
+ghost use Rattle.history_report.specs.Tables.{shown, shown_byte, is_first, characters, cell, last_cell, table_line};
 
 use std::alloc::{AllocError, Global};
 
@@ -31,22 +31,28 @@ pub(crate) struct Made<'a> {
     pub(crate) user: &'a [u8],
 }
 
-/// Whether a byte controls a terminal, behind the byte before it.
-fn is_control(before: u8, byte: u8) -> bool
-    ensures { result ≡ is_control before byte }
+/// A byte as it is shown behind the byte before it: one that controls a terminal as `?`, and the
+/// second one of U+0080 to U+009F as that of `¿`.
+fn shown_byte(before: u8, byte: u8) -> u8
+    ensures { result ≡ shown_byte before byte }
 {
-    byte < 32 || byte == 127 || (before == 194 && byte < 160)
+    if before == 194 && byte < 160 {
+        191
+    } else if byte < 32 || byte == 127 {
+        b'?'
+    } else {
+        byte
+    }
 }
 
-/// A text as it is shown, with a question mark in place of each byte that controls a terminal.
+/// A text as it is shown, without what controls a terminal.
 fn shown_text(alloc: Global, text: &[u8]) -> Result<Vec<u8>, AllocError>
     ensures { IfOk result (λ put. put.items ≡ shown text.now) }
 {
     let mut put = Vec::new(alloc);
     let mut before = 0;
     for byte in text {
-        let control = is_control(before, *byte);
-        put.push(if control { b'?' } else { *byte })?;
+        put.push(shown_byte(before, *byte))?;
         before = *byte;
     }
     Ok(put)
