@@ -2,8 +2,8 @@
 use Rattle.std.proofs.Common.{◌≡◌, List, [], Some, None, refl, subst, ap, sym, ◌∙◌, codes, arith, get_or}
 use Rattle.std.specs.Prelude.{Option, Result, Ok, Err, OnErr}
 use Rattle.clap.specs.Words.{Row, Text}
-use Rattle.command_line.specs.declared.line.Line.TheVariants.{Answer, Serve, Dump, Sync}
-use Rattle.command_line.specs.Line.{IsLine, IsAnswer, IsServe, IsDump, IsSync, NoLine}
+use Rattle.command_line.specs.declared.line.Line.TheVariants.{Answer, Serve, Dump, Sync, History}
+use Rattle.command_line.specs.Line.{IsLine, IsAnswer, IsServe, IsDump, IsSync, IsHistory, NoLine}
 
 -- what holds of a value that is there, and of one that isn't
 pub of-value : {T : Type 0} (o : Option T) (none : Type 0) (some : T → Type 0) → (o ≡ None → none)
@@ -38,6 +38,8 @@ no-answer matches rows is none (Dump path) h = let same =
     one-name matches (codes "answer") (codes "dump") rows h.0 is h.1 in absurd cc
 no-answer matches rows is none (Sync path address) h = let same =
     one-name matches (codes "answer") (codes "sync") rows h.0 is h.1 in absurd cc
+no-answer matches rows is none (History path asked) h = let same =
+    one-name matches (codes "answer") (codes "history") rows h.0 is h.1 in absurd cc
 
 pub no-serve : (matches : Option (Text × List Row)) (rows : List Row)
     → matches ≡ Some (codes "serve", rows) → NoLine (IsServe rows) → NoLine (IsLine matches)
@@ -50,6 +52,8 @@ no-serve matches rows is none (Dump path) h = let same =
     one-name matches (codes "serve") (codes "dump") rows h.0 is h.1 in absurd cc
 no-serve matches rows is none (Sync path address) h = let same =
     one-name matches (codes "serve") (codes "sync") rows h.0 is h.1 in absurd cc
+no-serve matches rows is none (History path asked) h = let same =
+    one-name matches (codes "serve") (codes "history") rows h.0 is h.1 in absurd cc
 
 pub no-dump : (matches : Option (Text × List Row)) (rows : List Row)
     → matches ≡ Some (codes "dump", rows) → NoLine (IsDump rows) → NoLine (IsLine matches)
@@ -63,6 +67,8 @@ no-dump matches rows is none (Dump path) h =
 no-dump matches rows is none (Sync path address) h = let first : 100 ≡ 115 =
     ap (λ (l : Text). get_or l 0 0)
     (one-name matches (codes "dump") (codes "sync") rows h.0 is h.1) in omega (arith, first)
+no-dump matches rows is none (History path asked) h = let same =
+    one-name matches (codes "dump") (codes "history") rows h.0 is h.1 in absurd cc
 
 pub no-sync : (matches : Option (Text × List Row)) (rows : List Row)
     → matches ≡ Some (codes "sync", rows) → NoLine (IsSync rows) → NoLine (IsLine matches)
@@ -76,6 +82,22 @@ no-sync matches rows is none (Dump path) h = let first : 115 ≡ 100 =
 no-sync matches rows is none (Sync path address) h =
     none (Sync path address) (subst (λ (r : List Row). IsSync r (Sync path address))
     (one-list matches (codes "sync") (codes "sync") rows h.0 is h.1) h.2)
+no-sync matches rows is none (History path asked) h = let same =
+    one-name matches (codes "sync") (codes "history") rows h.0 is h.1 in absurd cc
+
+pub no-history : (matches : Option (Text × List Row)) (rows : List Row)
+    → matches ≡ Some (codes "history", rows) → NoLine (IsHistory rows) → NoLine (IsLine matches)
+no-history matches rows is none (Answer path flag moment) h = let same =
+    one-name matches (codes "history") (codes "answer") rows h.0 is h.1 in absurd cc
+no-history matches rows is none (Serve path count) h = let same =
+    one-name matches (codes "history") (codes "serve") rows h.0 is h.1 in absurd cc
+no-history matches rows is none (Dump path) h = let same =
+    one-name matches (codes "history") (codes "dump") rows h.0 is h.1 in absurd cc
+no-history matches rows is none (Sync path address) h = let same =
+    one-name matches (codes "history") (codes "sync") rows h.0 is h.1 in absurd cc
+no-history matches rows is none (History path asked) h =
+    none (History path asked) (subst (λ (r : List Row). IsHistory r (History path asked))
+    (one-list matches (codes "history") (codes "history") rows h.0 is h.1) h.2)
 
 -- what is said of a refusal, said of it by what follows from that
 pub refused-so : {T E P Q : Type 0} (result : Result T E) → (P → Q) → OnErr result P

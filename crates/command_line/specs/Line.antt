@@ -10,7 +10,8 @@ use Rattle.clap.specs.declared.error.ErrorKind.TheVariants.{DisplayHelp, Display
 use Rattle.clap.specs.declared.builder.action.ArgAction.TheVariants.{Set, SetTrue}
 use Rattle.clap.specs.declared.builder.value_parser.ValueParser.TheVariants.{Unsigned}
 use Rattle.command_line.specs.declared.line.Line.{Line}
-use Rattle.command_line.specs.declared.line.Line.TheVariants.{Answer, Serve, Dump, Sync}
+use Rattle.command_line.specs.declared.line.Line.TheVariants.{Answer, Serve, Dump, Sync, History}
+use Rattle.command_line.specs.declared.line.HistoryWords.{HistoryWords}
 use Rattle.command_line.specs.declared.line.Asked.{Asked}
 use Rattle.command_line.specs.declared.line.Asked.TheVariants.{Work, Text as Shown}
 use Rattle.command_line.specs.declared.line.LineFault.{LineFault}
@@ -57,6 +58,19 @@ dump_command = command (codes "dump") (needed (codes "settings") ∷ [])
 abbrev pub sync_command : App
 sync_command = command (codes "sync") (needed (codes "settings") ∷ needed (codes "peer") ∷ [])
 
+-- `history --settings FILE --node ID`
+abbrev pub node_command : App
+node_command = command (codes "history") (needed (codes "settings") ∷ needed (codes "node") ∷ [])
+
+-- the same with `[--from T] [--to T]`
+abbrev pub span_command : App
+span_command = with_rule (with_rule node_command (option (codes "from"))) (option (codes "to"))
+
+-- the same with `[--changes] [--csv]`: `history` with its options
+abbrev pub history_command : App
+history_command =
+    with_rule (with_rule span_command (flag (codes "changes"))) (flag (codes "csv"))
+
 -- the program with no commands yet: it has a version, which its commands have too
 abbrev pub program : App
 program =
@@ -67,11 +81,15 @@ program =
 abbrev pub servers : App
 servers = with_subcommand (with_subcommand program answer_command.top) serve_command.top
 
+-- these and the commands that move whole archives
+abbrev pub movers : App
+movers = with_subcommand (with_subcommand servers dump_command.top) sync_command.top
+
 -- the program with its commands
 abbrev pub uahist : App
 uahist =
     fold (λ all one. with_subcommand all one.top) program
-    (answer_command ∷ serve_command ∷ dump_command ∷ sync_command ∷ [])
+    (answer_command ∷ serve_command ∷ dump_command ∷ sync_command ∷ history_command ∷ [])
 
 -- where the first fault that clap finds may be that help, or the version, is asked for
 abbrev pub MayAskForText : Kinds → Type 0
@@ -125,6 +143,24 @@ IsSync rows line =
       | _ ↦ ⊥
     ]
 
+-- what rows ask of a node's history: the node, from when, to when, changes or values, CSV or a
+-- table
+pub record AsksHistory (rows : List Row) (asked : HistoryWords) : Type 0 where
+  pub node : first_of (codes "node") rows ≡ Some asked.node.now
+  pub from : option_copied asked.from ≡ first_of (codes "from") rows
+  pub to : option_copied asked.to ≡ first_of (codes "to") rows
+  pub changes : IsFlag (one_of (codes "changes") rows) asked.changes
+  pub csv : IsFlag (one_of (codes "csv") rows) asked.csv
+
+-- what the rows of `history` give
+abbrev pub IsHistory : List Row → Line → Type 0
+IsHistory rows line =
+    elim line [
+      | History path asked ↦ (first_of (codes "settings") rows ≡ Some path.now)
+          × AsksHistory rows asked
+      | _ ↦ ⊥
+    ]
+
 -- The matches name this command, and its rows give this.
 abbrev pub NamesCommand : Option (Text × List Row) → Text → (List Row → Type 0) → Type 0
 NamesCommand matches name Gives = (rows : List Row) × (matches ≡ Some (name, rows)) × Gives rows
@@ -140,6 +176,8 @@ IsLine matches (Serve path count) =
 IsLine matches (Dump path) = NamesCommand matches (codes "dump") (λ rows. IsDump rows (Dump path))
 IsLine matches (Sync path peer) =
     NamesCommand matches (codes "sync") (λ rows. IsSync rows (Sync path peer))
+IsLine matches (History path asked) =
+    NamesCommand matches (codes "history") (λ rows. IsHistory rows (History path asked))
 
 -- no line is so
 abbrev pub NoLine : (Line → Type 0) → Type 0
@@ -154,7 +192,7 @@ Asks faults matches (Shown text) = MayAskForText faults
 -- the usage of the program, in one line
 abbrev pub usage : List ℕ
 usage =
-    codes "usage: uahist answer [--settings FILE] [--hex] [--now N] | serve --settings FILE [--connections N] | dump --settings FILE | sync --settings FILE --peer ADDRESS"
+    codes "usage: uahist answer [--settings FILE] [--hex] [--now N] | serve --settings FILE [--connections N] | dump --settings FILE | sync --settings FILE --peer ADDRESS | history --settings FILE --node ID [--from T] [--to T] [--changes] [--csv]"
 
 -- the text that tells a refused command line
 abbrev pub line_text_of : LineFault → List ℕ

@@ -1,13 +1,13 @@
 //! The command line.
 
-ghost use Rattle.std.specs.Prelude.{◌≡◌, [], map, IfOk, OnErr, IsErrOf, None, true, false, codes};
-ghost use Rattle.clap.specs.Words.{app_of, kind_of, rule_of, rows_of, found_of, subcommand_of, subcommand_rows_of};
+ghost use Rattle.std.specs.Prelude.{◌≡◌, [], map, IfOk, OnErr, IsErrOf, None, Some, true, false, codes};
+ghost use Rattle.clap.specs.Words.{app_of, kind_of, rule_of, rows_of, found_of, subcommand_of, subcommand_rows_of, first_of};
 ghost use Rattle.clap.specs.declared.builder.command.Command.TheViews.{out-Command};
 ghost use Rattle.clap.specs.declared.error.ErrorKind.TheVariants as clap;
 ghost use Rattle.clap.specs.Takes.{takes};
 ghost use Rattle.clap.specs.Faults.{fault_of as fault_kinds};
-ghost use Rattle.command_line.specs.Line.{Asks, AsksForText, IsLine, option, uahist, IsAnswer, IsServe, IsDump, IsMistake, IsSync, IsText, IsTextOf, NoLine, servers};
-ghost use Rattle.command_line.specs.Line.{answer_command, connections, dump_command, flag, now, serve_command, sync_command};
+ghost use Rattle.command_line.specs.Line.{Asks, AsksForText, AsksHistory, IsLine, option, uahist, IsAnswer, IsServe, IsDump, IsHistory, IsMistake, IsSync, IsText, IsTextOf, NoLine, movers, node_command, servers, span_command};
+ghost use Rattle.command_line.specs.Line.{answer_command, connections, dump_command, flag, history_command, now, serve_command, sync_command};
 
 use clap::builder::ValueParser;
 use clap::error::{Error as Refusal, ErrorKind};
@@ -51,6 +51,26 @@ pub enum Line<'a> {
         settings: &'a str,
         peer: &'a str,
     },
+    /// Print a node's history, of the archive that the file at `settings` sets.
+    History {
+        settings: &'a str,
+        asked: HistoryWords<'a>,
+    },
+}
+
+/// What a command line asks of a node's history, in its own words.
+#[derive(Clone, Copy, Debug, PartialEq, Eq)]
+pub struct HistoryWords<'a> {
+    /// The node.
+    pub node: &'a str,
+    /// The first source time; the history's own without one.
+    pub from: Option<&'a str>,
+    /// The source time before which it ends; none without one.
+    pub to: Option<&'a str>,
+    /// Whether modifications are asked for, in place of values.
+    pub changes: bool,
+    /// Whether it is to be printed as CSV, in place of a table.
+    pub csv: bool,
 }
 
 /// What a command line asks for.
@@ -80,7 +100,7 @@ impl LineFault {
     {
         match self {
             LineFault::Words =>
-                "usage: uahist answer [--settings FILE] [--hex] [--now N] | serve --settings FILE [--connections N] | dump --settings FILE | sync --settings FILE --peer ADDRESS",
+                "usage: uahist answer [--settings FILE] [--hex] [--now N] | serve --settings FILE [--connections N] | dump --settings FILE | sync --settings FILE --peer ADDRESS | history --settings FILE --node ID [--from T] [--to T] [--changes] [--csv]",
             LineFault::OutOfMemory => "memory ran out before the command began",
         }
     }
@@ -210,6 +230,100 @@ fn sync_command<'a>(alloc: Global) -> Result<Command<'a>, AllocError>
     Ok(command)
 }
 
+/// The option `--node ID`.
+fn node_option<'a>(alloc: Global) -> Arg<'a>
+    ensures rule { rule_of result ≡ option (codes "node") }
+    ensures local { result.global ≡ false }
+{
+    Arg::new(alloc, "node")
+        .long("node")
+        .value_name("ID")
+        .help("The node, as ns=1;s=Temperature")
+        .action(ArgAction::Set)
+}
+
+/// The option `--from T`.
+fn from_option<'a>(alloc: Global) -> Arg<'a>
+    ensures rule { rule_of result ≡ option (codes "from") }
+    ensures local { result.global ≡ false }
+{
+    Arg::new(alloc, "from")
+        .long("from")
+        .value_name("T")
+        .help("The first source time, as 2026-03-01T12:00:00Z")
+        .action(ArgAction::Set)
+}
+
+/// The option `--to T`.
+fn to_option<'a>(alloc: Global) -> Arg<'a>
+    ensures rule { rule_of result ≡ option (codes "to") }
+    ensures local { result.global ≡ false }
+{
+    Arg::new(alloc, "to")
+        .long("to")
+        .value_name("T")
+        .help("The source time before which it ends")
+        .action(ArgAction::Set)
+}
+
+/// The option `--changes`.
+fn changes_option<'a>(alloc: Global) -> Arg<'a>
+    ensures rule { rule_of result ≡ flag (codes "changes") }
+    ensures local { result.global ≡ false }
+{
+    Arg::new(alloc, "changes")
+        .long("changes")
+        .help("Prints who changed what and when, in place of the values")
+        .action(ArgAction::SetTrue)
+}
+
+/// The option `--csv`.
+fn csv_option<'a>(alloc: Global) -> Arg<'a>
+    ensures rule { rule_of result ≡ flag (codes "csv") }
+    ensures local { result.global ≡ false }
+{
+    Arg::new(alloc, "csv")
+        .long("csv")
+        .help("Prints CSV in place of a table")
+        .action(ArgAction::SetTrue)
+}
+
+/// The command `history` with the options that have to be given.
+fn node_command<'a>(alloc: Global) -> Result<Command<'a>, AllocError>
+    ensures app { IfOk result (λ command. app_of command ≡ node_command) }
+    ensures local { IfOk result (λ command. (out-Command command).has_globals ≡ false) }
+{
+    let settings = settings_option(alloc).required(true);
+    let node = node_option(alloc).required(true);
+    let command = Command::new(alloc, "history").about("Prints a node's history");
+    let command = command.arg(settings)?.arg(node)?;
+    Ok(command)
+}
+
+/// The same with the options that say of which times.
+fn span_command<'a>(alloc: Global) -> Result<Command<'a>, AllocError>
+    ensures app { IfOk result (λ command. app_of command ≡ span_command) }
+    ensures local { IfOk result (λ command. (out-Command command).has_globals ≡ false) }
+{
+    let from = from_option(alloc);
+    let to = to_option(alloc);
+    let command = node_command(alloc)?;
+    let command = command.arg(from)?.arg(to)?;
+    Ok(command)
+}
+
+/// The command `history` and its options.
+fn history_command<'a>(alloc: Global) -> Result<Command<'a>, AllocError>
+    ensures app { IfOk result (λ command. app_of command ≡ history_command) }
+    ensures local { IfOk result (λ command. (out-Command command).has_globals ≡ false) }
+{
+    let changes = changes_option(alloc);
+    let csv = csv_option(alloc);
+    let command = span_command(alloc)?;
+    let command = command.arg(changes)?.arg(csv)?;
+    Ok(command)
+}
+
 /// The program with its commands that answer clients.
 fn servers<'a>(alloc: Global) -> Result<Command<'a>, AllocError>
     ensures { IfOk result (λ command. app_of command ≡ servers) }
@@ -224,14 +338,24 @@ fn servers<'a>(alloc: Global) -> Result<Command<'a>, AllocError>
     Ok(whole)
 }
 
-/// The program's commands and their options.
-fn command<'a>(alloc: Global) -> Result<Command<'a>, AllocError>
-    ensures { IfOk result (λ command. app_of command ≡ uahist) }
+/// The program with these and its commands that move whole archives.
+fn movers<'a>(alloc: Global) -> Result<Command<'a>, AllocError>
+    ensures { IfOk result (λ command. app_of command ≡ movers) }
 {
     let dump = dump_command(alloc)?;
     let sync = sync_command(alloc)?;
     let whole = servers(alloc)?;
     let whole = whole.subcommand(dump)?.subcommand(sync)?;
+    Ok(whole)
+}
+
+/// The program's commands and their options.
+fn command<'a>(alloc: Global) -> Result<Command<'a>, AllocError>
+    ensures { IfOk result (λ command. app_of command ≡ uahist) }
+{
+    let history = history_command(alloc)?;
+    let whole = movers(alloc)?;
+    let whole = whole.subcommand(history)?;
     Ok(whole)
 }
 
@@ -315,6 +439,41 @@ fn read_sync<'a>(sync: &ArgMatches<'a>) -> Result<Line<'a>, LineFault>
     }
 }
 
+/// What is asked of the history of this node.
+fn read_words<'a>(history: &ArgMatches<'a>, node: &'a str) -> HistoryWords<'a>
+    ensures { first_of (codes "node") (rows_of (found_of history.now)) ≡ Some node.now
+        → AsksHistory (rows_of (found_of history.now)) result }
+{
+    let from = history.get_str("from");
+    let to = history.get_str("to");
+    let changes = history.get_flag("changes");
+    let csv = history.get_flag("csv");
+    HistoryWords {
+        node,
+        from,
+        to,
+        changes,
+        csv,
+    }
+}
+
+/// Reads the options of `history`.
+fn read_history<'a>(history: &ArgMatches<'a>) -> Result<Line<'a>, LineFault>
+    ensures ok { IfOk result (IsHistory (rows_of (found_of history.now))) }
+    ensures words { OnErr result (NoLine (IsHistory (rows_of (found_of history.now)))) }
+{
+    let Some(settings) = history.get_str("settings") else {
+        return Err(LineFault::Words);
+    };
+    match history.get_str("node") {
+        Some(node) => Ok(Line::History {
+            settings,
+            asked: read_words(history, node),
+        }),
+        None => Err(LineFault::Words),
+    }
+}
+
 /// Reads the command that the matches name.
 fn read_matches<'a>(matches: &ArgMatches<'a>) -> Result<Line<'a>, LineFault>
     ensures ok { IfOk result (IsLine (subcommand_rows_of matches.now)) }
@@ -329,9 +488,12 @@ fn read_matches<'a>(matches: &ArgMatches<'a>) -> Result<Line<'a>, LineFault>
     if let Some(dump) = matches.subcommand_matches("dump") {
         return read_dump(dump);
     }
-    match matches.subcommand_matches("sync") {
+    if let Some(sync) = matches.subcommand_matches("sync") {
+        return read_sync(sync);
+    }
+    match matches.subcommand_matches("history") {
         None => Err(LineFault::Words),
-        Some(sync) => read_sync(sync),
+        Some(history) => read_history(history),
     }
 }
 

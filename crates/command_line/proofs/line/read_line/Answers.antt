@@ -1,6 +1,7 @@
-use Rattle.std.proofs.Common.{rules, ◌≡◌, ◌⊎◌, inl, inr, List, [], ◌∷◌, map, ◌∙◌, ap, subst, sym, true}
+use Rattle.std.proofs.Common.{◌≡◌, ◌⊎◌, inl, inr, List, [], ◌∷◌, map, ◌∙◌, ap, refl, subst, sym, true}
 use Rattle.std.specs.Prelude.{Option, Result, Ok, Err, IfOk}
-use Rattle.clap.specs.Words.{App, IsAmong, Kinds, Row, Text, app_of, is_simple_and_free, kind_of, subcommand_of}
+use Rattle.clap.specs.Words.{App, HasMatchesOf, IsAmong, Kinds, Row, Text, app_of, is_simple_and_free, kind_of, subcommand_of, subcommand_rows_of}
+use Rattle.clap.specs.declared.parser.matches.ArgMatches.{ArgMatches}
 use Rattle.clap.specs.Takes.{takes}
 use Rattle.clap.specs.Faults.{fault_of as fault_kinds}
 use Rattle.clap.specs.declared.error.ErrorKind.{ErrorKind}
@@ -70,6 +71,12 @@ shown faults matches kind (Ok (Work line)) has is = absurd is.1
 shown faults matches kind (Ok (Shown text)) has is = text-asked faults kind has is.0
 shown faults matches kind (Err fault) has is = is
 
+-- what the matches of the command that was built name is what those of the program do
+named : (a : App) (words : List Text) (matches : ArgMatches) → a ≡ uahist
+    → HasMatchesOf a words matches → subcommand_rows_of matches ≡ subcommand_of uahist words
+named a words matches same has =
+    (subst (λ (x : App). HasMatchesOf x words matches) same has refl).1
+
 pub returns-in-Err-clause-words : goal.returns-in-Err-clause-words
 returns-in-Err-clause-words g c = λ is taken.
     let words = map g.S.AsStr.text c.args.words.now in
@@ -101,8 +108,20 @@ returns-in_ok-read_matches-in-Ok-try_get_matches_from-clause-ok g c =
       without (app_of c.in-Ok.command) words c.in-Ok.ensures
           (c.in-Ok-try_get_matches_from.ensures.kinds
           (simple (app_of c.in-Ok.command) c.in-Ok.ensures)),
-      search rules,
+      subst (λ found. IsLine found c.in_ok-read_matches-in-Ok-try_get_matches_from.field-0)
+          (named (app_of c.in-Ok.command) words c.in-Ok-try_get_matches_from.matches
+          c.in-Ok.ensures c.in-Ok-try_get_matches_from.ensures.matches)
+          c.in_ok-read_matches-in-Ok-try_get_matches_from.ensures.ok,
     )
+
+pub returns-in_err-read_matches-in-Ok-try_get_matches_from-clause-words :
+    goal.returns-in_err-read_matches-in-Ok-try_get_matches_from-clause-words
+returns-in_err-read_matches-in-Ok-try_get_matches_from-clause-words g c = λ is taken line h.
+    let words = map g.S.AsStr.text c.args.words.now in
+    c.in_err-read_matches-in-Ok-try_get_matches_from.ensures.words line
+    (subst (λ found. IsLine found line)
+    (sym (named (app_of c.in-Ok.command) words c.in-Ok-try_get_matches_from.matches
+    c.in-Ok.ensures c.in-Ok-try_get_matches_from.ensures.matches)) h)
 
 pub returns-in-Err-clause-ok : goal.returns-in-Err-clause-ok
 returns-in-Err-clause-ok g c =

@@ -3,7 +3,7 @@ use Rattle.std.specs.Prelude.{Option, option_map}
 use Rattle.clap.specs.Matches.{first_value}
 use Rattle.clap.specs.Words.{Row, first_of, found_of, rows_of}
 use Rattle.command_line.specs.Line.{IsSync, NoLine}
-use Rattle.command_line.specs.declared.line.Line.TheVariants.{Answer, Serve, Dump, Sync}
+use Rattle.command_line.specs.declared.line.Line.TheVariants.{Answer, Serve, Dump, Sync, History}
 use Rattle.clap.proofs.WalkLemmas.{first_value-rows}
 use Rattle.command_line.proofs.line.read_sync.Goals as goal
 
@@ -17,12 +17,14 @@ not_set rows none (Sync path address) h = let wrong = sym none ∙ h.0 in cc
 not_set rows none (Answer path flag reading) h = h
 not_set rows none (Serve path count) h = h
 not_set rows none (Dump path) h = h
+not_set rows none (History path asked) h = h
 
 not_told : (rows : List Row) → first_of (codes "peer") rows ≡ None → NoLine (IsSync rows)
 not_told rows none (Sync path address) h = let wrong = sym none ∙ h.1 in cc
 not_told rows none (Answer path flag reading) h = h
 not_told rows none (Serve path count) h = h
 not_told rows none (Dump path) h = h
+not_told rows none (History path asked) h = h
 
 pub returns-in_default-clause-words : goal.returns-in_default-clause-words
 returns-in_default-clause-words c =
