@@ -9,13 +9,13 @@ use stamp::ReplicaNo;
 use std::alloc::Global;
 use std::net::SocketAddr;
 use ua_server::{
-    Asked, ConstantClock, Counted, Door, Host, Line, LineFault, Listening, ProgramFault,
-    ServeFault, read_line, report, run,
+    Asked, ConstantClock, Counted, Door, HistoryWords, Host, Line, LineFault, Listening,
+    ProgramFault, ServeFault, read_line, report, run,
 };
 use uuid::Uuid;
 
 /// Command lines, and what they are.
-static LINES: [(&[&str], Result<Line<'static>, LineFault>); 36] = [
+static LINES: [(&[&str], Result<Line<'static>, LineFault>); 40] = [
     (
         &[
             "uahist",
@@ -48,6 +48,51 @@ static LINES: [(&[&str], Result<Line<'static>, LineFault>); 36] = [
     (&["uahist", "dump"], Err(LineFault::Words)),
     (
         &["uahist", "dump", "--settings", "a", "--hex"],
+        Err(LineFault::Words),
+    ),
+    (
+        &["uahist", "history", "--settings=a", "--node", "ns=1;s=T"],
+        Ok(Line::History {
+            settings: "a",
+            asked: HistoryWords {
+                node: "ns=1;s=T",
+                from: None,
+                to: None,
+                changes: false,
+                csv: false,
+            },
+        }),
+    ),
+    (
+        &[
+            "uahist",
+            "history",
+            "--node=i=1",
+            "--csv",
+            "--to",
+            "then",
+            "--changes",
+            "--from=now",
+            "--settings",
+            "a",
+        ],
+        Ok(Line::History {
+            settings: "a",
+            asked: HistoryWords {
+                node: "i=1",
+                from: Some("now"),
+                to: Some("then"),
+                changes: true,
+                csv: true,
+            },
+        }),
+    ),
+    (
+        &["uahist", "history", "--settings", "a"],
+        Err(LineFault::Words),
+    ),
+    (
+        &["uahist", "history", "--node", "i=1"],
         Err(LineFault::Words),
     ),
     (
@@ -203,7 +248,7 @@ fn reads_lines(rt: HostRuntime) {
 }
 
 /// Command lines, the input, the room of the output, what it has then, what is said, and the exit status.
-static RUNS: [(&[&str], &[u8], usize, &str, &str, u8); 52] = [
+static RUNS: [(&[&str], &[u8], usize, &str, &str, u8); 59] = [
     (&["uahist", "--version"], b"", 1000, "uahist 0.1.0\n", "", 0),
     (
         &["uahist", "--version"],
@@ -337,6 +382,93 @@ static RUNS: [(&[&str], &[u8], usize, &str, &str, u8); 52] = [
         0,
     ),
     (
+        &["uahist", "history", "--settings", "good", "--node", "i=1"],
+        b"",
+        1000,
+        "time                          value                     status\n",
+        "",
+        0,
+    ),
+    (
+        &[
+            "uahist",
+            "history",
+            "--settings",
+            "kept",
+            "--node",
+            "ns=1;s=T",
+            "--from",
+            "2026-03-01T00:00:00Z",
+            "--to",
+            "@5",
+            "--csv",
+        ],
+        b"",
+        1000,
+        "node,time,value,status\n",
+        "",
+        0,
+    ),
+    (
+        &[
+            "uahist",
+            "history",
+            "--settings",
+            "good",
+            "--node",
+            "i=1",
+            "--changes",
+            "--csv",
+        ],
+        b"",
+        20,
+        "node,time,value,stat",
+        "uahist: connection ended (2)\n",
+        1,
+    ),
+    (
+        &["uahist", "history", "--settings", "good", "--node", "T"],
+        b"",
+        1000,
+        "",
+        "uahist: --node: want a node id, as ns=1;s=Temperature\n",
+        2,
+    ),
+    (
+        &[
+            "uahist",
+            "history",
+            "--settings",
+            "good",
+            "--node=i=1",
+            "--to",
+            "noon",
+            "--from",
+            "noon",
+        ],
+        b"",
+        1000,
+        "",
+        "uahist: --from: want a time, as 2026-03-01T12:00:00Z\n",
+        2,
+    ),
+    (
+        &["uahist", "dump", "--settings", "unmade"],
+        b"",
+        1000,
+        "",
+        "",
+        0,
+    ),
+    (
+        &["uahist", "answer", "--settings", "unmade"],
+        b"",
+        1000,
+        "",
+        "uahist: store refused (2)\n",
+        3,
+    ),
+    (
         &["uahist", "dump", "--settings", "good"],
         b"",
         1000,
@@ -414,7 +546,7 @@ static RUNS: [(&[&str], &[u8], usize, &str, &str, u8); 52] = [
         b"",
         1000,
         "",
-        "uahist: usage: uahist answer [--settings FILE] [--hex] [--now N] | serve --settings FILE [--connections N] | dump --settings FILE | sync --settings FILE --peer ADDRESS\n",
+        "uahist: usage: uahist answer [--settings FILE] [--hex] [--now N] | serve --settings FILE [--connections N] | dump --settings FILE | sync --settings FILE --peer ADDRESS | history --settings FILE --node ID [--from T] [--to T] [--changes] [--csv]\n",
         2,
     ),
     (
@@ -658,10 +790,14 @@ static RUNS: [(&[&str], &[u8], usize, &str, &str, u8); 52] = [
 ];
 
 /// Settings files that are kept in memory: their names, and their texts.
-static FILES: [(&str, &str); 24] = [
+static FILES: [(&str, &str); 25] = [
     (
         "kept",
         "[archive]\nid = '00000000000000000000000000000000'\nreplica = 1\nstore = 'own.db'\n[server]\nlisten = ''\nurl = ''\napplication = ''\nnamespace = ''\nanonymous = true\n",
+    ),
+    (
+        "unmade",
+        "[archive]\nid = '00000000000000000000000000000000'\nreplica = 1\nstore = 'none.db'\n[server]\nlisten = ''\nurl = ''\napplication = ''\nnamespace = ''\nanonymous = true\n",
     ),
     (
         "others",
@@ -817,6 +953,10 @@ impl Host for Machine {
         String::from_str(self.0, text).ok()
     }
 
+    fn has_store(&self, path: &str) -> bool {
+        path != "none.db"
+    }
+
     fn open_file(
         &mut self,
         path: &str,
@@ -825,6 +965,9 @@ impl Host for Machine {
     ) -> Result<ListArchive, StoreFault> {
         if path == "other.db" {
             return Err(StoreFault::WrongArchive);
+        }
+        if path == "none.db" {
+            return Err(StoreFault::Refused);
         }
         Ok(ListArchive::new(self.0, id, number))
     }

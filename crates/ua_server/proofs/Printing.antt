@@ -1,18 +1,29 @@
 -- What a command does, for the clauses of run, do_line and do_command (program.rt).
-use Rattle.std.proofs.Common.{◌≡◌, ℕ, List, [], Some, None, Ok, Err, subst, ap, ◌∙◌, inl, inr}
+use Rattle.std.proofs.Common.{◌≡◌, ℕ, ℤ, List, [], Some, None, Ok, Err, subst, ap, sym, ◌∙◌, inl, inr}
 use Rattle.std.specs.Result.{result_map_both}
-use Rattle.std.specs.Prelude.{Option, Result}
+use Rattle.std.specs.Prelude.{Bool, Option, Result, option_copied, ok_or}
 use Rattle.ua_server.specs.declared.hexed.HexFault.{HexFault}
 use Rattle.ua_server.specs.declared.hexed.HexFault.TheVariants as hexed
 use Rattle.ua_server.specs.declared.program.ProgramFault.{ProgramFault}
-use Rattle.ua_server.specs.declared.program.ProgramFault.TheVariants.{Line, File, Settings, BadHex, Address, DoorAddress, DoorNetwork, PeerAddress, Connection}
+use Rattle.ua_server.specs.declared.program.ProgramFault.TheVariants.{Line, File, Settings, BadHex, Address, DoorAddress, DoorNetwork, PeerAddress, Connection, BadOption, NoText}
 use Rattle.ua_server.specs.declared.program.ProgramFault.TheVariants as program
 use Rattle.ua_peers.specs.declared.calling.Synced.{Synced}
 use Rattle.ua_peers.specs.declared.calling.SyncFault.{SyncFault}
 use Rattle.ua_peers.specs.declared.calling.SyncFault.TheVariants as sync
 use Rattle.ua_server.specs.declared.dumps.DumpFault.{DumpFault}
 use Rattle.ua_server.specs.declared.dumps.DumpFault.TheVariants as dump
-use Rattle.command_line.specs.declared.line.Line.TheVariants.{Answer, Serve, Dump, Sync}
+use Rattle.ua_binary.specs.Format.{◌>>=◌}
+use Rattle.ua_binary.specs.declared.values.NodeId.{NodeId}
+use Rattle.history_csv.specs.Nodes.{node_in}
+use Rattle.history_csv.specs.Rows.{moment_in}
+use Rattle.history_report.specs.declared.report.Report.{Report}
+use Rattle.history_report.specs.declared.fault.ReportFault.{ReportFault}
+use Rattle.history_report.specs.declared.fault.ReportFault.TheVariants as report
+use Rattle.ua_server.specs.declared.histories.OptionFault.{OptionFault}
+use Rattle.ua_server.specs.declared.histories.OptionFault.TheVariants.{Node, From, To}
+use Rattle.ua_server.specs.Histories.{moment_asked, report_asked, PrintsHistory}
+use Rattle.command_line.specs.declared.line.Line.TheVariants.{Answer, Serve, Dump, Sync, History}
+use Rattle.command_line.specs.declared.line.HistoryWords.{HistoryWords}
 use Rattle.command_line.specs.declared.line.Line.{Line as CommandLine}
 use Rattle.command_line.specs.declared.line.LineFault.{LineFault}
 use Rattle.command_line.specs.declared.line.LineFault.TheVariants.{Words, OutOfMemory as NoMemory}
@@ -22,8 +33,8 @@ use Rattle.archive.specs.Store.{Store}
 use Rattle.ua_server.specs.Host.{Machine, KnownMachine}
 use Rattle.conversation.specs.declared.door.Door.TheVariants.{Both, Clients, Peers}
 use Rattle.ua_server.specs.Network.{Readings, Serving}
-use Rattle.ua_server.specs.Program.{SettingsAt, FindsNoPlace, OpensBy, CallsPeer, Calling, Scene, PrintsSynced, Shows, Findings, IsMistaken, DoesCommand, DoesLine, Runs, settings_path}
-use Rattle.ua_server.specs.Telling.{Known, dump_fault, fault_of}
+use Rattle.ua_server.specs.Program.{SettingsAt, FindsNoPlace, OpensBy, CallsPeer, Calling, Scene, PrintsSynced, Shows, Findings, IsMistaken, DoesCommand, DoesLine, Runs, makes_store, settings_path}
+use Rattle.ua_server.specs.Telling.{Known, dump_fault, fault_of, report_fault}
 use Rattle.ua_server.proofs.ProgramParts.{IsUnbegun}
 
 -- settings are refused as a line where memory for those without a file was wanting
@@ -60,13 +71,13 @@ unset machine (Some path) fault old new (Some text, between, read, inr (Err e, r
 
 -- and then nothing was opened
 unopened : {H A L R W : Type 0} (machine : Machine H A L R W) (held : A → Store)
-    (path : Option (List ℕ)) (fault : LineFault) (old new : H)
-    → OpensBy machine held path (Err (Line fault)) old new → IsUnbegun fault × (new ≡ old)
-unopened machine held path fault old new (Ok known, between, set, (Ok archive, opens, same)) =
-    absurd cc
-unopened machine held path fault old new (Ok known, between, set, (Err cause, opens, same)) =
-    absurd cc
-unopened machine held path fault old new (Err cause, between, set, (same, stays)) =
+    (makes : Bool) (path : Option (List ℕ)) (fault : LineFault) (old new : H)
+    → OpensBy machine held makes path (Err (Line fault)) old new → IsUnbegun fault × (new ≡ old)
+unopened machine held makes path fault old new
+    (Ok known, between, set, (Ok archive, opens, same)) = absurd cc
+unopened machine held makes path fault old new
+    (Ok known, between, set, (Err cause, opens, same)) = absurd cc
+unopened machine held makes path fault old new (Err cause, between, set, (same, stays)) =
     let is : cause ≡ Line fault = cc in
     let u =
     unset machine path fault old between
@@ -85,6 +96,52 @@ dumped-line (Ok done) line same = cc
 dumped-line (Err (dump.Store fault)) line same = cc
 dumped-line (Err dump.Write) line same = cc
 dumped-line (Err dump.OutOfMemory) line same = cc
+
+reported-line : (printed : Result (Unit {0}) ReportFault) (line : LineFault)
+    → Err (Line line) ≡ result_map_both (λ done. done) report_fault printed → ⊥
+reported-line (Ok done) line same = cc
+reported-line (Err (report.Store fault)) line same = cc
+reported-line (Err report.NoText) line same = cc
+reported-line (Err report.Write) line same = cc
+reported-line (Err report.OutOfMemory) line same = cc
+
+-- words that ask for no history aren't told as a refused line
+found-line : (fault : OptionFault) (found : Option ℤ) (line : LineFault)
+    → (ok_or found (BadOption fault) >>= λ time. Ok (Some time)) ≡ Err (Line line) → ⊥
+found-line fault None line same = cc
+found-line fault (Some time) line same = cc
+
+moment-line : (fault : OptionFault) (given : Option (List ℕ)) (line : LineFault)
+    → moment_asked fault given ≡ Err (Line line) → ⊥
+moment-line fault None line same = cc
+moment-line fault (Some text) line same = found-line fault (moment_in text) line same
+
+words-line : (node : Option NodeId) (from to : Result (Option ℤ) ProgramFault)
+    (words : HistoryWords) (line : LineFault) → (from ≡ Err (Line line) → ⊥)
+    → (to ≡ Err (Line line) → ⊥) → (ok_or node (BadOption Node) >>= λ n. from >>= λ f. to >>= λ t.
+    Ok (record { node = n; from = f; to = t; changes = words.changes; csv = words.csv }))
+    ≡ Err {Report} (Line line) → ⊥
+words-line None from to words line no other same = cc
+words-line (Some n) (Err e) to words line no other same = no cc
+words-line (Some n) (Ok f) (Err e) words line no other same = other cc
+words-line (Some n) (Ok f) (Ok t) words line no other same = cc
+
+asked-line : (words : HistoryWords) (line : LineFault) → report_asked words ≡ Err (Line line) → ⊥
+asked-line words line same =
+    let from = option_copied words.from in
+    let to = option_copied words.to in
+    words-line (node_in words.node.now) (moment_asked From from) (moment_asked To to) words line
+    (moment-line From from line) (moment-line To to line) same
+
+history-line : {A : Type 0} (held : A → Store) (words : HistoryWords) (first last : A)
+    (before after : Option (List ℕ)) (line : LineFault)
+    → PrintsHistory held words first last before after (Err (Line line)) → ⊥
+history-line held words first last before after line (Err fault, inl asked, (is, stays)) =
+    let same : fault ≡ Line line = cc in asked-line words line (sym asked ∙ ap Err same)
+history-line held words first last before after line (Err fault, inr starved, (is, stays)) =
+    absurd cc
+history-line held words first last before after line (Ok asked, answered, (printed, prints, is)) =
+    reported-line printed line is
 
 synced-line : (old written : Option (List ℕ)) (synced : Result Synced SyncFault) (line : LineFault)
     → PrintsSynced old written synced (Err (Line line)) → ⊥
@@ -128,6 +185,8 @@ never-line known gave told (Dump path) settings first last old new fault
 never-line known gave told (Sync path peer) settings first last old new fault (same, so) =
     called-line known peer.now (record { host = old.host; archive = first; written = old.written })
     (record { host = new.host; archive = last; written = new.written }) fault so
+never-line known gave told (History path words) settings first last old new fault (same, so) =
+    history-line known.held words first last old.written new.written fault so
 
 -- a line that ends as a refused one: its settings were refused so, and nothing was done
 by-line : {C E : Type 0} (known : KnownMachine) (gave : Readings C) (told : Known E)
@@ -140,10 +199,11 @@ by-line known gave told line old new fault
 by-line {C} {E} known gave told line old new fault (Err cause, opened, opens, (same, stays)) =
     let is : cause ≡ Line fault = cc in
     let P : ProgramFault → Type 0 = λ f.
-    OpensBy known.machine known.held (settings_path line) (Err f) old.host opened in
+    OpensBy known.machine known.held (makes_store line) (settings_path line) (Err f) old.host
+    opened in
     let u =
-    unopened known.machine known.held (settings_path line) fault old.host opened (subst P is opens)
-    in
+    unopened known.machine known.held (makes_store line) (settings_path line) fault old.host opened
+    (subst P is opens) in
     let at : known.Host → Scene known.Host C E = λ host. record old { host = host } in
     (u.0, stays ∙ ap at u.1)
 
@@ -186,6 +246,10 @@ line-done found known gave told line old new (Err (program.Exchange fault)) free
     inl (free, (line, is, so))
 line-done found known gave told line old new (Err (program.Peer number)) free is so =
     inl (free, (line, is, so))
+line-done found known gave told line old new (Err (BadOption fault)) free is so =
+    inl (free, (line, is, so))
+line-done found known gave told line old new (Err NoText) free is so =
+    inl (free, (line, is, so))
 
 -- a text that was asked for was printed, and nothing else was done
 pub text-shown : {C E : Type 0} (found : Findings) (known : KnownMachine) (gave : Readings C)
@@ -213,5 +277,8 @@ text-shown found known gave told old new (Err (program.Exchange fault)) may so =
     absurd cc
 text-shown found known gave told old new (Err (program.Peer number)) may so = let is = so.1.0 in
     absurd cc
+text-shown found known gave told old new (Err (BadOption fault)) may so = let is = so.1.0 in
+    absurd cc
+text-shown found known gave told old new (Err NoText) may so = let is = so.1.0 in absurd cc
 
 pub ruleset lines = (line-done, text-shown)

@@ -45,6 +45,8 @@ module _ {C E : Type 0} (known : KnownMachine) (gave : Readings C) (told : Known
   no-address (program.Call fault) none same stays = absurd none
   no-address (program.Exchange fault) none same stays = absurd none
   no-address (program.Peer number) none same stays = absurd none
+  no-address (program.BadOption fault) none same stays = absurd none
+  no-address program.NoText none same stays = absurd none
 
   -- one can't be listened at
   no-place : (listening : Listening) (door : Door) → IsListening settings listening
@@ -85,6 +87,8 @@ none-serving settings (program.Connection fault) none = absurd none
 none-serving settings (program.Call fault) none = absurd none
 none-serving settings (program.Exchange fault) none = absurd none
 none-serving settings (program.Peer number) none = absurd none
+none-serving settings (program.BadOption fault) none = absurd none
+none-serving settings program.NoText none = absurd none
 
 door-serving : (door : Door) → IsServingFault (door_fault door)
 door-serving Both = tt

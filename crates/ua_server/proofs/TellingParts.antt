@@ -13,7 +13,7 @@ use Rattle.counted_io.specs.declared.fault.ServeFault.{ServeFault}
 use Rattle.ua_peers.specs.declared.calling.SyncFault.{SyncFault}
 use Rattle.ua_server.specs.declared.log.ErrorLog.{ErrorLog}
 use Rattle.ua_server.specs.declared.program.ProgramFault.{ProgramFault}
-use Rattle.ua_server.specs.declared.program.ProgramFault.TheVariants.{Line, File, Settings, Store, BadHex, Address, DoorAddress, DoorNetwork, PeerAddress, Connection, Call, Exchange, Peer}
+use Rattle.ua_server.specs.declared.program.ProgramFault.TheVariants.{Line, File, Settings, Store, BadHex, Address, DoorAddress, DoorNetwork, PeerAddress, Connection, Call, Exchange, Peer, BadOption, NoText}
 use Rattle.ua_server.specs.Telling.{Known, words_of, number_told, numbered, fault_text, failed_text, outcome_text, call_lines, told_line, place_line, KeepsLast, LogsCall, LogsLine}
 
 -- the text of a fault without a number, and of one with it
@@ -43,6 +43,8 @@ short-words (Connection fault) number e = omega arith
 short-words (Call fault) number e = omega arith
 short-words (Exchange fault) number e = omega arith
 short-words (Peer told) number e = omega arith
+short-words (BadOption fault) number e = absurd cc
+short-words NoText number e = absurd cc
 
 -- what has room isn't cut
 cut-fits : (room : ℕ) (text : List ℕ) → length text ≤ room → cut_to room text ≡ text
@@ -132,6 +134,8 @@ second-line (Connection fault) = refl
 second-line (Call fault) = refl
 second-line (Exchange fault) = refl
 second-line (Peer number) = refl
+second-line (BadOption fault) = refl
+second-line NoText = refl
 
 -- a line that was written, or a first part of it
 pub line-logged : {W : Type 0} (contents : W → Option (List ℕ)) (old new : Tally W)

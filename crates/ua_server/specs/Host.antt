@@ -1,5 +1,5 @@
 -- The machine around a run of the program.
-use Rattle.std.specs.Prelude.{ℕ, List, Option, Result}
+use Rattle.std.specs.Prelude.{ℕ, Bool, List, Option, Result}
 use Rattle.std.specs.declared.net.socket_addr.SocketAddr.{SocketAddr}
 use Rattle.counted_io.specs.Tally.{Tally}
 use Rattle.archive.specs.declared.fault.StoreFault.{StoreFault}
@@ -14,6 +14,8 @@ use Rattle.multiplex.specs.Output.{Output}
 pub record Machine (H A L R W : Type 0) : Type 1 where
   -- the text of the file at a path; None where it can't be read
   pub reads : H → List ℕ → Option (List ℕ) → H → Type 0
+  -- a store stands at a path, or none does
+  pub stands : H → List ℕ → Bool → Type 0
   -- the file at a path was opened as the store of this replica of this archive
   pub opens : H → List ℕ → List ℕ → ℕ → Result A StoreFault → H → Type 0
   -- an archive was closed
@@ -30,6 +32,7 @@ pub record Machine (H A L R W : Type 0) : Type 1 where
 abbrev pub unknown_machine : {H A L R W : Type 0} → Machine H A L R W
 unknown_machine = record {
   reads = λ old path text new. Unit {0};
+  stands = λ now path is_there. Unit {0};
   opens = λ old path id replica opening new. Unit {0};
   closes = λ old archive new. Unit {0};
   listens = λ old listening listener new. Unit {0};

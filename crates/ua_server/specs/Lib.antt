@@ -1,6 +1,7 @@
 pub mod Telling
 pub mod Either
 pub mod Hexed
+pub mod Histories
 pub mod Single
 pub mod Listening
 pub mod Host

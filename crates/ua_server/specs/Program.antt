@@ -1,5 +1,5 @@
 -- What a run of the program does.
-use Rattle.std.specs.Prelude.{◌≡◌, ℕ, ℤ, List, [], Option, None, Some, IfSome, option_copied, Result, Ok, Err, IfOk, Bool, true, ◌⊎◌}
+use Rattle.std.specs.Prelude.{◌≡◌, ℕ, ℤ, List, [], Option, None, Some, IfSome, option_copied, Result, Ok, Err, IfOk, Bool, true, false, ◌⊎◌}
 use Rattle.std.specs.Result.{result_map_both}
 use Rattle.std.specs.Io.KnownBytes.{Appends}
 use Rattle.std.specs.declared.net.socket_addr.SocketAddr.{SocketAddr}
@@ -44,7 +44,9 @@ use Rattle.clap.specs.Takes.{takes}
 use Rattle.clap.specs.Faults.{fault_of as fault_kinds}
 use Rattle.clap.specs.declared.error.ErrorKind.{ErrorKind}
 use Rattle.command_line.specs.declared.line.Line.{Line as CommandLine}
-use Rattle.command_line.specs.declared.line.Line.TheVariants.{Answer, Serve, Dump, Sync}
+use Rattle.command_line.specs.declared.line.Line.TheVariants.{Answer, Serve, Dump, Sync, History}
+use Rattle.command_line.specs.declared.line.HistoryWords.{HistoryWords}
+use Rattle.ua_server.specs.Histories.{PrintsHistory}
 use Rattle.command_line.specs.declared.line.LineFault.TheVariants.{Words, OutOfMemory as NoMemory}
 use Rattle.command_line.specs.Line.{AsksForText, IsLine, MayAskForText, uahist}
 
@@ -104,24 +106,34 @@ SettingsAt {H} machine (Some path) result old new =
       | Some known ↦ SetsBy machine path known result between new
     ]
 
--- the archive of the settings, or why it can't be opened: that of their file, or one in memory that
--- holds nothing, and then no file is opened
-abbrev pub OpensArchive : {H A L R W : Type 0} → Machine H A L R W → (A → Store) → SettingsValues
-    → Option (List ℕ) → Result A StoreFault → (old new : H) → Type 0
-OpensArchive machine held settings None opening old new =
+-- an archive in memory that holds nothing, or why there is none; no file is opened
+abbrev pub OpensNothing : {H A : Type 0} → (A → Store) → SettingsValues → Result A StoreFault
+    → (old new : H) → Type 0
+OpensNothing held settings opening old new =
     IfOk opening (λ first. HoldsNothing settings.archive settings.replica (held first))
     × (new ≡ old)
-OpensArchive machine held settings (Some path) opening old new =
-    machine.opens old path settings.archive settings.replica opening new
+
+-- the archive of the settings, or why it can't be opened: that of their file; or one in memory that
+-- holds nothing, where they name none, or a command that makes no store finds none there
+abbrev pub OpensArchive : {H A L R W : Type 0} → Machine H A L R W → (A → Store)
+    → (makes : Bool) → SettingsValues → Option (List ℕ) → Result A StoreFault → (old new : H)
+    → Type 0
+OpensArchive machine held makes settings None opening old new =
+    OpensNothing held settings opening old new
+OpensArchive machine held makes settings (Some path) opening old new =
+    ((makes ≡ false → machine.stands old path true)
+    × machine.opens old path settings.archive settings.replica opening new)
+    ⊎ ((makes ≡ false) × machine.stands old path false
+    × OpensNothing held settings opening old new)
 
 -- the settings that a path gives, and their archive; or why they or it are refused
-abbrev pub OpensBy : {H A L R W : Type 0} → Machine H A L R W → (A → Store) → Option (List ℕ)
-    → Result (SettingsValues × A) ProgramFault → (old new : H) → Type 0
-OpensBy {H} {A} machine held path result old new =
+abbrev pub OpensBy : {H A L R W : Type 0} → Machine H A L R W → (A → Store) → (makes : Bool)
+    → Option (List ℕ) → Result (SettingsValues × A) ProgramFault → (old new : H) → Type 0
+OpensBy {H} {A} machine held makes path result old new =
     (settings : Result SettingsValues ProgramFault) × (between : H)
     × SettingsAt machine path settings old between × elim settings [
       | Ok known ↦ (opening : Result A StoreFault)
-          × OpensArchive machine held known known.store opening between new
+          × OpensArchive machine held makes known known.store opening between new
           × (result ≡ result_map_both (λ archive. (known, archive)) program.Store opening)
       | Err fault ↦ (result ≡ Err fault) × (new ≡ between)
     ]
@@ -277,6 +289,14 @@ DoesSyncing known peer first last old new result =
     × CallsPeer known peer (record { host = old.host; archive = first; written = old.written })
     (record { host = new.host; archive = last; written = new.written }) result
 
+-- `history`: the history that its words ask for is printed, or why it isn't is told
+abbrev pub DoesHistory : {C E : Type 0} → (known : KnownMachine) → HistoryWords
+    → (first last : known.Archive) → (old new : Scene known.Host C E)
+    → Result (Unit {0}) ProgramFault → Type 0
+DoesHistory known words first last old new result =
+    (new ≡ record old { written = new.written })
+    × PrintsHistory known.held words first last old.written new.written result
+
 -- the path of a command's settings
 abbrev pub settings_path : CommandLine → Option (List ℕ)
 settings_path line =
@@ -285,7 +305,12 @@ settings_path line =
       | Serve path count ↦ Some path.now
       | Dump path ↦ Some path.now
       | Sync path peer ↦ Some path.now
+      | History path words ↦ Some path.now
     ]
+
+-- a command makes its store where there is none; those that only print make none
+abbrev pub makes_store : CommandLine → Bool
+makes_store line = elim line [ Dump path ↦ false | History path words ↦ false | _ ↦ true ]
 
 -- a command is done over the archive of its settings
 abbrev pub DoesCommand : {C E : Type 0} → (known : KnownMachine) → Readings C → Known E
@@ -298,6 +323,7 @@ DoesCommand known gave told line settings first last old new result =
       | Serve path count ↦ DoesServing known gave told settings count first last old new result
       | Dump path ↦ DoesDumping (known.held first) (known.held last) old new result
       | Sync path peer ↦ DoesSyncing known peer.now first last old new result
+      | History path words ↦ DoesHistory known words first last old new result
     ]
 
 -- a command is done over an archive, which is closed then
@@ -315,7 +341,9 @@ abbrev pub DoesLine : {C E : Type 0} → (known : KnownMachine) → Readings C �
     → (old new : Scene known.Host C E) → Result (Unit {0}) ProgramFault → Type 0
 DoesLine known gave told line old new result =
     (opening : Result (SettingsValues × known.Archive) ProgramFault) × (opened : known.Host)
-    × OpensBy known.machine known.held (settings_path line) opening old.host opened × elim opening [
+    × OpensBy known.machine known.held (makes_store line) (settings_path line) opening old.host
+        opened
+    × elim opening [
       | Ok (settings, first) ↦ DoesAndCloses known gave told line settings first
           (record old { host = opened }) new result
       | Err fault ↦ (result ≡ Err fault) × (new ≡ record old { host = opened })

@@ -7,7 +7,7 @@ use Rattle.std.specs.Result.{result_err}
 use Rattle.std.specs.Io.KnownBytes.{Appends}
 use Rattle.counted_io.specs.Fault.{serve_fault_number as connection_number}
 use Rattle.ua_server.specs.declared.program.ProgramFault.{ProgramFault}
-use Rattle.ua_server.specs.declared.program.ProgramFault.TheVariants.{Line, File, Settings, Store, BadHex, Address, DoorAddress, DoorNetwork, PeerAddress, Connection, Call, Exchange, Peer}
+use Rattle.ua_server.specs.declared.program.ProgramFault.TheVariants.{Line, File, Settings, Store, BadHex, Address, DoorAddress, DoorNetwork, PeerAddress, Connection, Call, Exchange, Peer, BadOption, NoText}
 use Rattle.ua_peers.specs.declared.calling.Synced.{Synced}
 use Rattle.command_line.specs.Line.{line_text_of}
 use Rattle.counted_io.specs.Bytes.{AppendsPart, counted}
@@ -23,18 +23,32 @@ use Rattle.counted_io.specs.declared.fault.ServeFault.TheVariants.{Write, OutOfM
 use Rattle.ua_server.specs.declared.log.ErrorLog.{ErrorLog}
 use Rattle.ua_server.specs.declared.hexed.HexFault.TheVariants as hexed
 use Rattle.ua_server.specs.declared.dumps.DumpFault.TheVariants as dump
+use Rattle.ua_server.specs.declared.histories.OptionFault.{OptionFault}
+use Rattle.ua_server.specs.declared.histories.OptionFault.TheVariants as asked
+use Rattle.history_report.specs.declared.fault.ReportFault.{ReportFault}
+use Rattle.history_report.specs.declared.fault.ReportFault.TheVariants as report
 use Rattle.ua_peers.specs.declared.calling.SyncFault.TheVariants as sync
 use Rattle.ua_server.specs.declared.program.ProgramFault.TheVariants as program
 
 -- the exit status that tells a fault: 2 where what was given is wrong, 3 of the store, 1 else
 abbrev pub fault_status : ProgramFault → ℕ
-fault_status fault =
-    elim fault
-    [ Line fault ↦ 2 | File ↦ 2 | Settings fault place ↦ 2 | Store fault ↦ 3 | BadHex ↦ 2 | _ ↦ 1 ]
+fault_status (Line fault) = 2
+fault_status File = 2
+fault_status (Settings fault place) = 2
+fault_status (Store fault) = 3
+fault_status BadHex = 2
+fault_status (BadOption fault) = 2
+fault_status fault = 1
 
 -- the exit status of a run
 abbrev pub exit_status : Result (Unit {0}) ProgramFault → ℕ
 exit_status result = elim result [ Ok done ↦ 0 | Err fault ↦ fault_status fault ]
+
+-- what is said of an option of `history` whose text says nothing of its kind
+abbrev pub option_text : OptionFault → List ℕ
+option_text asked.Node = codes "--node: want a node id, as ns=1;s=Temperature"
+option_text asked.From = codes "--from: want a time, as 2026-03-01T12:00:00Z"
+option_text asked.To = codes "--to: want a time, as 2026-03-01T12:00:00Z"
 
 -- what is said of a fault
 abbrev pub words_of : ProgramFault → List ℕ
@@ -51,6 +65,8 @@ words_of (Connection fault) = codes "connection ended"
 words_of (Call fault) = codes "connection ended"
 words_of (Exchange fault) = codes "exchange ended"
 words_of (Peer number) = codes "exchange ended"
+words_of (BadOption fault) = option_text fault
+words_of NoText = codes "history ended: a value of a type that has no text"
 
 -- its number, if it has one; a peer may give any, a peer's address has that of its table, and a
 -- network that of its place in the list
@@ -195,4 +211,14 @@ dump_fault fault =
       | dump.Store fault ↦ program.Store fault
       | dump.Write ↦ Connection Write
       | dump.OutOfMemory ↦ Connection OutOfMemory
+    ]
+
+-- what a report's is called
+abbrev pub report_fault : ReportFault → ProgramFault
+report_fault fault =
+    elim fault [
+      | report.Store fault ↦ program.Store fault
+      | report.NoText ↦ NoText
+      | report.Write ↦ Connection Write
+      | report.OutOfMemory ↦ Connection OutOfMemory
     ]

@@ -35,6 +35,10 @@ pub trait Host {
     fn read(&mut self, path: &str) -> Option<String>
         ensures { means.reads self.old path.now (option_map string_bytes result) self.new };
 
+    /// Whether a store stands at a path, or its log alone.
+    fn has_store(&self, path: &str) -> bool
+        ensures { means.stands self.now path.now result };
+
     /// The archive of this id and replica that the file at a path holds.
     fn open_file(
         &mut self,

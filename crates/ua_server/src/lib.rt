@@ -6,6 +6,7 @@ mod dumps;
 mod either;
 mod files;
 mod hexed;
+mod histories;
 mod host;
 mod laws;
 mod listening;
@@ -13,7 +14,7 @@ mod log;
 mod program;
 mod single;
 
-pub use command_line::{Asked, Line, LineFault, read_line};
+pub use command_line::{Asked, HistoryWords, Line, LineFault, read_line};
 pub use conversation::{
     Conversation, Door, Ended, Log, World, a_client_alone_is_answered, a_clients_door_takes_no_peer,
 };
@@ -22,6 +23,7 @@ pub use dumps::{DumpFault, dump};
 pub use either::{Served, serve};
 pub use hexed::{HexFault, answer_hex};
 pub use historian::Server;
+pub use histories::OptionFault;
 pub use host::Host;
 pub use laws::connections_are_updates;
 pub use listening::{Callee, Listening};

@@ -9,13 +9,14 @@ ghost use Rattle.ua_connection.specs.Environments.{Environment};
 ghost use Rattle.ua_server.specs.Single.{AnswersAt};
 ghost use Rattle.ua_server.specs.Telling.{fresh_log, exit_status, LogsLine, fault_text, numbered, told_line, error_lines, synced_line, fault_of, dump_fault, sync_fault, place_line};
 ghost use Rattle.ua_server.specs.Host.{known_machine};
-ghost use Rattle.ua_server.specs.Program.{OpensArchive, OpensBy, PrintsSynced, PrintsText, CallsPeer, DoesCommand, DoesAndCloses, DoesLine, Runs, findings_in, scene_of, settings_path};
+ghost use Rattle.ua_server.specs.Program.{OpensArchive, OpensBy, PrintsSynced, PrintsText, CallsPeer, DoesCommand, DoesAndCloses, DoesLine, Runs, findings_in, makes_store, scene_of, settings_path};
 ghost use Rattle.ua_server.specs.Dumping.{Dumps};
 
 use crate::connections::serve_at;
 use crate::dumps::{DumpFault, dump};
 use crate::files::settings_at;
 use crate::hexed::HexFault;
+use crate::histories::{OptionFault, history_over};
 use crate::host::Host;
 use crate::log::ErrorLog;
 use crate::single::answer_at;
@@ -67,6 +68,10 @@ pub enum ProgramFault {
     Exchange(ExchangeFault),
     /// The peer ended the exchange by this number.
     Peer(u32),
+    /// What a history is asked by is none.
+    BadOption(OptionFault),
+    /// A history has a value that has no text.
+    NoText,
 }
 
 impl ProgramFault {
@@ -89,6 +94,8 @@ impl ProgramFault {
             ProgramFault::PeerAddress(_) => "peer's address refused",
             ProgramFault::Connection(_) | ProgramFault::Call(_) => "connection ended",
             ProgramFault::Exchange(_) | ProgramFault::Peer(_) => "exchange ended",
+            ProgramFault::BadOption(fault) => fault.text(),
+            ProgramFault::NoText => "history ended: a value of a type that has no text",
         }
     }
 
@@ -109,7 +116,9 @@ impl ProgramFault {
             | ProgramFault::File
             | ProgramFault::BadHex
             | ProgramFault::Address
-            | ProgramFault::DoorAddress => None,
+            | ProgramFault::DoorAddress
+            | ProgramFault::BadOption(_)
+            | ProgramFault::NoText => None,
         }
     }
 
@@ -132,7 +141,9 @@ impl ProgramFault {
             | ProgramFault::Connection(_)
             | ProgramFault::Call(_)
             | ProgramFault::Exchange(_)
-            | ProgramFault::Peer(_) => None,
+            | ProgramFault::Peer(_)
+            | ProgramFault::BadOption(_)
+            | ProgramFault::NoText => None,
         }
     }
 }
@@ -164,30 +175,41 @@ fn fault_of(fault: HexFault) -> ProgramFault
     }
 }
 
-/// Opens the archive of the settings: that of their file, or one in memory that holds nothing.
-fn open_archive<H: Host>(settings: &Settings, host: &mut H) -> Result<H::Archive, StoreFault>
-    ensures { OpensArchive H.means H.Archive.state settings.now settings.now.store result
+/// Opens the archive of the settings: that of their file, or one in memory that holds nothing where they name none, or where
+/// none stands there and none is to be made.
+fn open_archive<H: Host>(
+    settings: &Settings,
+    makes: bool,
+    host: &mut H,
+) -> Result<H::Archive, StoreFault>
+    ensures { OpensArchive H.means H.Archive.state makes settings.now settings.now.store result
         host.old host.new }
 {
-    match settings.store() {
-        None => host.open_in_memory(settings.archive(), settings.replica()),
-        Some(path) => host.open_file(path, settings.archive(), settings.replica()),
+    let Some(path) = settings.store() else {
+        return host.open_in_memory(settings.archive(), settings.replica());
+    };
+    if makes || host.has_store(path) {
+        host.open_file(path, settings.archive(), settings.replica())
+    } else {
+        host.open_in_memory(settings.archive(), settings.replica())
     }
 }
 
-/// The server of the settings of the file at a path, where there is one, over the archive that they name.
+/// The server of the settings of the file at a path, where there is one, over the archive that they name, whose store is made
+/// where that is asked for.
 fn open_server<H: Host>(
     alloc: Global,
     path: Option<&str>,
+    makes: bool,
     host: &mut H,
 ) -> Result<Server<H::Archive>, ProgramFault>
-    ensures opens { OpensBy H.means H.Archive.state (option_copied path.entry)
+    ensures opens { OpensBy H.means H.Archive.state makes (option_copied path.entry)
         (result_map_both (λ server. (server.settings, server.replica.archive)) (λ fault. fault)
         result) host.old host.new }
     ensures connection { (fault : ServeFault) → IsErrOf result (ProgramFault.Connection fault) → ⊥ }
 {
     let settings = settings_at(alloc, path, host)?;
-    let archive = open_archive(&settings, host).map_err(ProgramFault::Store)?;
+    let archive = open_archive(&settings, makes, host).map_err(ProgramFault::Store)?;
     Ok(Server::new(alloc, settings, archive))
 }
 
@@ -344,7 +366,15 @@ fn settings_path<'a>(line: &Line<'a>) -> Option<&'a str>
         Line::Serve { settings, .. } => Some(settings),
         Line::Dump { settings } => Some(settings),
         Line::Sync { settings, .. } => Some(settings),
+        Line::History { settings, .. } => Some(settings),
     }
+}
+
+/// Whether a command makes its store where there is none: those that only print make none.
+fn makes_store(line: &Line<'_>) -> bool
+    ensures { result ≡ makes_store line.now }
+{
+    !matches!(line, Line::Dump { .. } | Line::History { .. })
 }
 
 /// What a run comes to: its ending, and the clock and the standard error that it was given.
@@ -388,6 +418,7 @@ fn do_command<H: Host, C: Clock, R: Read, W: Write, E: Write>(
         Line::Serve { connections, .. } => serve_at(world, connections, host),
         Line::Dump { .. } => dump_over(&mut world.server, output),
         Line::Sync { peer, .. } => sync_over(&mut world.server, peer, host, output),
+        Line::History { asked, .. } => history_over(&mut world.server, asked, output),
     }
 }
 
@@ -450,7 +481,7 @@ fn do_line<H: Host, C: Clock, R: Read, W: Write, E: Write>(
         (scene_of (R.remaining input.new.inner) (W.contents output.new.inner) host.new result.clock
         result.errors) result.ending }
 {
-    match open_server(alloc, settings_path(&line), host) {
+    match open_server(alloc, settings_path(&line), makes_store(&line), host) {
         Ok(server) => {
             let log = ErrorLog::new(errors);
             let world = World {
@@ -492,7 +523,8 @@ fn print_text<W: Write>(text: &[u8], output: &mut Counted<W>) -> Result<(), Prog
 /// isn't, `Connection` where the connection of standard input met a fault, or a dump's writer did, or that of the line of a
 /// call of a peer, and of such a call
 /// `Call` where its connection met a fault, `Exchange` where the exchange met one here, and `Peer` where the peer ended it
-/// by a number; what went out before it stands, and what was learned.
+/// by a number; `BadOption` where an option of `history` says nothing of its kind, and `NoText` where a value of it has no text. What
+/// went out before it stands, and what was learned.
 #[tactic(auto, using(crate::proofs::Printing::lines))]
 pub fn run<S: AsStr, H: Host, C: Clock, R: Read, W: Write, E: Write>(
     alloc: Global,
@@ -547,8 +579,8 @@ pub(crate) fn tell<W: Write>(text: &[u8], errors: &mut Counted<W>) -> Result<(),
 }
 
 /// Tells on `errors` what went wrong, in a line that begins with `uahist: `, and where settings are refused in a second one;
-/// answers the exit status: 0 where nothing went wrong, 1 where a connection ended by a fault, 2 where the command line, the
-/// settings or the input was refused, 3 where the store was. Of a line that can't be written whole a first part stands, and the failed call is
+/// answers the exit status: 0 where nothing went wrong, 1 where a connection ended by a fault or a value has no text, 2 where
+/// the command line, the settings or the input was refused, 3 where the store was. Of a line that can't be written whole a first part stands, and the failed call is
 /// counted.
 pub fn report<W: Write>(ending: Result<(), ProgramFault>, errors: &mut Counted<W>) -> u8
     ensures status { result ≡ exit_status ending }
@@ -564,7 +596,8 @@ pub fn report<W: Write>(ending: Result<(), ProgramFault>, errors: &mut Counted<W
         ProgramFault::Line(_)
         | ProgramFault::File
         | ProgramFault::Settings(..)
-        | ProgramFault::BadHex => 2,
+        | ProgramFault::BadHex
+        | ProgramFault::BadOption(_) => 2,
         ProgramFault::Store(_) => 3,
         ProgramFault::Address
         | ProgramFault::DoorAddress
@@ -573,7 +606,8 @@ pub fn report<W: Write>(ending: Result<(), ProgramFault>, errors: &mut Counted<W
         | ProgramFault::Connection(_)
         | ProgramFault::Call(_)
         | ProgramFault::Exchange(_)
-        | ProgramFault::Peer(_) => 1,
+        | ProgramFault::Peer(_)
+        | ProgramFault::NoText => 1,
     }
 }
 

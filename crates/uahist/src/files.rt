@@ -30,6 +30,12 @@ fn has_log(rt: &HostRuntime, path: &str) -> io::Result<bool> {
     Ok(length(rt, log.as_str())? >= LEAST_LOG)
 }
 
+/// Whether a store stands at a path: a file that isn't empty, or a log that has a record. What can't be looked at is said to
+/// stand, and left to the opening.
+pub fn stands(rt: &HostRuntime, path: &str) -> bool {
+    !matches!(length(rt, path), Ok(0)) || !matches!(has_log(rt, path), Ok(false))
+}
+
 /// Makes the file of a store for its owner alone, where none stands. A store that is gone, or empty, beside a log that has
 /// records is refused, and both stay: an opening would begin anew, and the log may be all that is left. What else can't be read
 /// is left to the opening.

@@ -75,3 +75,21 @@ returns-in-Sync-clause-does g c =
     c.args.world.now.log.errors)
     c.sync_over.result in
     subst P (sym c.in-Sync.is) (refl, c.sync_over.ensures.calls)
+
+pub returns-in-History-clause-does : goal.returns-in-History-clause-does
+returns-in-History-clause-does g c =
+    let known =
+    known_machine g.H.Host.means g.H.Archive.Archive.state g.H.Source.Source.effects
+    g.H.Source.Reader.NonBlockingRead.input g.H.Source.Writer.NonBlockingWrite.output
+    g.H.Reader.Read.remaining g.H.Writer.Write.contents in
+    let P : CommandLine → Type 0 = λ line.
+    DoesCommand known g.C.Clock.gave g.E.Write.contents line c.args.world.now.server.settings
+    c.args.world.now.server.replica.archive c.history_over.new.server.replica.archive
+    (scene_of (g.R.Read.remaining c.args.input.now.inner)
+    (g.W.Write.contents c.args.output.now.inner) c.args.host.now c.args.world.now.clock
+    c.args.world.now.log.errors)
+    (scene_of (g.R.Read.remaining c.args.input.now.inner)
+    (g.W.Write.contents c.history_over.new.output.inner) c.args.host.now c.args.world.now.clock
+    c.args.world.now.log.errors)
+    c.history_over.result in
+    subst P (sym c.in-History.is) (refl, c.history_over.ensures.prints)
