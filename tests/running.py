@@ -19,6 +19,8 @@ STATED = [
     (1, r"(door's |)address refused\n"),
     (1, r"peer's address refused \(\d+\)\n"),
     (1, r"exchange ended \(\d+\)\n"),
+    (2, r"--(node|from|to): want a .*\n"),
+    (1, r"history ended: a value of a type that has no text\n"),
     (1, r"connection ended \([1-4]\)\n"),
 ]
 
