@@ -3,7 +3,7 @@ use Rattle.std.proofs.Common.{◌≡◌, List, [], Some, None, refl, subst, ap, 
 use Rattle.std.specs.Prelude.{Option, Result, Ok, Err, OnErr}
 use Rattle.clap.specs.Words.{Row, Text}
 use Rattle.command_line.specs.declared.line.Line.TheVariants.{Answer, Serve, Dump, Sync, History}
-use Rattle.command_line.specs.Line.{IsLine, IsAnswer, IsServe, IsDump, IsSync, IsHistory, NoLine}
+use Rattle.command_line.specs.Line.{IsLine, IsAnswer, IsServe, IsDump, IsSync, IsHistoryCommand, NoLine}
 
 -- what holds of a value that is there, and of one that isn't
 pub of-value : {T : Type 0} (o : Option T) (none : Type 0) (some : T → Type 0) → (o ≡ None → none)
@@ -86,7 +86,8 @@ no-sync matches rows is none (History path asked) h = let same =
     one-name matches (codes "sync") (codes "history") rows h.0 is h.1 in absurd cc
 
 pub no-history : (matches : Option (Text × List Row)) (rows : List Row)
-    → matches ≡ Some (codes "history", rows) → NoLine (IsHistory rows) → NoLine (IsLine matches)
+    → matches ≡ Some (codes "history", rows) → NoLine (IsHistoryCommand rows)
+    → NoLine (IsLine matches)
 no-history matches rows is none (Answer path flag moment) h = let same =
     one-name matches (codes "history") (codes "answer") rows h.0 is h.1 in absurd cc
 no-history matches rows is none (Serve path count) h = let same =
@@ -96,7 +97,7 @@ no-history matches rows is none (Dump path) h = let same =
 no-history matches rows is none (Sync path address) h = let same =
     one-name matches (codes "history") (codes "sync") rows h.0 is h.1 in absurd cc
 no-history matches rows is none (History path asked) h =
-    none (History path asked) (subst (λ (r : List Row). IsHistory r (History path asked))
+    none (History path asked) (subst (λ (r : List Row). IsHistoryCommand r (History path asked))
     (one-list matches (codes "history") (codes "history") rows h.0 is h.1) h.2)
 
 -- what is said of a refusal, said of it by what follows from that

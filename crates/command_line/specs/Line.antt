@@ -145,7 +145,7 @@ IsSync rows line =
 
 -- what rows ask of a node's history: the node, from when, to when, changes or values, CSV or a
 -- table
-pub record AsksHistory (rows : List Row) (asked : HistoryWords) : Type 0 where
+pub record AreHistoryWords (rows : List Row) (asked : HistoryWords) : Type 0 where
   pub node : first_of (codes "node") rows ≡ Some asked.node.now
   pub from : option_copied asked.from ≡ first_of (codes "from") rows
   pub to : option_copied asked.to ≡ first_of (codes "to") rows
@@ -153,31 +153,32 @@ pub record AsksHistory (rows : List Row) (asked : HistoryWords) : Type 0 where
   pub csv : IsFlag (one_of (codes "csv") rows) asked.csv
 
 -- what the rows of `history` give
-abbrev pub IsHistory : List Row → Line → Type 0
-IsHistory rows line =
+abbrev pub IsHistoryCommand : List Row → Line → Type 0
+IsHistoryCommand rows line =
     elim line [
       | History path asked ↦ (first_of (codes "settings") rows ≡ Some path.now)
-          × AsksHistory rows asked
+          × AreHistoryWords rows asked
       | _ ↦ ⊥
     ]
 
--- The matches name this command, and its rows give this.
-abbrev pub NamesCommand : Option (Text × List Row) → Text → (List Row → Type 0) → Type 0
-NamesCommand matches name Gives = (rows : List Row) × (matches ≡ Some (name, rows)) × Gives rows
+-- the matches name this command, and its rows give this line
+abbrev pub NamesCommand : Option (Text × List Row) → Text → (List Row → Line → Type 0) → Line
+    → Type 0
+NamesCommand matches name Gives line =
+    (rows : List Row) × (matches ≡ Some (name, rows)) × Gives rows line
 
 -- The command that the matches name, with the values that they give: the moment is the number of 64
 -- bits that its text spells in decimal digits, and none where it is absent; the count is the one of
 -- 32 bits that its text spells, and the greatest where it is absent.
 abbrev pub IsLine : Option (Text × List Row) → Line → Type 0
-IsLine matches (Answer path flag moment) =
-    NamesCommand matches (codes "answer") (λ rows. IsAnswer rows (Answer path flag moment))
-IsLine matches (Serve path count) =
-    NamesCommand matches (codes "serve") (λ rows. IsServe rows (Serve path count))
-IsLine matches (Dump path) = NamesCommand matches (codes "dump") (λ rows. IsDump rows (Dump path))
-IsLine matches (Sync path peer) =
-    NamesCommand matches (codes "sync") (λ rows. IsSync rows (Sync path peer))
-IsLine matches (History path asked) =
-    NamesCommand matches (codes "history") (λ rows. IsHistory rows (History path asked))
+IsLine matches line =
+    elim line [
+      | Answer path flag moment ↦ NamesCommand matches (codes "answer") IsAnswer line
+      | Serve path count ↦ NamesCommand matches (codes "serve") IsServe line
+      | Dump path ↦ NamesCommand matches (codes "dump") IsDump line
+      | Sync path peer ↦ NamesCommand matches (codes "sync") IsSync line
+      | History path words ↦ NamesCommand matches (codes "history") IsHistoryCommand line
+    ]
 
 -- no line is so
 abbrev pub NoLine : (Line → Type 0) → Type 0

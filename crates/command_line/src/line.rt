@@ -6,7 +6,7 @@ ghost use Rattle.clap.specs.declared.builder.command.Command.TheViews.{out-Comma
 ghost use Rattle.clap.specs.declared.error.ErrorKind.TheVariants as clap;
 ghost use Rattle.clap.specs.Takes.{takes};
 ghost use Rattle.clap.specs.Faults.{fault_of as fault_kinds};
-ghost use Rattle.command_line.specs.Line.{Asks, AsksForText, AsksHistory, IsLine, option, uahist, IsAnswer, IsServe, IsDump, IsHistory, IsMistake, IsSync, IsText, IsTextOf, NoLine, movers, node_command, servers, span_command};
+ghost use Rattle.command_line.specs.Line.{Asks, AsksForText, AreHistoryWords, IsLine, option, uahist, IsAnswer, IsServe, IsDump, IsHistoryCommand, IsMistake, IsSync, IsText, IsTextOf, NoLine, movers, node_command, servers, span_command};
 ghost use Rattle.command_line.specs.Line.{answer_command, connections, dump_command, flag, history_command, now, serve_command, sync_command};
 
 use clap::builder::ValueParser;
@@ -442,7 +442,7 @@ fn read_sync<'a>(sync: &ArgMatches<'a>) -> Result<Line<'a>, LineFault>
 /// What is asked of the history of this node.
 fn read_words<'a>(history: &ArgMatches<'a>, node: &'a str) -> HistoryWords<'a>
     ensures { first_of (codes "node") (rows_of (found_of history.now)) ≡ Some node.now
-        → AsksHistory (rows_of (found_of history.now)) result }
+        → AreHistoryWords (rows_of (found_of history.now)) result }
 {
     let from = history.get_str("from");
     let to = history.get_str("to");
@@ -459,8 +459,8 @@ fn read_words<'a>(history: &ArgMatches<'a>, node: &'a str) -> HistoryWords<'a>
 
 /// Reads the options of `history`.
 fn read_history<'a>(history: &ArgMatches<'a>) -> Result<Line<'a>, LineFault>
-    ensures ok { IfOk result (IsHistory (rows_of (found_of history.now))) }
-    ensures words { OnErr result (NoLine (IsHistory (rows_of (found_of history.now)))) }
+    ensures ok { IfOk result (IsHistoryCommand (rows_of (found_of history.now))) }
+    ensures words { OnErr result (NoLine (IsHistoryCommand (rows_of (found_of history.now)))) }
 {
     let Some(settings) = history.get_str("settings") else {
         return Err(LineFault::Words);

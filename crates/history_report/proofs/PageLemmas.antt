@@ -31,7 +31,7 @@ use Rattle.archive.proofs.Timing.{current_from, entry_from}
 use Rattle.archive.proofs.Turning.{has_from_filter_map, has_from_flat_map, has_from_reverse}
 use Rattle.history_report.specs.declared.pages.Pages.{Pages}
 use Rattle.history_report.specs.declared.report.Report.{Report}
-use Rattle.history_report.specs.Reports.{is_asked, values_asked, changes_asked}
+use Rattle.history_report.specs.Reports.{is_in_stretch, values_asked, changes_asked}
 use Rattle.history_report.specs.Paging.{IsTime, IsBehind, place_behind, values_left, changes_left, IsPageOf, GivesPage, Fails}
 
 -- ---- lists
@@ -298,7 +298,7 @@ log_lawful R node e lawful h =
 
 -- the span has the moments that are asked for
 abbrev pub IsSpanOf : Report → ℤ → ℤ → Type 0
-IsSpanOf report from to = (t : ℤ) → IsTime t → is_between from to t ≡ is_asked report t
+IsSpanOf report from to = (t : ℤ) → IsTime t → is_between from to t ≡ is_in_stretch report t
 
 cut_own : (R : Content) (v : List ℕ) → IsLawfulContent R → ((o : ℕ) → number_of v o ≡ vec R o)
     → cut R (number_of v) ≡ R
@@ -312,7 +312,7 @@ module _ (R : Content) (report : Report) (pages : Pages) (lawful : IsLawfulConte
       ap (λ C. range_of C report.node pages.span.from pages.span.to Forward)
       (cut_own R pages.within lawful numbers)
       ∙ filter_same (λ h. is_between pages.span.from pages.span.to h.time)
-      (λ h. is_asked report h.time) (lives R report.node)
+      (λ h. is_in_stretch report h.time) (lives R report.node)
       (λ h there. span h.time (lives_lawful R report.node h lawful there))
 
   pub changes-all : pages.after ≡ None → changes_left report.node pages R ≡ changes_asked R report
@@ -324,5 +324,5 @@ module _ (R : Content) (report : Report) (pages : Pages) (lawful : IsLawfulConte
       ∙ (filter_all (filter (λ e. is_between pages.span.from pages.span.to e.time)
       (log R report.node))
       ∙ filter_same (λ e. is_between pages.span.from pages.span.to e.time)
-      (λ e. is_asked report e.time) (log R report.node)
+      (λ e. is_in_stretch report e.time) (log R report.node)
       (λ e there. span e.time (log_lawful R report.node e lawful there))))

@@ -20,7 +20,7 @@ use Rattle.history_report.specs.declared.pages.Pages.{Pages}
 use Rattle.history_report.specs.declared.report.Report.{Report}
 use Rattle.history_report.specs.declared.fault.ReportFault.{ReportFault}
 use Rattle.history_report.specs.declared.fault.ReportFault.TheVariants as fault
-use Rattle.history_report.specs.Reports.{AreLines, BreaksOff, PrintsLines, ReadsFor, PrintsReport, Prints, store_faults_of, header_of, IsValueLine, IsChangeLine, values_asked, changes_asked}
+use Rattle.history_report.specs.Reports.{AreLines, StopsShort, PrintsLines, ReadsFor, PrintsReport, Prints, report_faults, header_of, IsValueLine, IsChangeLine, values_asked, changes_asked}
 use Rattle.history_report.specs.Paging.{values_left, changes_left, IsPageOf, GivesPage, Fails, SendsLines, IsSoFar, Printing}
 use Rattle.history_report.proofs.LineLemmas.{lines-append}
 use Rattle.history_report.proofs.PageLemmas.{IsSpanOf, values-all, changes-all}
@@ -54,7 +54,7 @@ module _ {X : Type 0} (IsLine : X → List ℕ → Type 0) (HasNoText : X → Ty
   -- what was printed is a first part
   so-far-part : (all rest : List X) (before now : Option (List ℕ)) (why : ReportFault)
       → (why ≡ fault.NoText → ⊥) → IsSoFar IsLine all rest before now
-      → BreaksOff IsLine HasNoText [] all before now why
+      → StopsShort IsLine HasNoText [] all before now why
   so-far-part all rest before now why other (done, lines, whole, are, sent) = (
     length done,
     lines,
@@ -68,7 +68,7 @@ module _ {X : Type 0} (IsLine : X → List ℕ → Type 0) (HasNoText : X → Ty
   so-far-breaks : (all rest page more : List X) (before now after : Option (List ℕ))
       (why : ReportFault) → IsSoFar IsLine all rest before now → page ++ more ≡ rest
       → SendsLines IsLine HasNoText page now after (Err why)
-      → BreaksOff IsLine HasNoText [] all before after why
+      → StopsShort IsLine HasNoText [] all before after why
   so-far-breaks all rest page more before now after why (done, lines, whole, are, sent) joins
       (own, k, new, new_are, part, none) =
       let front : List X = done ++ take k page in
@@ -112,7 +112,7 @@ module _ {X : Type 0} (IsLine : X → List ℕ → Type 0) (HasNoText : X → Ty
           (λ marks R S. (S ≡ R) × IsSoFar IsLine (all R) (rest R) before now)
           (λ marks R S. S ≡ R)
           (λ marks R S. (S ≡ R)
-          × ((faults_of (StoreFailed why ∷ []) ≡ store_faults_of (Err (fault.Store why)))
+          × ((faults_of (StoreFailed why ∷ []) ≡ report_faults (Err (fault.Store why)))
           × PrintsLines IsLine HasNoText [] (all R) before now (Err (fault.Store why))))
           (λ ms ns R S T p e. (
             e ∙ p.0,
@@ -142,7 +142,7 @@ module _ {X : Type 0} (IsLine : X → List ℕ → Type 0) (HasNoText : X → Ty
           (λ R. PrintsLines IsLine HasNoText [] (all R) before now (Ok tt))
       ended none = (
         [],
-        told (λ R. ([] ≡ store_faults_of (Ok tt))
+        told (λ R. ([] ≡ report_faults (Ok tt))
             × PrintsLines IsLine HasNoText [] (all R) before now (Ok tt))
             (λ R (done, lines, whole, are, sent) (joins, last).
             let nothing : rest R ≡ [] =
@@ -157,7 +157,7 @@ module _ {X : Type 0} (IsLine : X → List ℕ → Type 0) (HasNoText : X → Ty
           (λ R. PrintsLines IsLine HasNoText [] (all R) before after (Err why))
       stopped why sends = (
         [],
-        told (λ R. ([] ≡ store_faults_of (Err why))
+        told (λ R. ([] ≡ report_faults (Err why))
             × PrintsLines IsLine HasNoText [] (all R) before after (Err why))
             (λ R is p. (
               sym sends.0,
@@ -184,7 +184,7 @@ module _ {X : Type 0} (IsLine : X → List ℕ → Type 0) (HasNoText : X → Ty
     endless = (
       [],
       moves-as s t [] (λ marks R S. (S ≡ R) × IsSoFar IsLine (all R) (rest R) before now)
-          (λ marks R S. (S ≡ R) × (([] ≡ store_faults_of (Err fault.OutOfMemory))
+          (λ marks R S. (S ≡ R) × (([] ≡ report_faults (Err fault.OutOfMemory))
           × PrintsLines IsLine HasNoText [] (all R) before now (Err fault.OutOfMemory)))
           (λ ms R S p. (
             p.0,
@@ -215,7 +215,7 @@ module _ {X : Type 0} (IsLine : X → List ℕ → Type 0) (HasNoText : X → Ty
   -- not even the header
   pub header-breaks : (header : List ℕ) (xs : List X) (before after : Option (List ℕ))
       (why : ReportFault) → (why ≡ fault.NoText → ⊥) → AppendsPart before after header
-      → BreaksOff IsLine HasNoText header xs before after why
+      → StopsShort IsLine HasNoText header xs before after why
   header-breaks header xs before after why other part = (
     0,
     [],
@@ -256,7 +256,7 @@ not-asked report t u before why fails = (
   StoreFailed why ∷ [],
   moves-as t u (StoreFailed why ∷ []) (λ marks R S. S ≡ R)
       (λ marks R S. (S ≡ R)
-      × ((faults_of (StoreFailed why ∷ []) ≡ store_faults_of (Err (fault.Store why)))
+      × ((faults_of (StoreFailed why ∷ []) ≡ report_faults (Err (fault.Store why)))
       × PrintsReport report R before before (Err (fault.Store why))))
       (λ ms R S e. (
         e,
@@ -282,7 +282,7 @@ module _ (report : Report) (t u w : Store) (numbers : List ℕ) (shown : AreShow
     [],
     moves-as t u [] (λ marks R S. (S ≡ R) × IsLawfulContent R
         × ((o : ℕ) → number_of numbers o ≡ vec R o))
-        (λ marks R S. (S ≡ R) × (([] ≡ store_faults_of (Err why))
+        (λ marks R S. (S ≡ R) × (([] ≡ report_faults (Err why))
         × PrintsReport report R before now (Err why)))
         (λ ms R S p. (
           p.0,
@@ -294,9 +294,9 @@ module _ (report : Report) (t u w : Store) (numbers : List ℕ) (shown : AreShow
         )) shown,
   )
     where
-      quiet : (why ≡ fault.Write) ⊎ (why ≡ fault.OutOfMemory) → [] ≡ store_faults_of (Err why)
-      quiet (inl e) = ap (λ w. store_faults_of (Err w)) (sym e)
-      quiet (inr e) = ap (λ w. store_faults_of (Err w)) (sym e)
+      quiet : (why ≡ fault.Write) ⊎ (why ≡ fault.OutOfMemory) → [] ≡ report_faults (Err why)
+      quiet (inl e) = ap (λ w. report_faults (Err w)) (sym e)
+      quiet (inr e) = ap (λ w. report_faults (Err w)) (sym e)
 
       other : (why ≡ fault.Write) ⊎ (why ≡ fault.OutOfMemory) → why ≡ fault.NoText → ⊥
       other (inl e) k = absurd cc
@@ -313,8 +313,8 @@ module _ (report : Report) (t u w : Store) (numbers : List ℕ) (shown : AreShow
       used,
       moves-then t u w [] used (λ marks R S. (S ≡ R) × IsLawfulContent R
           × ((o : ℕ) → number_of numbers o ≡ vec R o))
-          (λ marks R S. (S ≡ R) × ((faults_of used ≡ store_faults_of result) × Printed R))
-          (λ marks R S. (S ≡ R) × ((faults_of used ≡ store_faults_of result)
+          (λ marks R S. (S ≡ R) × ((faults_of used ≡ report_faults result) × Printed R))
+          (λ marks R S. (S ≡ R) × ((faults_of used ≡ report_faults result)
           × PrintsReport report R before after result))
           (λ ms ns R S T p q. (q.0 ∙ p.0, (q.1.0, f R p.1 p.2 (subst Printed p.0 q.1.1)))) shown
           reads,

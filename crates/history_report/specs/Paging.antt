@@ -20,7 +20,7 @@ use Rattle.history_text.specs.declared.fault.TextFault.TheVariants as Why
 use Rattle.history_report.specs.declared.fault.ReportFault.{ReportFault}
 use Rattle.history_report.specs.declared.fault.ReportFault.TheVariants as fault
 use Rattle.history_report.specs.declared.pages.Pages.{Pages}
-use Rattle.history_report.specs.Reports.{AreLines, IsAt, store_faults_of}
+use Rattle.history_report.specs.Reports.{AreLines, IsAt, report_faults}
 
 -- ---- the times of records
 
@@ -95,7 +95,7 @@ fault_told why = elim why [ Why.NoText ↦ fault.NoText | _ ↦ fault.OutOfMemor
 
 -- the fault isn't one of the store's
 abbrev pub IsOwn : ReportFault → Type 0
-IsOwn why = store_faults_of (Err why) ≡ []
+IsOwn why = report_faults (Err why) ≡ []
 
 -- the lines of these were sent, or a first part of them; before one without a text all of them
 abbrev pub SendsLines : {X : Type 0} → (X → List ℕ → Type 0) → (X → Type 0) → List X

@@ -20,39 +20,39 @@ use Rattle.history_report.specs.Tables.{table_line}
 -- ---- what is asked for
 
 -- the time is at the first moment or later, and before the end, where these are given
-abbrev pub is_asked : Report → ℤ → Bool
-is_asked report time =
+abbrev pub is_in_stretch : Report → ℤ → Bool
+is_in_stretch report time =
     option_map_or (λ from. int_le from time) report.from true
     && option_map_or (λ to. int_lt time to) report.to true
 
 -- the live values that are asked for, in the order of their times
 abbrev pub values_asked : Content → Report → List Held
-values_asked R report = filter (λ h. is_asked report h.time) (lives R report.node)
+values_asked R report = filter (λ h. is_in_stretch report h.time) (lives R report.node)
 
 -- the modifications that are asked for, times in order, within a time the newest first
 abbrev pub changes_asked : Content → Report → List Entry
-changes_asked R report = filter (λ e. is_asked report e.time) (log R report.node)
+changes_asked R report = filter (λ e. is_in_stretch report e.time) (log R report.node)
 
 -- ---- lines
 
 -- fields as a line: as a row of CSV, or as a line of the table, which leaves out the node
-abbrev pub line_of : (csv : Bool) → List (List ℕ) → List ℕ
-line_of csv fields = if csv then row_text default_writer fields else table_line fields
+abbrev pub fields_line : (csv : Bool) → List (List ℕ) → List ℕ
+fields_line csv fields = if csv then row_text default_writer fields else table_line fields
 
 -- the line above all others, of the names of the fields
 abbrev pub header_of : Report → List ℕ
-header_of report = line_of report.csv (if report.changes then change_names else value_names)
+header_of report = fields_line report.csv (if report.changes then change_names else value_names)
 
 -- a line of a live value
 abbrev pub IsValueLine : Report → Held → List ℕ → Type 0
 IsValueLine report held line =
-    (fields : List (List ℕ)) × (line ≡ line_of report.csv fields)
+    (fields : List (List ℕ)) × (line ≡ fields_line report.csv fields)
     × AreValueFields report.node held fields
 
 -- a line of a modification
 abbrev pub IsChangeLine : Report → Entry → List ℕ → Type 0
 IsChangeLine report entry line =
-    (fields : List (List ℕ)) × (line ≡ line_of report.csv fields)
+    (fields : List (List ℕ)) × (line ≡ fields_line report.csv fields)
     × AreChangeFields report.node entry fields
 
 -- the text is a line of each of these, one after the other
@@ -70,9 +70,9 @@ IsAt {X} P xs n = (x : X) × (slice_get xs n ≡ Some x) × P x
 
 -- behind a header a first part of the lines of these was printed, or of the header; where a value
 -- has no text, all lines before it
-abbrev pub BreaksOff : {X : Type 0} → (X → List ℕ → Type 0) → (X → Type 0) → (header : List ℕ)
+abbrev pub StopsShort : {X : Type 0} → (X → List ℕ → Type 0) → (X → Type 0) → (header : List ℕ)
     → List X → (before after : Option (List ℕ)) → ReportFault → Type 0
-BreaksOff IsLine HasNoText header xs before after why =
+StopsShort IsLine HasNoText header xs before after why =
     (n : ℕ) × (lines : List ℕ) × AreLines IsLine (take n xs) lines
     × AppendsPart before after (header ++ lines)
     × (why ≡ fault.NoText → Appends before after (header ++ lines) × IsAt HasNoText xs n)
@@ -83,7 +83,7 @@ abbrev pub PrintsLines : {X : Type 0} → (X → List ℕ → Type 0) → (X →
 PrintsLines IsLine HasNoText header xs before after result =
     MatchResult result
     (λ done. (lines : List ℕ) × AreLines IsLine xs lines × Appends before after (header ++ lines))
-    (λ why. BreaksOff IsLine HasNoText header xs before after why)
+    (λ why. StopsShort IsLine HasNoText header xs before after why)
 
 -- a report of what a content shows was printed, or a first part of it
 abbrev pub PrintsReport : Report → Content → (before after : Option (List ℕ))
@@ -97,8 +97,8 @@ PrintsReport report R before after result =
     ]
 
 -- the fault of the store that a report ended by, if it is one of the store's
-abbrev pub store_faults_of : Result (Unit {0}) ReportFault → List StoreFault
-store_faults_of result = elim result [ Err (fault.Store why) ↦ why ∷ [] | _ ↦ [] ]
+abbrev pub report_faults : Result (Unit {0}) ReportFault → List StoreFault
+report_faults result = elim result [ Err (fault.Store why) ↦ why ∷ [] | _ ↦ [] ]
 
 -- An archive was asked, which stays as it is, and this holds of what it held. Its store met the
 -- fault that the report ended by, if that is one of the store's, and no other.
@@ -106,7 +106,7 @@ abbrev pub ReadsFor : Store → Store → Result (Unit {0}) ReportFault → (Con
 ReadsFor old new result Printed =
     (used : List StepResult)
     × Transitions old new used (λ marks R S. (S ≡ R)
-    × ((faults_of used ≡ store_faults_of result) × Printed R))
+    × ((faults_of used ≡ report_faults result) × Printed R))
 
 -- a report of what an archive holds was printed
 abbrev pub Prints : Report → Store → Store → (before after : Option (List ℕ))

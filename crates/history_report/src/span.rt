@@ -2,7 +2,7 @@
 
 ghost use Rattle.std.specs.Prelude.{◌≡◌, ◌&&◌, ℤ, pos, ◌+ℤ◌, ◌-ℤ◌, ◌<ℤ◌, int_lt};
 ghost use Rattle.archive.specs.Reading.{is_between};
-ghost use Rattle.history_report.specs.Reports.{is_asked};
+ghost use Rattle.history_report.specs.Reports.{is_in_stretch};
 ghost use Rattle.history_report.specs.Paging.{IsTime, greatest_time};
 
 use crate::report::Report;
@@ -63,7 +63,7 @@ fn previous(time: Moment) -> Moment
 
 /// The moments that a report asks for, of those that a record may have.
 pub(crate) fn span_of(report: &Report) -> Span
-    ensures { (t : ℤ) → IsTime t → is_between result.from result.to t ≡ is_asked report.now t }
+    ensures { (t : ℤ) → IsTime t → is_between result.from result.to t ≡ is_in_stretch report.now t }
 {
     let from = match report.from {
         Some(from) => from,

@@ -22,7 +22,7 @@ use Rattle.history_text.specs.Numbers.{signed_in}
 use Rattle.history_text.specs.Digits.{digits_in, last_digits}
 use Rattle.history_text.proofs.NumbersLemmas.{read_w64}
 use Rattle.history_text.proofs.DigitsLemmas.{read_digits, read_more, value_again, last_all}
-use Rattle.history_text.specs.Times.{◌>>=◌, has_signs, number_at, since_1601, days_to, days_at, clock_ticks, clock_at, ending_in, moment_of, calendar_in, ends_in_pico, steps_in, time_in, day_ticks, calendar_ticks, days_to_1970, clock_text, ending_text, calendar_text, IsTimeText}
+use Rattle.history_text.specs.Times.{◌>>=◌, has_signs, numeral_at, since_1601, days_to, days_at, clock_ticks, clock_at, ending_in, moment_of, calendar_in, ends_in_pico, steps_in, time_in, day_ticks, calendar_ticks, days_to_1970, clock_text, ending_text, calendar_text, IsTimeText}
 
 -- how a text of 20 letters or more with its signs is read, whose date and second are read
 pub calendar_is : (text : List ℕ) (days ticks : ℕ) → 20 ≤ length text → has_signs text ≡ true
@@ -100,8 +100,8 @@ read_pico z p fits small =
     ap (λ k. signed_in (2 ^ 63) (take k text)) five
     ∙ ap (signed_in (2 ^ 63)) (take-append_seam xs (43 ∷ last_digits 4 p))
     ∙ read_w64 z fits in
-    let pico : number_at (length text - 4) 4 text ≡ Some p =
-    ap (λ k. number_at k 4 text) four
+    let pico : numeral_at (length text - 4) 4 text ≡ Some p =
+    ap (λ k. numeral_at k 4 text) four
     ∙ ap (λ l. digits_in (take 4 l)) (drop-append-add xs (43 ∷ last_digits 4 p) 1)
     ∙ read_digits 4 p small in
     two_steps (ends_in_pico text) _ _ z p (λ z p. record { ticks = z; pico = p }) _ ends ticks pico

@@ -52,8 +52,8 @@ clock_ticks hour minute second =
 -- ---- reading
 
 -- the number that so many digits write, at this place of a text
-abbrev pub number_at : (place count : ℕ) → List ℕ → Option ℕ
-number_at place count text = digits_in (take count (drop place text))
+abbrev pub numeral_at : (place count : ℕ) → List ℕ → Option ℕ
+numeral_at place count text = digits_in (take count (drop place text))
 
 -- the signs between the numbers of ....-..-..T..:..:..
 abbrev pub has_signs : List ℕ → Bool
@@ -63,17 +63,17 @@ has_signs text =
 -- the days from 1601-01-01 to the date that a text begins by
 abbrev pub days_at : List ℕ → Option ℕ
 days_at text = do
-  year ← number_at 0 4 text
-  month ← number_at 5 2 text
-  day ← number_at 8 2 text
+  year ← numeral_at 0 4 text
+  month ← numeral_at 5 2 text
+  day ← numeral_at 8 2 text
   days_to year month day
 
 -- the steps from midnight to the second that a text says behind its date
 abbrev pub clock_at : List ℕ → Option ℕ
 clock_at text = do
-  hour ← number_at 11 2 text
-  minute ← number_at 14 2 text
-  second ← number_at 17 2 text
+  hour ← numeral_at 11 2 text
+  minute ← numeral_at 14 2 text
+  second ← numeral_at 17 2 text
   clock_ticks hour minute second
 
 -- digits that may stand behind a point: 1 to 7, or 11
@@ -119,7 +119,7 @@ abbrev pub steps_in : List ℕ → Option Time
 steps_in text =
     if ends_in_pico text then (do
       ticks ← signed_in (2 ^ 63) (take (length text - 5) text)
-      pico ← number_at (length text - 4) 4 text
+      pico ← numeral_at (length text - 4) 4 text
       Some (record { ticks = ticks; pico = pico }))
     else (signed_in (2 ^ 63) text >>= λ ticks. Some (record { ticks = ticks; pico = 0 }))
 

@@ -8,7 +8,7 @@ ghost use Rattle.std.specs.Option.{ok_or};
 ghost use Rattle.jiff_core.specs.Date.{epoch_day};
 ghost use Rattle.history_text.specs.declared.fault.TextFault.TheVariants.{NoTime};
 ghost use Rattle.jiff_core.specs.declared.civil.date.Date.{Date};
-ghost use Rattle.history_text.specs.Times.{number_at, has_signs, since_1601, days_to, days_at, clock_at, clock_ticks, fraction_in, ending_in, moment_of, calendar_in, steps_in, time_in, IsTimeText, IsCalendarText, IsBeyond, calendar_ticks, day_ticks, days_to_1970, date_text, clock_text, ending_text, calendar_text, steps_text};
+ghost use Rattle.history_text.specs.Times.{numeral_at, has_signs, since_1601, days_to, days_at, clock_at, clock_ticks, fraction_in, ending_in, moment_of, calendar_in, steps_in, time_in, IsTimeText, IsCalendarText, IsBeyond, calendar_ticks, day_ticks, days_to_1970, date_text, clock_text, ending_text, calendar_text, steps_text};
 
 use crate::digits::{digits_in, put_digits};
 use crate::fault::TextFault;
@@ -41,10 +41,10 @@ const CALENDAR: i64 = 2_650_467_744_000_000_000;
 // ---- reading
 
 /// The number that so many digits write, at this place of a text.
-fn number_at(text: &[u8], place: usize, count: usize) -> Option<u64>
+fn numeral_at(text: &[u8], place: usize, count: usize) -> Option<u64>
     requires inside { place + count ≤ length text.now }
     requires few { IsInRange 1 19 count }
-    ensures value { result ≡ number_at place count text.now }
+    ensures value { result ≡ numeral_at place count text.now }
     ensures below { IfSome result (λ n. n < 10 ^ count) }
 {
     digits_in(&text[place..place + count])
@@ -90,9 +90,9 @@ fn days_at(text: &[u8]) -> Option<u64>
     ensures days { result ≡ days_at text.now }
     ensures within { IfSome result (λ n. n < 3_067_671) }
 {
-    let year = number_at(text, 0, 4)?;
-    let month = number_at(text, 5, 2)?;
-    let day = number_at(text, 8, 2)?;
+    let year = numeral_at(text, 0, 4)?;
+    let month = numeral_at(text, 5, 2)?;
+    let day = numeral_at(text, 8, 2)?;
     days_to(year, month, day)
 }
 
@@ -114,9 +114,9 @@ fn clock_at(text: &[u8]) -> Option<u64>
     ensures ticks { result ≡ clock_at text.now }
     ensures within { IfSome result (λ n. n < day_ticks) }
 {
-    let hour = number_at(text, 11, 2)?;
-    let minute = number_at(text, 14, 2)?;
-    let second = number_at(text, 17, 2)?;
+    let hour = numeral_at(text, 11, 2)?;
+    let minute = numeral_at(text, 14, 2)?;
+    let second = numeral_at(text, 17, 2)?;
     clock_ticks(hour, minute, second)
 }
 
@@ -192,7 +192,7 @@ fn steps_in(text: &[u8]) -> Option<Time>
     let count = text.len();
     if count >= 5 && text[count - 5] == b'+' {
         let ticks = signed_in(&text[..count - 5])?;
-        let pico = number_at(text, count - 4, 4)? as u16;
+        let pico = numeral_at(text, count - 4, 4)? as u16;
         return Some(Time { ticks, pico });
     }
     let ticks = signed_in(text)?;

@@ -41,7 +41,7 @@ abbrev pub PrintsHistory : {A : Type 0} → (A → Store) → HistoryWords → (
     → (before after : Option (List ℕ)) → Result (Unit {0}) ProgramFault → Type 0
 PrintsHistory held words first last before after result =
     (asked : Result Report ProgramFault) × IsAskedOrStarved (report_asked words) asked
-        × elim asked [
+    × elim asked [
       | Err fault ↦ (result ≡ Err fault) × (last ≡ first) × (after ≡ before)
       | Ok report ↦ (printed : Result (Unit {0}) ReportFault)
           × Prints report (held first) (held last) before after printed

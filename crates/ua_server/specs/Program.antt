@@ -113,18 +113,26 @@ OpensNothing held settings opening old new =
     IfOk opening (λ first. HoldsNothing settings.archive settings.replica (held first))
     × (new ≡ old)
 
--- the archive of the settings, or why it can't be opened: that of their file; or one in memory that
--- holds nothing, where they name none, or a command that makes no store finds none there
-abbrev pub OpensArchive : {H A L R W : Type 0} → Machine H A L R W → (A → Store)
-    → (makes : Bool) → SettingsValues → Option (List ℕ) → Result A StoreFault → (old new : H)
-    → Type 0
-OpensArchive machine held makes settings None opening old new =
-    OpensNothing held settings opening old new
-OpensArchive machine held makes settings (Some path) opening old new =
+-- the archive of the store at a path; or, for a command that makes no store, one in memory that
+-- holds nothing, where none stands there
+abbrev pub OpensStore : {H A L R W : Type 0} → Machine H A L R W → (A → Store) → (makes : Bool)
+    → SettingsValues → (path : List ℕ) → Result A StoreFault → (old new : H) → Type 0
+OpensStore machine held makes settings path opening old new =
     ((makes ≡ false → machine.stands old path true)
     × machine.opens old path settings.archive settings.replica opening new)
     ⊎ ((makes ≡ false) × machine.stands old path false
     × OpensNothing held settings opening old new)
+
+-- the archive of the settings, or why it can't be opened: that of their store, or one in memory
+-- that holds nothing where they name none
+abbrev pub OpensArchive : {H A L R W : Type 0} → Machine H A L R W → (A → Store)
+    → (makes : Bool) → SettingsValues → Option (List ℕ) → Result A StoreFault → (old new : H)
+    → Type 0
+OpensArchive machine held makes settings path opening old new =
+    elim path [
+      | None ↦ OpensNothing held settings opening old new
+      | Some path ↦ OpensStore machine held makes settings path opening old new
+    ]
 
 -- the settings that a path gives, and their archive; or why they or it are refused
 abbrev pub OpensBy : {H A L R W : Type 0} → Machine H A L R W → (A → Store) → (makes : Bool)
@@ -335,15 +343,19 @@ DoesAndCloses known gave told line settings first old new result =
     × DoesCommand known gave told line settings first last old (record new { host = done }) result
     × known.machine.closes done last new.host
 
+-- the settings of a line, and the archive that it is done over; or why they or it are refused
+abbrev pub OpensFor : (known : KnownMachine) → CommandLine
+    → Result (SettingsValues × known.Archive) ProgramFault → (old new : known.Host) → Type 0
+OpensFor known line opening old new =
+    OpensBy known.machine known.held (makes_store line) (settings_path line) opening old new
+
 -- a command is done over the archive of its settings; or nothing else is, where they or their
 -- archive are refused
 abbrev pub DoesLine : {C E : Type 0} → (known : KnownMachine) → Readings C → Known E → CommandLine
     → (old new : Scene known.Host C E) → Result (Unit {0}) ProgramFault → Type 0
 DoesLine known gave told line old new result =
     (opening : Result (SettingsValues × known.Archive) ProgramFault) × (opened : known.Host)
-    × OpensBy known.machine known.held (makes_store line) (settings_path line) opening old.host
-        opened
-    × elim opening [
+    × OpensFor known line opening old.host opened × elim opening [
       | Ok (settings, first) ↦ DoesAndCloses known gave told line settings first
           (record old { host = opened }) new result
       | Err fault ↦ (result ≡ Err fault) × (new ≡ record old { host = opened })
