@@ -1,8 +1,8 @@
 -- Which records the settings take from peers, and what becomes of a frame that brings others.
-use Rattle.std.specs.Prelude.{◌≡◌, ℕ, ℤ, List, [], ◌∷◌, Option, None, Some, Result, Ok, Err}
+use Rattle.std.specs.Prelude.{◌≡◌, ℕ, ℤ, false, List, [], ◌∷◌, Option, None, Some, Result, Ok, Err}
 use Rattle.std.specs.Option.{option_and_then}
 use Rattle.records.specs.Spelling.{GivesUnless}
-use Rattle.exchange.specs.Admissions.{Admission, first_admitted}
+use Rattle.exchange.specs.Admissions.{Admission, is_open, first_admitted}
 use Rattle.exchange.specs.Dialogs.{TellsFault}
 use Rattle.exchange.specs.Messages.{Party}
 use Rattle.exchange.specs.declared.fault.ExchangeFault.{ExchangeFault}
@@ -36,10 +36,12 @@ IsTimed settings readings time = elim (ahead_at settings) [
 abbrev pub IsAdmitted : SettingsValues → (time : ℤ) → Party → (waiting : List ℕ) → Type 0
 IsAdmitted settings time p waiting = first_admitted (admission_at settings time) p waiting ≡ Ok tt
 
--- they aren't, or memory to tell that was wanting; the peer was told why, and the dialog is over
+-- they aren't, or memory to tell that was wanting, where not all records are taken; the peer was
+-- told why, and the dialog is over
 pub record Refuses (settings : SettingsValues) (time : ℤ) (p : Party) (waiting said : List ℕ)
     (ends : Option (Result PeerEnded ServeFault)) : Type 0 where
   pub fault : ExchangeFault
+  pub closed : is_open (admission_at settings time) ≡ false
   pub why : GivesUnless OutOfMemory (Err fault)
       (first_admitted (admission_at settings time) p waiting)
   pub told : Result State ExchangeFault

@@ -86,7 +86,8 @@ pub record AnswersPeer {A C L : Type 0} (state : A → Store) (gave : C → List
   pub leaves : next ≡ unless_over ending (Peer (peer_at last rest))
 
 -- the records of the frame that stood first in a peer's dialog aren't taken, or memory to tell that
--- was wanting: the peer is told, the connection is over, and what is held stays
+-- was wanting, and the settings don't take all: the peer is told, the connection is over, and what
+-- is held stays
 pub record RefusesPeer {A C L : Type 0} (state : A → Store) (gave : C → List ℤ → C → Type 0)
     (v : World A C L) (peer : PeerDialog) (made : List ℕ) (ending : Option ConversationEnding)
     (w : World A C L) (next : OtherEnd) : Type 0 where

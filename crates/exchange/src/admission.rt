@@ -1,6 +1,6 @@
 //! Which records are taken from peers.
 
-ghost use Rattle.std.specs.Prelude.{◌≡◌, ◌==◌, Ok, Err};
+ghost use Rattle.std.specs.Prelude.{◌≡◌, ◌==◌, false, Ok, Err, IfErr};
 ghost use Rattle.std.specs.List.{list_any};
 ghost use Rattle.records.specs.Spelling.{GivesUnless};
 ghost use Rattle.exchange.specs.declared.fault.ExchangeFault.TheVariants as fault;
@@ -106,16 +106,17 @@ impl<'a> Admission<'a> {
 impl<A: Archive> Replica<A> {
     /// Whether the records of the frame that stands first are taken, if it is whole, or why the first that isn't is not:
     /// `NotAdmitted`, or else `AheadOfClock`. What is no frame, or no message to this replica, is left to the dialog. The
-    /// frame stays where it is. The other error is `OutOfMemory`.
+    /// frame stays where it is. The other error is `OutOfMemory`; where all records are taken, there is none.
     pub fn judge_first(
         &self,
         alloc: Global,
         admission: &Admission<'_>,
         frames: &Frames,
     ) -> Result<(), ExchangeFault>
-        ensures { GivesUnless fault.OutOfMemory result
+        ensures judged { GivesUnless fault.OutOfMemory result
             (first_admitted (admission_of admission.now)
             (party_of (A.state self.now.archive)) frames.now.waiting) }
+        ensures closed { IfErr result (λ _. is_open (admission_of admission.now) ≡ false) }
     {
         if admission.is_open() {
             return Ok(());
