@@ -1,13 +1,17 @@
 -- What the statements of a record's transaction do.
-use Rattle.std.proofs.Common.{◌≡◌, arith, ℕ, ℤ, pos, not, ◌&&◌, Bool, true, false, List, [], ◌∷◌, ◌++◌, drop, length, map, filter, unwrap_or, Ok, Err, Result, OnOk, IfOk, refl, sym, ap, subst, subst₂, ◌∙◌, IsPermutation}
+use Rattle.std.proofs.Common.{◌≡◌, ◌≤◌, arith, ℕ, ℤ, pos, not, ◌&&◌, Bool, true, false, List, [], ◌∷◌, ◌++◌, drop, length, map, filter, unwrap_or, Ok, Err, Result, OnOk, IfOk, refl, sym, ap, ap₂, subst, subst₂, ◌∙◌, IsPermutation}
 use Rattle.std.specs.List.{list_all, AllByRecursion}
 use Rattle.std.proofs.lemmas.List.{map-append, length-map}
 use Rattle.std.proofs.lemmas.List.Sorted.{length_permutation, IsPermutation-trans, IsPermutation-map, IsPermutation-append, IsPermutation-refl}
 use Rattle.sqlite_value.specs.declared.value.Value.{Value}
-use Rattle.sqlite_value.specs.declared.value.Value.TheVariants.{Null, Int, Blob}
+use Rattle.sqlite_value.specs.declared.value.Value.TheVariants.{Null, Int, Real, Text, Blob}
 use Rattle.sqlite_value.specs.declared.keys.Collation.{Collation}
 use Rattle.sqlite_value.specs.declared.keys.Collation.TheVariants.{Binary}
-use Rattle.sqlite_value.specs.Order.{Row, column}
+use Rattle.sqlite_value.specs.Order.{Row, column, value_cmp}
+use Rattle.sqlite_value.proofs.OrderLemmas.{value_cmp_total}
+use Rattle.std.specs.Ordering.{is_eq}
+use Rattle.std.proofs.lemmas.Bool.{false≢true}
+use Rattle.std.proofs.lemmas.Cmp.{tied_itself}
 use Rattle.sqlite_sql.specs.Ops.{is_null, is_true, unary}
 use Rattle.sqlite_sql.specs.Term.{Term, lit, col, op1, op2, holds, eval_all}
 use Rattle.sqlite_sql.specs.declared.ops.UnaryOp.TheVariants.{Not}
@@ -24,10 +28,11 @@ use Rattle.sqlite_rules.specs.declared.error.Rowids.TheVariants.{Chosen, Given}
 use Rattle.sqlite_rules.specs.Cast.{cast, cast_row}
 use Rattle.sqlite_rules.specs.Calls.{ids_of}
 use Rattle.sqlite_rules.specs.Edit.{numbered, put_all, are_fresh, have_rowids, without_all, id_in}
-use Rattle.sqlite_trees.specs.Tree.{Trees, rowid, with_tree}
+use Rattle.sqlite_trees.specs.Tree.{Trees, IsAscending, rowid, with_tree}
+use Rattle.sqlite_trees.specs.View.{is_int}
 use Rattle.sqlite_trees.specs.Objects.{catalog_tree}
 use Rattle.sqlite_catalog.specs.Listing.{Lists}
-use Rattle.sqlite_keyed.proofs.ListLemmas.{filter_same, filter_all, all_weaker, all_unmap, map_same, map-map}
+use Rattle.sqlite_keyed.proofs.ListLemmas.{ascending-filter, all-filter, all_both, filter_same, filter_all, all_weaker, all_unmap, map_same, map-map}
 use Rattle.sqlite_tied.specs.Compute.{everything}
 use Rattle.sqlite.specs.Listing.{understood}
 use Rattle.sqlite.specs.Does.{Tally}
@@ -45,7 +50,8 @@ use Rattle.sql_tables.proofs.WriteLemmas.{apart_by, cast_int}
 use Rattle.sql_tables.proofs.RemoveLemmas.{ids_where, left_without, same_taken}
 use Rattle.sql_tables.proofs.ChangeLemmas.{PutsIn, Sets, into_currents, into_vectors, set_vectors, put_in, put_beside, all_more, as_given, unnumbered, given}
 use Rattle.sql_tables.proofs.DerivedLemmas.{first_made}
-use Rattle.sql_tables.proofs.AgreeLemmas.{none_of, none_passes}
+use Rattle.sql_tables.proofs.AgreeLemmas.{int_same, none_of, none_passes}
+use Rattle.sql_tables.proofs.RaiseLemmas.{filter_true}
 use Rattle.sql_tables.proofs.MadeLemmas.{asking, asked_all, cast_live, currents_from, currents_project, currents_put, none_later, laters, vectors_from, vectors_project, vectors_put, as_vector, eq, one_true}
 
 -- ---- rows are taken out
@@ -355,6 +361,23 @@ single_by b [] e = absurd (omega (arith, e))
 single_by b (x ∷ []) e = refl
 single_by b (x ∷ y ∷ xs) e = absurd (omega (arith, e))
 
+whole_same : (v : Value) (n : ℤ) → is_int v ≡ true → same v (Int n) ≡ true → v ≡ Int n
+whole_same Null n kind e = absurd (let no = kind in cc)
+whole_same (Int m) n kind e = int_same (Int m) n refl e
+whole_same (Real x) n kind e = absurd (let no = kind in cc)
+whole_same (Text t) n kind e = absurd (let no = kind in cc)
+whole_same (Blob b) n kind e = absurd (let no = kind in cc)
+
+-- of rows whose ids are apart at most one has this one
+few_by : (n : ℤ) (rows : List Row)
+    → IsAscending (λ a b. is_eq (value_cmp (rowid a) (rowid b)) ≡ false) rows
+    → AllByRecursion (λ r. rowid r ≡ Int n) rows → length rows ≤ 1
+few_by n [] up all = omega arith
+few_by n (a ∷ []) up all = omega arith
+few_by n (a ∷ b ∷ rows) up all =
+    absurd (false≢true (sym up.0.0 ∙ ap₂ (λ x y. is_eq (value_cmp x y)) all.0 all.1.0
+    ∙ ap is_eq (tied_itself value_cmp_total (Int n))))
+
 -- what an UPDATE of an origin's row leaves, where there was none and where there was one
 module _ (origin number tick : ℤ) (db : Trees) (tally : Tally) (after : Database)
     (it : Sets fourth_table set_vector (Int origin ∷ Int number ∷ Int tick ∷ []) db tally after)
@@ -405,6 +428,22 @@ module _ (origin number tick : ℤ) (db : Trees) (tally : Tally) (after : Databa
     set_count : (count : ℕ) → count ≡ unwrap_or tally.rows 0 → count ≡ length it.rows
     set_count count e = e ∙ ap (λ o. unwrap_or o 0) it.counted ∙ ap length set_news
         ∙ length-map it.rows (λ s. cast_row fourth_table (drop 1 s))
+
+    set_few : AreNumbered (db 6) → length it.rows ≤ 1
+    set_few numbered =
+        let ours = filter set_passes (db 6) in
+        let many : length ours ≡ length it.rows =
+        sym (length-map ours set_source)
+        ∙ sym (length_permutation (map set_source ours) it.rows set_asked) in
+        let few : length ours ≤ 1 = few_by origin ours
+        (ascending-filter (λ a b. is_eq (value_cmp (rowid a) (rowid b)) ≡ false) set_passes (db 6)
+        numbered.apart)
+        (all_both (λ r. is_int (rowid r) ≡ true) (λ r. set_passes r ≡ true)
+        (λ r. rowid r ≡ Int origin)
+        (λ r kind e. whole_same (rowid r) origin kind (sym (ours_alike r) ∙ e)) ours
+        (all-filter (λ r. is_int (rowid r) ≡ true) set_passes (db 6) numbered.keyed)
+        (filter_true set_passes (db 6))) in
+        omega (arith, many, few)
 
     set_none : length it.rows ≡ 0 → DropsVector origin db after.trees
     set_none e =
@@ -502,6 +541,23 @@ sets_vector origin number tick old new (Ok count) was h =
             (subst (Lists (new.now.trees catalog_tree)) it.schema w.sound.lists);
       },
     )
+
+pub sets_one : (origin number tick : ℤ) (old new : State) (r : Result ℕ Error)
+    → Making archive_schema old → ExecutesInside 0 set_vector_text
+    (Int origin ∷ Int number ∷ Int tick ∷ []) old new r
+    → IfOk r (λ count. AreNumbered (old.now.trees 6) → count ≤ 1)
+sets_one origin number tick old new (Err e) was h = tt
+sets_one origin number tick old new (Ok count) was h = λ numbered.
+    let params = Int origin ∷ Int number ∷ Int tick ∷ [] in
+    let w = runs_as set_vector_text params old new archive_schema was.has
+    (Update 3 set_vector) set_vector_is set_vector_plain count h.0 in
+    let it = set_vectors old w.tally new.now (statement_of set_vector_text
+    (understood archive_schema set_vector_text)) params was.has set_vector w.changed in
+    let as_many : count ≡ length it.rows =
+    set_count origin number tick old.now.trees w.tally new.now it count w.counted in
+    let few : length it.rows ≤ 1 =
+    set_few origin number tick old.now.trees w.tally new.now it numbered in
+    omega (arith, as_many, few)
 
 abbrev four : List Collation
 four = Binary ∷ Binary ∷ Binary ∷ Binary ∷ []

@@ -16,7 +16,7 @@ use Rattle.sqlite_value.proofs.OrderLemmas.{value_cmp_total, value_cmp-Int}
 use Rattle.sqlite_sql.specs.Ops.{binary, is_true, is_null, from_truth, truth, or3}
 use Rattle.sqlite_sql.specs.declared.ops.BinaryOp.TheVariants.{Compare, Or}
 use Rattle.sqlite_sql.specs.declared.ops.CompareOp.TheVariants.{Ne, Lt, Le, Gt, Ge}
-use Rattle.sqlite_keyed.proofs.ListLemmas.{none_from_any, any_from_none, all_map, all_weaker, all_both, all-filter, filter_none, filter-map, IsPermutation-filter}
+use Rattle.sqlite_keyed.proofs.ListLemmas.{none_from_any, any_from_none, all_map, all_weaker, all_both, all-filter, filter_none, filter_same, filter-map, IsPermutation-filter}
 use Rattle.sql_tables.specs.Words.{cells_of}
 use Rattle.sql_tables.specs.Derived.{IsCells, current_of, currents_of, flag, is_later, is_other, is_of, is_current_of, same}
 use Rattle.sql_tables.specs.Keeping.{currents_where}
@@ -109,7 +109,7 @@ up_apart : (a b c d : ℤ) → up c d a b ≡ true → apart a b c d ≡ true
 up_apart a b c d high = grind (arith, high)
 
 -- the same of whole numbers
-abbrev Over : ℤ → ℤ → ℤ → ℤ → Type 0
+abbrev pub Over : ℤ → ℤ → ℤ → ℤ → Type 0
 Over a b c d = (c <ℤ a) ⊎ ((a ≡ c) × (d <ℤ b))
 
 abbrev AtMost : ℤ → ℤ → ℤ → ℤ → Type 0
@@ -135,6 +135,10 @@ down_from a b c d (inr l) = grind (arith, ints, l.0, l.1)
 not_from : (a b c d : ℤ) → AtMost a b c d → up a b c d ≡ false
 not_from a b c d (inl l) = grind (arith, ints, l)
 not_from a b c d (inr l) = grind (arith, ints, l.0, l.1)
+
+not_down : (a b c d : ℤ) → Over a b c d → down a b c d ≡ false
+not_down a b c d (inl l) = grind (arith, ints, l)
+not_down a b c d (inr l) = grind (arith, ints, l.0, l.1)
 
 over_most : (a b c d e f : ℤ) → Over a b c d → AtMost e f c d → Over a b e f
 over_most a b c d e f (inl l) (inl m) = inl (grind (arith, ints, l, m))
@@ -219,6 +223,12 @@ same_both u v w nu nv nw p q =
     ∙ (value_cmp_total.antisymm w v ∙ ap ordering_reverse b))
 
 -- ---- lists
+
+turned_and : (a b : Bool) → (a && b) ≡ (b && a)
+turned_and true true = refl
+turned_and true false = refl
+turned_and false true = refl
+turned_and false false = refl
 
 pub filter_true : {A : Type 0} (p : A → Bool) (xs : List A)
     → AllByRecursion (λ x. p x ≡ true) (filter p xs)
@@ -366,6 +376,34 @@ module _ (origin number tick : ℤ) (node : List ℕ) (time pico asked : ℤ) (w
   abbrev pub marked : Row → Row
   marked c = column c 0 ∷ column c 1 ∷ column c 2 ∷ column c 3 ∷ column c 4 ∷ column c 5
       ∷ flag true ∷ column c 7 ∷ []
+
+  -- where one row of currents2 is of the moment, the rows that pass are that one or none
+  module _ (C : List Row) (current : Row) (only : filter (is_current_of node time pico) C
+      ≡ current ∷ []) (a b : ℤ) (tick_is : column current 3 ≡ Int a)
+      (origin_is : column current 4 ≡ Int b) where
+    of_one : (q : Row → Bool) (pass : Bool) → q current ≡ pass
+        → filter (λ c. is_current_of node time pico c && q c) C ≡ cond pass (current ∷ []) []
+    of_one q pass e =
+        filter_same (λ c. is_current_of node time pico c && q c)
+        (λ c. q c && is_current_of node time pico c)
+        (λ c. turned_and (is_current_of node time pico c) (q c)) C
+        ∙ sym (both_filters q (is_current_of node time pico) C) ∙ ap (filter q) only
+        ∙ ap (λ p. cond p (current ∷ []) []) e
+
+    pub one_raised : Over tick origin a b → length (filter is_raised C) ≡ 1
+    one_raised over = ap length (of_one (λ c. not_more (column c 3) (column c 4) (Int tick)
+        (Int origin)) true (ap₂ (λ x y. not_more x y (Int tick) (Int origin)) tick_is origin_is
+        ∙ down_is a b tick origin ∙ down_from a b tick origin over))
+
+    pub none_raised : Over a b tick origin → length (filter is_raised C) ≡ 0
+    none_raised over = ap length (of_one (λ c. not_more (column c 3) (column c 4) (Int tick)
+        (Int origin)) false (ap₂ (λ x y. not_more x y (Int tick) (Int origin)) tick_is origin_is
+        ∙ down_is a b tick origin ∙ not_down a b tick origin over))
+
+    pub one_passed : Over a b tick origin → length (filter is_passed C) ≡ 1
+    one_passed over = ap length (of_one (λ c. not_less (column c 3) (column c 4) (Int tick)
+        (Int origin)) true (ap₂ (λ x y. not_less x y (Int tick) (Int origin)) tick_is origin_is
+        ∙ up_is a b tick origin ∙ up_from a b tick origin over))
 
   below_is : (r : Row) (b : IsCells r) → not_more (column r 2) (column r 0) (Int tick) (Int origin)
       ≡ down b.tick b.origin tick origin

@@ -1,5 +1,5 @@
 -- What the statements do that renew a row of currents2.
-use Rattle.std.proofs.Common.{◌≡◌, ℕ, ℤ, pos, not, ◌&&◌, Bool, true, List, [], ◌∷◌, ◌++◌, drop, length, map, filter, unwrap_or, Ok, Err, Result, IfOk, refl, sym, ap, ap₂, subst, subst₂, ◌∙◌, IsPermutation}
+use Rattle.std.proofs.Common.{◌≡◌, ◌⊎◌, inl, inr, ℕ, ℤ, pos, not, ◌&&◌, Bool, true, List, [], ◌∷◌, ◌++◌, drop, length, map, filter, unwrap_or, Ok, Err, Result, IfOk, refl, sym, ap, ap₂, subst, subst₂, ◌∙◌, IsPermutation}
 use Rattle.std.specs.List.{list_all, list_any, AllByRecursion}
 use Rattle.std.proofs.lemmas.Bool.{and_parts}
 use Rattle.std.proofs.lemmas.List.{map-append, length-map}
@@ -34,7 +34,7 @@ use Rattle.sql_schema.specs.Tables.{archive_schema, third_table}
 use Rattle.sql_tables.specs.Words.{cells, cells_of}
 use Rattle.sql_tables.specs.State.{Making}
 use Rattle.sql_tables.specs.Derived.{AreNumbered, IsCells, current_of, currents_of, current_columns, flag, is_current_of, is_later, same}
-use Rattle.sql_tables.specs.Keeping.{KeepsBesideCurrents, KeepsTables, Renews}
+use Rattle.sql_tables.specs.Keeping.{KeepsBesideCurrents, KeepsTables, Renews, is_beside, HasOneBeside, HasLaterBeside, RaisesOne, TakesIn}
 use Rattle.sql_tables.proofs.Texts.{raise_current_text, mark_current_text}
 use Rattle.sql_tables.proofs.WriteLemmas.{apart_by, cast_int}
 use Rattle.sql_tables.proofs.ChangeLemmas.{Sets, set_currents, put_beside, all_more, as_given}
@@ -42,7 +42,7 @@ use Rattle.sql_tables.proofs.MadeLemmas.{asking, asked_all, cast_live, eq, regro
 use Rattle.sql_tables.proofs.AgreeLemmas.{int_same, blob_same}
 use Rattle.sql_tables.proofs.KeepLemmas.{removed, empty_by, single_by}
 use Rattle.sql_tables.proofs.KeptLemmas.{filtered_numbered}
-use Rattle.sql_tables.proofs.RaiseLemmas.{is_raised, is_passed, raised, marked, all_permuted, filter_true, raise_follows, mark_follows}
+use Rattle.sql_tables.proofs.RaiseLemmas.{is_raised, is_passed, raised, marked, all_permuted, filter_true, Over, raise_follows, mark_follows, one_raised, none_raised, one_passed}
 
 -- the columns of a row of currents2 are of their kinds
 record HasKinds (c : Row) : Type 0 where
@@ -162,6 +162,9 @@ module _ (tests terms : List Term) (params : Row) (db : Trees) (tally : Tally) (
   many_ours : length ours ≡ length it.rows
   many_ours = sym (length-map ours source)
       ∙ sym (length_permutation (map source ours) it.rows asked)
+
+  as_held : length (filter p held) ≡ length it.rows
+  as_held = ap length (sym ours_held) ∙ length-map ours current_columns ∙ many_ours
 
   one_held : length it.rows ≡ 1 → length (filter p held) ≡ 1
   one_held e = ap length (sym ours_held) ∙ length-map ours current_columns ∙ many_ours ∙ e
@@ -448,3 +451,100 @@ module _ (origin number tick : ℤ) (node : List ℕ) (time pico asked : ℤ) (w
         h.1.committed_is,
         marks old.now.trees w.tally new.now it count w.counted,
       )
+
+  -- ---- how many rows they meet, where one row is of the moment
+
+  raised_one : (db : Trees) (count : ℕ) → count ≡ length (filter later (map current_columns (db 4)))
+      → RaisesOne count row db
+  raised_one db count many one = go one.so
+    where
+      go : (Over one.tick one.origin tick origin ⊎ Over tick origin one.tick one.origin)
+          → (count ≡ 1) ⊎ ((count ≡ 0) × HasLaterBeside row db)
+      go (inl above) = inr (
+        many ∙ none_raised origin number tick node time pico asked who value
+            (map current_columns (db 4)) one.current one.only one.tick one.origin one.stamp.0
+            one.stamp.1 above,
+        record {
+          current = one.current;
+          only = one.only;
+          tick = one.tick;
+          origin = one.origin;
+          stamp = one.stamp;
+          so = above;
+        },
+      )
+      go (inr below) = inl (many ∙ one_raised origin number tick node time pico asked who value
+          (map current_columns (db 4)) one.current one.only one.tick one.origin one.stamp.0
+          one.stamp.1 below)
+
+  pub raises_one : (old new : State) (r : Result ℕ Error) → Making archive_schema old
+      → ExecutesInside 0 raise_current_text raise_params old new r
+      → IfOk r (λ count. RaisesOne count row old.now.trees)
+  raises_one old new (Err e) was h = tt
+  raises_one old new (Ok count) was h =
+      let w = runs_as raise_current_text raise_params old new archive_schema was.has
+      (Update 2 (writes raise_tests raise_terms)) raise_is raise_plain count h.0 in
+      let it = set_currents old w.tally new.now (statement_of raise_current_text
+      (understood archive_schema raise_current_text)) raise_params was.has
+      (writes raise_tests raise_terms) w.changed in
+      raised_one old.now.trees count
+      (as_many raise_tests raise_terms raise_params old.now.trees w.tally new.now it later
+      raise_alike (λ r. refl) count w.counted
+      ∙ sym (as_held raise_tests raise_terms raise_params old.now.trees w.tally new.now it later
+      raise_alike (λ r. refl)))
+
+  pub marks_one : (old new : State) (r : Result ℕ Error) → Making archive_schema old
+      → ExecutesInside 0 mark_current_text mark_params old new r
+      → IfOk r (λ count. HasLaterBeside row old.now.trees → count ≡ 1)
+  marks_one old new (Err e) was h = tt
+  marks_one old new (Ok count) was h = λ one.
+      let w = runs_as mark_current_text mark_params old new archive_schema was.has
+      (Update 2 (writes mark_tests mark_terms)) mark_is mark_plain count h.0 in
+      let it = set_currents old w.tally new.now (statement_of mark_current_text
+      (understood archive_schema mark_current_text)) mark_params was.has
+      (writes mark_tests mark_terms) w.changed in
+      as_many mark_tests mark_terms mark_params old.now.trees w.tally new.now it earlier
+      mark_alike (λ r. refl) count w.counted
+      ∙ sym (as_held mark_tests mark_terms mark_params old.now.trees w.tally new.now it earlier
+      mark_alike (λ r. refl))
+      ∙ one_passed origin number tick node time pico asked who value
+      (map current_columns (old.now.trees 4)) one.current one.only one.tick one.origin
+      one.stamp.0 one.stamp.1 one.so
+
+-- ---- between the calls
+
+pub still_other : (row : Row) (Are : ℤ → ℤ → Type 0) (old new : Trees) → new 4 ≡ old 4
+    → HasOneBeside row Are old → HasOneBeside row Are new
+still_other row Are old new same_rows one = record {
+  current = one.current;
+  only = ap (λ rows. filter (is_beside row) (map current_columns rows)) same_rows ∙ one.only;
+  tick = one.tick;
+  origin = one.origin;
+  stamp = one.stamp;
+  so = one.so;
+}
+
+-- where a statement wrote none, what the next one takes in is taken in by both
+pub behind_none : (row : Row) (old mid new : Trees) → KeepsTables old mid → TakesIn row mid new
+    → TakesIn row old new
+behind_none row old mid new kept took = record {
+  rest = record {
+    meta = took.rest.meta ∙ kept.rest.meta;
+    records = took.rest.records ∙ kept.rest.records;
+    vectors = took.rest.vectors ∙ kept.rest.vectors;
+  };
+  follow = λ a.
+      let after = took.follow (record {
+        others = a.others;
+        records = subst (λ rows. IsPermutation (row ∷ a.others) (cells rows))
+            (sym kept.rest.records) a.records;
+        typed = a.typed;
+        currents = subst (λ rows. IsPermutation (currents_of a.others) (map current_columns rows))
+            (sym kept.currents) a.currents;
+        numbered = subst AreNumbered (sym kept.currents) a.numbered;
+      }) in (
+        subst (λ rows. IsPermutation (currents_of (cells rows)) (map current_columns (new 4)))
+            kept.rest.records after.0,
+        after.1,
+      );
+}

@@ -67,7 +67,7 @@ unread_by row BadField fails = inr (no_spelling row BadField (fails (λ e. searc
 unread_by row NotCanonical fails = inr (no_spelling row NotCanonical (fails (λ e. search rules)))
 unread_by row OutOfMemory fails = inl refl
 
-has_at : {X : Type 0} (xs : List X) (i : ℕ) (d : X) → i < length xs → Has xs (get_or xs i d)
+pub has_at : {X : Type 0} (xs : List X) (i : ℕ) (d : X) → i < length xs → Has xs (get_or xs i d)
 has_at [] i d h = absurd (omega arith)
 has_at (x ∷ xs) zero d h = inl refl
 has_at (x ∷ xs) (suc i) d h = inr (has_at xs i d (omega (arith, h)))

@@ -1,6 +1,6 @@
 -- The writes of one record in one transaction: its row, and the rows of currents2 and of vectors
 -- that it changes.
-use Rattle.std.specs.Prelude.{◌≡◌, true, false, ℕ, ℤ, not, ◌&&◌, Bool, List, [], ◌∷◌, ◌++◌, map, filter, IsPermutation}
+use Rattle.std.specs.Prelude.{◌≡◌, ◌⊎◌, true, false, ℕ, ℤ, ◌<ℤ◌, not, ◌&&◌, Bool, List, [], ◌∷◌, ◌++◌, map, filter, IsPermutation}
 use Rattle.std.specs.List.{list_any, AllByRecursion}
 use Rattle.sqlite_value.specs.declared.value.Value.TheVariants.{Int}
 use Rattle.sqlite_value.specs.Order.{Row, column}
@@ -102,6 +102,49 @@ pub record Renews (count : ℕ) (row : Row) (old new : Trees) : Type 0 where
   pub none : count ≡ 0 → KeepsTables old new
   pub one : count ≡ 1 → TakesIn row old new
 
+-- ---- the row of currents2 that a row of records2 changes
+
+-- the whole number in a column; 0 where there is none
+abbrev pub int_at : Row → ℕ → ℤ
+int_at c at = int_in (column c at)
+
+-- the row of currents2 is of that row's node, time and picoseconds
+abbrev pub is_beside : Row → Row → Bool
+is_beside row c =
+    same (column c 0) (column row 3)
+    && (same (column c 1) (column row 4) && same (column c 2) (column row 5))
+
+-- the stamp of this tick and origin is later than that of the other ones
+abbrev pub IsLaterStamp : (tick origin other_tick other_origin : ℤ) → Type 0
+IsLaterStamp tick origin other_tick other_origin =
+    (other_tick <ℤ tick) ⊎ ((tick ≡ other_tick) × (other_origin <ℤ origin))
+
+-- currents2 has one row of that row's node, time and picoseconds; so are its tick and its origin
+pub record HasOneBeside (row : Row) (Are : ℤ → ℤ → Type 0) (db : Trees) : Type 0 where
+  pub current : Row
+  pub only : filter (is_beside row) (map current_columns (db 4)) ≡ current ∷ []
+  pub tick : ℤ
+  pub origin : ℤ
+  pub stamp : (column current 3 ≡ Int tick) × (column current 4 ≡ Int origin)
+  pub so : Are tick origin
+
+-- that one's stamp is later than the row's
+abbrev pub HasLaterBeside : Row → Trees → Type 0
+HasLaterBeside row =
+    HasOneBeside row (λ tick origin. IsLaterStamp tick origin (int_at row 2) (int_at row 0))
+
+-- that one's stamp is another than the row's
+abbrev pub HasOtherBeside : Row → Trees → Type 0
+HasOtherBeside row =
+    HasOneBeside row
+    (λ tick origin.
+    IsLaterStamp tick origin (int_at row 2) (int_at row 0)
+    ⊎ IsLaterStamp (int_at row 2) (int_at row 0) tick origin)
+
+-- so many rows of currents2 were written: the one of the row's moment, if its stamp is earlier
+abbrev pub RaisesOne : (count : ℕ) → Row → Trees → Type 0
+RaisesOne count row db = HasOtherBeside row db → (count ≡ 1) ⊎ ((count ≡ 0) × HasLaterBeside row db)
+
 -- the row of vectors of this origin is another now, and the tables of an archive are listed
 pub record ChangesVectors (row : Row) (origin : ℤ) (old new : Trees) : Type 0 where
   pub between : Trees
@@ -133,9 +176,6 @@ pub record IsOnly (row : Row) (node : List ℕ) (time pico : ℤ) (db : Trees) :
   pub apart : HasNoneOf node time pico others
   pub currents : AllByRecursion (λ c. is_current_of node time pico c ≡ false)
       (map current_columns (db 4))
-
-abbrev pub int_at : Row → ℕ → ℤ
-int_at c at = int_in (column c at)
 
 -- a record's row is added, and the tables that follow take it in
 pub record Keeps (row : Row) (old new : Trees) : Type 0 where

@@ -1,16 +1,46 @@
 //! The writes of one record in one transaction: its row, and the rows of current values and of vectors that follow.
 
-ghost use Rattle.std.specs.Prelude.{◌≡◌, ◌∷◌, [], false, IfOk, OnErr, IsTrue};
+ghost use Rattle.std.specs.Prelude.{◌≡◌, ◌⊎◌, ◌≤◌, ◌∷◌, [], false, IfOk, IfErr, OnErr, IsTrue};
 ghost use Rattle.sqlite.specs.State.{HasCleanDisk, Survives};
 ghost use Rattle.sqlite.specs.Held.{state};
 ghost use Rattle.sql_schema.specs.Tables.{archive_schema};
 ghost use Rattle.sql_tables.specs.State.{Idles, Making, IsOpenAndIdle};
-ghost use Rattle.sql_tables.specs.Keeping.{AddsRecord, HasNoRowAt, IsOnly, ChangesCurrents, TakesIn, Renews, ChangesVectors, SetsVectors, Keeps, vector_cells, PutsVectors};
+ghost use Rattle.sql_tables.specs.Derived.{AreNumbered};
+ghost use Rattle.sql_tables.specs.Keeping.{AddsRecord, HasNoRowAt, HasLaterBeside, HasOtherBeside, RaisesOne, IsOnly, ChangesCurrents, TakesIn, Renews, ChangesVectors, SetsVectors, Keeps, vector_cells, PutsVectors};
 ghost use Rattle.sql_tables.specs.Connections.{WhereClean, Sees, tables_of, CommitsNothing, KeepsLastCommit, ChangesBy, Writes, WritesListed, Commits};
 ghost use Rattle.sql_tables.specs.Words.{row_of_cells};
 
 use crate::writes::Cells;
 use sqlite::{Alter, Connection, Error, Transaction, params};
+
+/// Why the writes of a record weren't made.
+#[derive(Clone, Copy, Debug)]
+pub(crate) enum Unwritten {
+    /// SQLite refused a statement.
+    Sqlite(Error),
+    /// The row that the record changes isn't there, or isn't the only one: no archive has such tables.
+    NoRow,
+}
+
+impl Unwritten {
+    /// As an error of SQLite.
+    pub(crate) fn error(self) -> Error {
+        match self {
+            Unwritten::Sqlite(error) => error,
+            Unwritten::NoRow => Error::InvalidQuery,
+        }
+    }
+}
+
+impl From<Error> for Unwritten {
+    ghost use Rattle.sql_tables.specs.declared.insert.Unwritten.TheVariants.{Sqlite};
+
+    ghost from_gives = { λ cause told. told ≡ Sqlite cause };
+
+    fn from(cause: Error) -> Unwritten {
+        Unwritten::Sqlite(cause)
+    }
+}
 
 /// Adds the row of a record to `records2`, in a transaction; nothing is committed, and no other table changes.
 pub fn add_record<S: Alter>(tx: &mut Transaction<'_, S>, r: &Cells) -> Result<usize, Error>
@@ -36,6 +66,9 @@ fn raise_current<S: Alter>(tx: &mut Transaction<'_, S>, r: &Cells) -> Result<usi
     ensures made { HasCleanDisk (state S.Store tx.new.conn.now)
         → IfOk result (λ count. ChangesBy S.Store tx.old.conn.now tx.new.conn.now archive_schema
         (Renews count (row_of_cells r.now))) }
+    ensures met { HasCleanDisk (state S.Store tx.new.conn.now)
+        → IfOk result
+        (λ count. RaisesOne count (row_of_cells r.now) (tables_of S.Store tx.old.conn.now)) }
     ensures kept { KeepsLastCommit S.Store tx.old.conn.now tx.new.conn.now }
     ensures same { tx.new.conn.ghost_name ≡ tx.old.conn.ghost_name }
     ensures crash { CommitsNothing S.Store tx.old.conn.now tx.new.conn.now }
@@ -55,6 +88,10 @@ fn mark_current<S: Alter>(tx: &mut Transaction<'_, S>, r: &Cells) -> Result<usiz
     ensures made { HasCleanDisk (state S.Store tx.new.conn.now)
         → IfOk result (λ count. ChangesBy S.Store tx.old.conn.now tx.new.conn.now archive_schema
         (Renews count (row_of_cells r.now))) }
+    ensures met { HasCleanDisk (state S.Store tx.new.conn.now)
+        → IfOk result
+        (λ count. HasLaterBeside (row_of_cells r.now) (tables_of S.Store tx.old.conn.now)
+        → count ≡ 1) }
     ensures kept { KeepsLastCommit S.Store tx.old.conn.now tx.new.conn.now }
     ensures same { tx.new.conn.ghost_name ≡ tx.old.conn.ghost_name }
     ensures crash { CommitsNothing S.Store tx.old.conn.now tx.new.conn.now }
@@ -72,6 +109,8 @@ fn set_vector<S: Alter>(tx: &mut Transaction<'_, S>, r: &Cells) -> Result<usize,
     ensures made { HasCleanDisk (state S.Store tx.new.conn.now)
         → IfOk result (λ count. ChangesBy S.Store tx.old.conn.now tx.new.conn.now archive_schema
         (SetsVectors count (vector_cells r.now.origin r.now.number r.now.tick) r.now.origin)) }
+    ensures met { HasCleanDisk (state S.Store tx.new.conn.now)
+        → IfOk result (λ count. AreNumbered (tables_of S.Store tx.old.conn.now 6) → count ≤ 1) }
     ensures kept { KeepsLastCommit S.Store tx.old.conn.now tx.new.conn.now }
     ensures same { tx.new.conn.ghost_name ≡ tx.old.conn.ghost_name }
     ensures crash { CommitsNothing S.Store tx.old.conn.now tx.new.conn.now }
@@ -116,24 +155,42 @@ fn add_first<S: Alter>(tx: &mut Transaction<'_, S>, r: &Cells) -> Result<usize, 
     )
 }
 
-/// Has the current value of a record's node and time, where others stand, follow from the record too. None there, or
-/// more than one, would be no archive's.
-fn renew_current<S: Alter>(tx: &mut Transaction<'_, S>, r: &Cells) -> Result<(), Error>
+/// Marks the current value of a record's node and time, which has to be later than the record.
+fn mark_later<S: Alter>(tx: &mut Transaction<'_, S>, r: &Cells) -> Result<(), Unwritten>
     requires { WhereClean S.Store tx.old.conn.now (Making archive_schema) }
     ensures made { Writes S.Store tx.old.conn.now tx.new.conn.now archive_schema result
         (TakesIn (row_of_cells r.now)) }
+    ensures awaited { HasCleanDisk (state S.Store tx.new.conn.now)
+        → HasLaterBeside (row_of_cells r.now) (tables_of S.Store tx.old.conn.now)
+        → IfErr result (λ why. why ≡ Unwritten.NoRow → ⊥) }
     ensures kept { KeepsLastCommit S.Store tx.old.conn.now tx.new.conn.now }
     ensures same { tx.new.conn.ghost_name ≡ tx.old.conn.ghost_name }
     ensures crash { CommitsNothing S.Store tx.old.conn.now tx.new.conn.now }
 {
-    let mut written = raise_current(tx, r)?;
-    if written == 0 {
-        written = mark_current(tx, r)?;
+    match mark_current(tx, r)? {
+        1 => Ok(()),
+        _ => Err(Unwritten::NoRow),
     }
-    if written != 1 {
-        return Err(Error::InvalidQuery);
+}
+
+/// Has the current value of a record's node and time, where others stand, follow from the record too. None there, or
+/// more than one, would be no archive's.
+fn renew_current<S: Alter>(tx: &mut Transaction<'_, S>, r: &Cells) -> Result<(), Unwritten>
+    requires { WhereClean S.Store tx.old.conn.now (Making archive_schema) }
+    ensures made { Writes S.Store tx.old.conn.now tx.new.conn.now archive_schema result
+        (TakesIn (row_of_cells r.now)) }
+    ensures awaited { HasCleanDisk (state S.Store tx.new.conn.now)
+        → HasOtherBeside (row_of_cells r.now) (tables_of S.Store tx.old.conn.now)
+        → IfErr result (λ why. why ≡ Unwritten.NoRow → ⊥) }
+    ensures kept { KeepsLastCommit S.Store tx.old.conn.now tx.new.conn.now }
+    ensures same { tx.new.conn.ghost_name ≡ tx.old.conn.ghost_name }
+    ensures crash { CommitsNothing S.Store tx.old.conn.now tx.new.conn.now }
+{
+    match raise_current(tx, r)? {
+        0 => mark_later(tx, r),
+        1 => Ok(()),
+        _ => Err(Unwritten::NoRow),
     }
-    Ok(())
 }
 
 /// Makes the current value of a record's node and time; `first` tells that no other record stands there.
@@ -141,13 +198,16 @@ fn change_current<S: Alter>(
     tx: &mut Transaction<'_, S>,
     r: &Cells,
     first: bool,
-) -> Result<(), Error>
+) -> Result<(), Unwritten>
     requires making { WhereClean S.Store tx.old.conn.now (Making archive_schema) }
     requires only { IsTrue first → HasCleanDisk (state S.Store tx.old.conn.now)
         → IsOnly (row_of_cells r.now) r.now.node.items r.now.time r.now.pico
         (tables_of S.Store tx.old.conn.now) }
     ensures made { Writes S.Store tx.old.conn.now tx.new.conn.now archive_schema result
         (TakesIn (row_of_cells r.now)) }
+    ensures awaited { HasCleanDisk (state S.Store tx.new.conn.now)
+        → IsTrue first ⊎ HasOtherBeside (row_of_cells r.now) (tables_of S.Store tx.old.conn.now)
+        → IfErr result (λ why. why ≡ Unwritten.NoRow → ⊥) }
     ensures kept { KeepsLastCommit S.Store tx.old.conn.now tx.new.conn.now }
     ensures same { tx.new.conn.ghost_name ≡ tx.old.conn.ghost_name }
     ensures crash { CommitsNothing S.Store tx.old.conn.now tx.new.conn.now }
@@ -160,10 +220,13 @@ fn change_current<S: Alter>(
 }
 
 /// Makes a record's number the last of its origin. More rows than one of an origin would be no archive's.
-fn change_vector<S: Alter>(tx: &mut Transaction<'_, S>, r: &Cells) -> Result<(), Error>
+fn change_vector<S: Alter>(tx: &mut Transaction<'_, S>, r: &Cells) -> Result<(), Unwritten>
     requires { WhereClean S.Store tx.old.conn.now (Making archive_schema) }
     ensures made { Writes S.Store tx.old.conn.now tx.new.conn.now archive_schema result
         (ChangesVectors (vector_cells r.now.origin r.now.number r.now.tick) r.now.origin) }
+    ensures awaited { HasCleanDisk (state S.Store tx.new.conn.now)
+        → AreNumbered (tables_of S.Store tx.old.conn.now 6)
+        → IfErr result (λ why. why ≡ Unwritten.NoRow → ⊥) }
     ensures kept { KeepsLastCommit S.Store tx.old.conn.now tx.new.conn.now }
     ensures same { tx.new.conn.ghost_name ≡ tx.old.conn.ghost_name }
     ensures crash { CommitsNothing S.Store tx.old.conn.now tx.new.conn.now }
@@ -174,17 +237,21 @@ fn change_vector<S: Alter>(tx: &mut Transaction<'_, S>, r: &Cells) -> Result<(),
             Ok(())
         }
         1 => Ok(()),
-        _ => Err(Error::InvalidQuery),
+        _ => Err(Unwritten::NoRow),
     }
 }
 
 /// All writes of a record; `first` tells that no other stands at its node and time.
-fn write_all<S: Alter>(tx: &mut Transaction<'_, S>, r: &Cells, first: bool) -> Result<(), Error>
+fn write_all<S: Alter>(tx: &mut Transaction<'_, S>, r: &Cells, first: bool) -> Result<(), Unwritten>
     requires making { WhereClean S.Store tx.old.conn.now (Making archive_schema) }
     requires free { IsTrue first → HasCleanDisk (state S.Store tx.old.conn.now)
         → HasNoRowAt r.now.node.items r.now.time r.now.pico (tables_of S.Store tx.old.conn.now) }
     ensures made { Writes S.Store tx.old.conn.now tx.new.conn.now archive_schema result
         (Keeps (row_of_cells r.now)) }
+    ensures awaited { HasCleanDisk (state S.Store tx.new.conn.now)
+        → IsTrue first ⊎ HasOtherBeside (row_of_cells r.now) (tables_of S.Store tx.old.conn.now)
+        → AreNumbered (tables_of S.Store tx.old.conn.now 6)
+        → IfErr result (λ why. why ≡ Unwritten.NoRow → ⊥) }
     ensures kept { KeepsLastCommit S.Store tx.old.conn.now tx.new.conn.now }
     ensures same { tx.new.conn.ghost_name ≡ tx.old.conn.ghost_name }
     ensures crash { CommitsNothing S.Store tx.old.conn.now tx.new.conn.now }
@@ -196,12 +263,20 @@ fn write_all<S: Alter>(tx: &mut Transaction<'_, S>, r: &Cells, first: bool) -> R
 }
 
 /// All of them, in one commit, or none.
-pub(crate) fn keep<S: Alter>(conn: &mut Connection<S>, r: &Cells, first: bool) -> Result<(), Error>
+pub(crate) fn keep<S: Alter>(
+    conn: &mut Connection<S>,
+    r: &Cells,
+    first: bool,
+) -> Result<(), Unwritten>
     requires idle { conn.old.in_transaction ≡ false }
     requires idles { WhereClean S.Store conn.old Idles }
     requires free { IsTrue first → HasCleanDisk (state S.Store conn.old)
         → HasNoRowAt r.now.node.items r.now.time r.now.pico (tables_of S.Store conn.old) }
     ensures made { Commits S.Store conn.old conn.new result (Keeps (row_of_cells r.now)) }
+    ensures awaited { HasCleanDisk (state S.Store conn.new)
+        → IsTrue first ⊎ HasOtherBeside (row_of_cells r.now) (tables_of S.Store conn.old)
+        → AreNumbered (tables_of S.Store conn.old 6)
+        → IfErr result (λ why. why ≡ Unwritten.NoRow → ⊥) }
     ensures refused { HasCleanDisk (state S.Store conn.new)
         → IsTrue (state S.Store conn.new).is_open
         → OnErr result (IsOpenAndIdle (state S.Store conn.new)
@@ -211,5 +286,6 @@ pub(crate) fn keep<S: Alter>(conn: &mut Connection<S>, r: &Cells, first: bool) -
 {
     let mut tx = conn.transaction();
     write_all(&mut tx, r, first)?;
-    tx.commit()
+    tx.commit()?;
+    Ok(())
 }

@@ -127,7 +127,8 @@ fn ids_in<S: Alter>(conn: &mut Connection<S>, sql: &str) -> Result<u64, StoreFau
 
 /// Whether these are no rows.
 pub(crate) fn are_none(rows: &[Row]) -> bool
-    ensures { IsTrue result → rows.now ≡ [] }
+    ensures none { IsTrue result → rows.now ≡ [] }
+    ensures some { result ≡ false → rows.now ≡ [] → ⊥ }
 {
     match rows {
         [] => true,
@@ -187,6 +188,7 @@ fn currents_held<S: Alter>(conn: &mut Connection<S>) -> Result<u64, StoreFault>
 fn agree(fit: bool, wanted: u64, held: u64) -> Result<(), StoreFault>
     ensures same { OnOk result (IsTrue fit × (wanted ≡ held)) }
     ensures met { IfErr result (λ fault. IsOfOpening fault → ⊥) }
+    ensures refused { IfErr result (λ _. IsTrue fit → wanted ≡ held → ⊥) }
 {
     if fit && wanted == held {
         return Ok(());

@@ -1,6 +1,6 @@
 //! The writes of a record.
 
-ghost use Rattle.std.specs.Prelude.{◌≡◌, ◌≢◌, IfOk, IfErr, IsTrue};
+ghost use Rattle.std.specs.Prelude.{◌≡◌, ◌≢◌, false, IfOk, IfErr, IsTrue};
 ghost use Rattle.sqlite.specs.State.{HasCleanDisk, Survives};
 ghost use Rattle.sqlite.specs.Held.{state};
 ghost use Rattle.archive.specs.Store.{IsOfOpening};
@@ -43,8 +43,10 @@ pub struct Cells {
 fn is_first<S: Alter>(conn: &mut Connection<S>, r: &Cells) -> Result<bool, StoreFault>
     requires { WhereClean S.Store conn.old Idles }
     ensures { LeavesUnchanged (state S.Store conn.old) (state S.Store conn.new) result
-        (λ first. IsTrue first
-        → HasNoneOf r.now.node.items r.now.time r.now.pico (cells (tables_of S.Store conn.old 1))) }
+        (λ first. (IsTrue first → HasNoneOf r.now.node.items r.now.time r.now.pico
+        (cells (tables_of S.Store conn.old 1)))
+        × (first ≡ false → HasNoneOf r.now.node.items r.now.time r.now.pico
+        (cells (tables_of S.Store conn.old 1)) → ⊥)) }
 {
     let rows = select(
         conn,
@@ -76,7 +78,7 @@ fn write_cells<S: Alter>(conn: &mut Connection<S>, r: &Cells, first: bool) -> Re
     }
     match keep(conn, r, first) {
         Ok(()) => Ok(()),
-        Err(error) => Err(fault_of(conn, error)),
+        Err(why) => Err(fault_of(conn, why.error())),
     }
 }
 

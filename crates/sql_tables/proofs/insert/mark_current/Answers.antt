@@ -2,7 +2,7 @@ use Rattle.std.proofs.Common.{arith}
 use Rattle.sqlite.specs.State.{HasCleanDisk}
 use Rattle.sqlite.specs.Held.{state}
 use Rattle.sql_tables.proofs.WriteLemmas.{keeps_commit}
-use Rattle.sql_tables.proofs.RenewLemmas.{marks_current}
+use Rattle.sql_tables.proofs.RenewLemmas.{marks_current, marks_one}
 use Rattle.sql_tables.proofs.insert.mark_current.Goals as goal
 
 pub returns-clause-made : goal.returns-clause-made
@@ -12,6 +12,22 @@ returns-clause-made g c clean =
     let was = c.requires early in
     let r = c.args.r.now in
     marks_current r.origin r.number r.tick r.node.items r.time r.pico r.asked r.who.items
+    r.value.items old (state g.S.Store c.execute.new.self.conn.now) c.execute.result was
+    (rw (
+      c.params-to_sql.ensures,
+      c.params-to_sql-2.ensures,
+      c.params-to_sql-3.ensures,
+      c.params-to_sql-4.ensures,
+      c.params-to_sql-5.ensures,
+    ) at (c.execute.ensures.runs clean was.inside))
+
+pub returns-clause-met : goal.returns-clause-met
+returns-clause-met g c clean =
+    let old = state g.S.Store c.args.tx.now.conn.now in
+    let early : HasCleanDisk old = omega (arith, c.execute.ensures.survives.clean, clean) in
+    let was = c.requires early in
+    let r = c.args.r.now in
+    marks_one r.origin r.number r.tick r.node.items r.time r.pico r.asked r.who.items
     r.value.items old (state g.S.Store c.execute.new.self.conn.now) c.execute.result was
     (rw (
       c.params-to_sql.ensures,

@@ -2,7 +2,7 @@ use Rattle.std.proofs.Common.{arith}
 use Rattle.sqlite.specs.State.{HasCleanDisk}
 use Rattle.sqlite.specs.Held.{state}
 use Rattle.sql_tables.proofs.WriteLemmas.{keeps_commit}
-use Rattle.sql_tables.proofs.KeepLemmas.{sets_vector}
+use Rattle.sql_tables.proofs.KeepLemmas.{sets_vector, sets_one}
 use Rattle.sql_tables.proofs.insert.set_vector.Goals as goal
 
 pub returns-clause-made : goal.returns-clause-made
@@ -12,6 +12,17 @@ returns-clause-made g c clean =
     let was = c.requires early in
     let r = c.args.r.now in
     sets_vector r.origin r.number r.tick old
+    (state g.S.Store c.execute.new.self.conn.now) c.execute.result was
+    (rw (c.params-to_sql.ensures, c.params-to_sql-2.ensures, c.params-to_sql-3.ensures) at
+    (c.execute.ensures.runs clean was.inside))
+
+pub returns-clause-met : goal.returns-clause-met
+returns-clause-met g c clean =
+    let old = state g.S.Store c.args.tx.now.conn.now in
+    let early : HasCleanDisk old = omega (arith, c.execute.ensures.survives.clean, clean) in
+    let was = c.requires early in
+    let r = c.args.r.now in
+    sets_one r.origin r.number r.tick old
     (state g.S.Store c.execute.new.self.conn.now) c.execute.result was
     (rw (c.params-to_sql.ensures, c.params-to_sql-2.ensures, c.params-to_sql-3.ensures) at
     (c.execute.ensures.runs clean was.inside))

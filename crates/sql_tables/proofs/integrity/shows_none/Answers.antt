@@ -11,7 +11,7 @@ returns g c =
     record {
       answer = λ clean none.
           let empty : c.in_ok-rows.rows.items ≡ [] =
-          (rw c.deref.ensures.value at c.are_none.ensures) none in
+          (rw c.deref.ensures.value at c.are_none.ensures.none) none in
           subst (λ rows. ShowsOf c.args.sql.now old.now rows) empty
           (shows_of c.args.sql.now old
           (state g.S.Store c.select.new.conn) c.in_ok-rows.rows.items

@@ -1,6 +1,6 @@
 use Rattle.std.proofs.Common.{◌≡◌, refl, arith, []}
 use Rattle.sqlite.specs.Held.{state}
-use Rattle.sql_tables.proofs.FreeLemmas.{none_at, some_at_plain}
+use Rattle.sql_tables.proofs.FreeLemmas.{none_at, none_shown, some_at_plain}
 use Rattle.sql_tables.proofs.writes.is_first.Goals as goal
 
 pub select-requires-clause-plain : goal.select-requires-clause-plain
@@ -12,13 +12,20 @@ returns g c =
     let old = state g.S.Store c.args.conn.now in
     let r = c.args.r.now in
     record {
-      answer = λ clean first.
-          let empty : c.in_ok-rows.rows.items ≡ [] =
-          (rw c.deref.ensures.value at c.are_none.ensures) first in
-          none_at old (state g.S.Store c.select.new.conn) r.node.items r.time r.pico
-          c.in_ok-rows.rows.items (c.requires (omega (arith, e.crash.clean, clean))).tables
-          (rw (c.params-to_sql.ensures, c.params-to_sql-2.ensures, c.params-to_sql-3.ensures) at
-          (e.answer clean)) empty;
+      answer = λ clean.
+          let tables = (c.requires (omega (arith, e.crash.clean, clean))).tables in
+          let shown = rw (
+            c.params-to_sql.ensures,
+            c.params-to_sql-2.ensures,
+            c.params-to_sql-3.ensures,
+          ) at (e.answer clean) in (
+            λ first. none_at old (state g.S.Store c.select.new.conn) r.node.items r.time r.pico
+                c.in_ok-rows.rows.items tables shown
+                ((rw c.deref.ensures.value at c.are_none.ensures.none) first),
+            λ more none. (rw c.deref.ensures.value at c.are_none.ensures.some) more
+                (none_shown old (state g.S.Store c.select.new.conn) r.node.items r.time r.pico
+                c.in_ok-rows.rows.items tables shown none),
+          );
       kept = λ clean ok. e.kept clean refl;
       met = tt;
       crash = e.crash;
