@@ -3,3 +3,4 @@ pub mod FirstLemmas
 pub mod RenewLemmas
 pub mod AgainLemmas
 pub mod ClearLemmas
+pub mod UnreadLemmas

@@ -3,3 +3,4 @@ pub mod Opening
 pub mod Renewing
 pub mod Again
 pub mod Clearing
+pub mod Unread

@@ -1,6 +1,6 @@
 //! A store of format 1, whose moments have no picoseconds: its tables are made anew, in one commit.
 
-ghost use Rattle.std.specs.Prelude.{◌≡◌, ◌<◌, [], false, true, map, IfOk, IfErr, OnOk, IsTrue, IsPermutation, Err};
+ghost use Rattle.std.specs.Prelude.{◌≡◌, ◌⊎◌, ◌<◌, ℕ, List, [], false, true, map, IfOk, IfErr, OnOk, IsTrue, IsPermutation, Err};
 ghost use Rattle.sqlite.specs.State.{HasCleanDisk, Survives, IsUnchanged};
 ghost use Rattle.sqlite.specs.Held.{state};
 ghost use Rattle.sqlite_value.specs.Order.{column};
@@ -14,6 +14,7 @@ ghost use Rattle.sql_tables.specs.Rows.{row_of};
 ghost use Rattle.sql_tables.specs.State.{Found, Making, IsOpenAndIdle, shown_of};
 ghost use Rattle.sql_opening.specs.Renewing.{cells1, current1, IsRead1, IsRenewed, IsTurned, PutsRecords};
 ghost use Rattle.sql_opening.specs.Opening.{OpensV1};
+ghost use Rattle.sql_opening.specs.Unread.{IsNoCells};
 ghost use Rattle.sql_tables.specs.Connections.{WhereClean, HasSchema, tables_of, CommitsNothing, Writes, MakesSchema, Commits};
 ghost use Rattle.sql_tables.specs.Words.{row_of_cells};
 
@@ -163,16 +164,21 @@ fn drop_tables<S: Alter>(tx: &mut Transaction<'_, S>) -> Result<(), Error>
 
 /// A copy of the bytes in a column.
 fn copy_at(alloc: Global, row: &Row, at: usize) -> Result<Vec<u8>, RecordFault>
-    ensures { IfOk result (λ b. column row.now at ≡ value.Blob b.items) }
+    ensures found { IfOk result (λ b. column row.now at ≡ value.Blob b.items) }
+    ensures unread { IfErr result (λ fault. (fault ≡ RecordFault.OutOfMemory)
+        ⊎ ((b : List ℕ) → column row.now at ≡ value.Blob b → ⊥)) }
 {
     let mut out = Vec::new(alloc);
     out.extend_from_slice(bytes_at(row, at)?)?;
     Ok(out)
 }
 
-/// A record as its row has it.
+/// A record as its row has it; the fault is want of memory, or that of a row with another kind of column.
+#[tactic(auto, using(crate::proofs::UnreadLemmas::no_node, crate::proofs::UnreadLemmas::no_user, crate::proofs::UnreadLemmas::no_value, crate::proofs::UnreadLemmas::no_origin, crate::proofs::UnreadLemmas::no_number, crate::proofs::UnreadLemmas::no_tick, crate::proofs::UnreadLemmas::no_time, crate::proofs::UnreadLemmas::no_pico, crate::proofs::UnreadLemmas::no_asked))]
 fn cells_in(alloc: Global, row: &Row) -> Result<Cells, RecordFault>
-    ensures { IfOk result (λ c. shown_of row.now ≡ row_of_cells c) }
+    ensures found { IfOk result (λ c. shown_of row.now ≡ row_of_cells c) }
+    ensures unread { IfErr result (λ fault. (fault ≡ RecordFault.OutOfMemory)
+        ⊎ IsNoCells row.now) }
 {
     let node = copy_at(alloc, row, 3)?;
     let who = copy_at(alloc, row, 7)?;
@@ -191,7 +197,10 @@ fn cells_in(alloc: Global, row: &Row) -> Result<Cells, RecordFault>
 }
 
 /// What a row that can't be put in is told as, inside of a transaction.
-fn error_of(fault: RecordFault) -> Error {
+fn error_of(fault: RecordFault) -> Error
+    ensures { fault ≡ RecordFault.OutOfMemory
+        → result ≡ Error.SqliteFailure ErrorCode.OutOfMemory }
+{
     match fault {
         RecordFault::OutOfMemory => Error::SqliteFailure(ErrorCode::OutOfMemory),
         _ => Error::InvalidQuery,
@@ -200,7 +209,9 @@ fn error_of(fault: RecordFault) -> Error {
 
 /// A record as its row has it, or what ends the transaction.
 fn cells_to_put(alloc: Global, row: &Row) -> Result<Cells, Error>
-    ensures { IfOk result (λ c. shown_of row.now ≡ row_of_cells c) }
+    ensures found { IfOk result (λ c. shown_of row.now ≡ row_of_cells c) }
+    ensures unread { IfErr result (λ error. (error ≡ Error.SqliteFailure ErrorCode.OutOfMemory)
+        ⊎ IsNoCells row.now) }
 {
     match cells_in(alloc, row) {
         Ok(cells) => Ok(cells),

@@ -11,4 +11,4 @@ returns-clause-made g c clean =
     let new = state g.S.Store c.add_record.new.tx.conn.now in
     subst (λ row. OnOk c.add_record.result (Making archive_schema new
     × (new.committed ≡ old.committed) × AddsRecord row old.now.trees new.now.trees))
-    (sym c.in_ok-cells.ensures) (c.add_record.ensures.made clean)
+    (sym c.in_ok-cells.ensures.found) (c.add_record.ensures.made clean)
