@@ -2,7 +2,7 @@
 
 ghost use Rattle.std.specs.Prelude.{◌≡◌, ◌++◌, ◌∷◌, [], IfOk, OnOk, replicate, if◌then◌else◌};
 ghost use Rattle.history_csv.specs.Rows.{value_names, change_names};
-ghost use Rattle.history_report.specs.Tables.{plain, plain_byte, is_first, characters, cell, last_cell, table_line};
+ghost use Rattle.history_report.specs.Tables.{legible, legible_byte, is_first, characters, cell, last_cell, table_line};
 
 use std::alloc::{AllocError, Global};
 
@@ -33,8 +33,8 @@ pub(crate) struct Made<'a> {
 
 /// A byte as it is shown behind the byte before it: one that controls a terminal as `?`, and the
 /// second one of U+0080 to U+009F as that of `¿`.
-fn plain_byte(before: u8, byte: u8) -> u8
-    ensures { result ≡ plain_byte before byte }
+fn legible_byte(before: u8, byte: u8) -> u8
+    ensures { result ≡ legible_byte before byte }
 {
     if before == 194 && byte < 160 {
         191
@@ -47,12 +47,12 @@ fn plain_byte(before: u8, byte: u8) -> u8
 
 /// A text as it is shown, without what controls a terminal.
 fn shown_text(alloc: Global, text: &[u8]) -> Result<Vec<u8>, AllocError>
-    ensures { IfOk result (λ put. put.items ≡ plain text.now) }
+    ensures { IfOk result (λ put. put.items ≡ legible text.now) }
 {
     let mut put = Vec::new(alloc);
     let mut before = 0;
     for byte in text {
-        put.push(plain_byte(before, *byte))?;
+        put.push(legible_byte(before, *byte))?;
         before = *byte;
     }
     Ok(put)

@@ -1,8 +1,8 @@
 use Rattle.std.proofs.Common.{◌≡◌, ◌++◌, drop}
-use Rattle.history_report.specs.Tables.{plain, plain_after}
+use Rattle.history_report.specs.Tables.{legible, legible_after}
 use Rattle.history_report.proofs.table.shown_text.Given as goal
 
 abbrev pub invariant-loop-byte : goal.invariant-loop-byte
 invariant-loop-byte l = record {
-  shows : l.put.items ++ plain_after l.before (drop l.byte-index l.text) ≡ plain l.text;
+  shows : l.put.items ++ legible_after l.before (drop l.byte-index l.text) ≡ legible l.text;
 }
