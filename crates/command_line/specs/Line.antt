@@ -171,14 +171,11 @@ NamesCommand matches name Gives line =
 -- bits that its text spells in decimal digits, and none where it is absent; the count is the one of
 -- 32 bits that its text spells, and the greatest where it is absent.
 abbrev pub IsLine : Option (Text × List Row) → Line → Type 0
-IsLine matches line =
-    elim line [
-      | Answer path flag moment ↦ NamesCommand matches (codes "answer") IsAnswer line
-      | Serve path count ↦ NamesCommand matches (codes "serve") IsServe line
-      | Dump path ↦ NamesCommand matches (codes "dump") IsDump line
-      | Sync path peer ↦ NamesCommand matches (codes "sync") IsSync line
-      | History path words ↦ NamesCommand matches (codes "history") IsHistoryCommand line
-    ]
+IsLine m (Answer path hex now) = NamesCommand m (codes "answer") IsAnswer (Answer path hex now)
+IsLine m (Serve path count) = NamesCommand m (codes "serve") IsServe (Serve path count)
+IsLine m (Dump path) = NamesCommand m (codes "dump") IsDump (Dump path)
+IsLine m (Sync path peer) = NamesCommand m (codes "sync") IsSync (Sync path peer)
+IsLine m (History path it) = NamesCommand m (codes "history") IsHistoryCommand (History path it)
 
 -- no line is so
 abbrev pub NoLine : (Line → Type 0) → Type 0

@@ -116,11 +116,18 @@ moment-line : (fault : OptionFault) (given : Option (List ℕ)) (line : LineFaul
 moment-line fault None line same = cc
 moment-line fault (Some text) line same = found-line fault (moment_in text) line same
 
+-- what three answers give
+abbrev answer_of : Option NodeId → (from to : Result (Option ℤ) ProgramFault) → HistoryWords
+    → Result Report ProgramFault
+answer_of node from to words = do
+  n ← ok_or node (BadOption Node)
+  f ← from
+  t ← to
+  Ok (record { node = n; from = f; to = t; changes = words.changes; csv = words.csv })
+
 words-line : (node : Option NodeId) (from to : Result (Option ℤ) ProgramFault)
     (words : HistoryWords) (line : LineFault) → (from ≡ Err (Line line) → ⊥)
-    → (to ≡ Err (Line line) → ⊥) → (ok_or node (BadOption Node) >>= λ n. from >>= λ f. to >>= λ t.
-    Ok (record { node = n; from = f; to = t; changes = words.changes; csv = words.csv }))
-    ≡ Err {Report} (Line line) → ⊥
+    → (to ≡ Err (Line line) → ⊥) → answer_of node from to words ≡ Err (Line line) → ⊥
 words-line None from to words line no other same = cc
 words-line (Some n) (Err e) to words line no other same = no cc
 words-line (Some n) (Ok f) (Err e) words line no other same = other cc
@@ -136,9 +143,9 @@ asked-line words line same =
 history-line : {A : Type 0} (held : A → Store) (words : HistoryWords) (first last : A)
     (before after : Option (List ℕ)) (line : LineFault)
     → PrintsHistory held words first last before after (Err (Line line)) → ⊥
-history-line held words first last before after line (Err fault, inl asked, (is, stays)) =
+history-line held words first last before after line (Err fault, inl asked, (is, same_archive, stays)) =
     let same : fault ≡ Line line = cc in asked-line words line (sym asked ∙ ap Err same)
-history-line held words first last before after line (Err fault, inr starved, (is, stays)) =
+history-line held words first last before after line (Err fault, inr starved, (is, same_archive, stays)) =
     absurd cc
 history-line held words first last before after line (Ok asked, answered, (printed, prints, is)) =
     reported-line printed line is

@@ -1,6 +1,6 @@
 use Rattle.std.proofs.Common.{ℕ, List, Ok, Err, refl, rules, subst}
 use Rattle.std.specs.Prelude.{Bool, Option}
-use Rattle.ua_server.specs.Program.{OpensBy}
+use Rattle.ua_server.specs.Program.{OpensBy, settings_path}
 use Rattle.ua_server.proofs.program.do_line.Goals as goal
 
 pub returns-in-Err-clause-does : goal.returns-in-Err-clause-does
@@ -11,8 +11,8 @@ returns-in-Err-clause-does g c =
     c.open_server.new.host in (
       Err fault,
       c.open_server.new.host,
-      subst (λ makes. P makes _) c.makes_store.ensures
-          (subst (P _) c.settings_path.ensures c.in-Err.ensures.opens),
+      subst (λ makes. P makes (settings_path c.args.line)) c.makes_store.ensures
+          (subst (P c.makes_store.result) c.settings_path.ensures c.in-Err.ensures.opens),
       (search rules, refl),
     )
 
@@ -24,7 +24,7 @@ returns-in-Ok-clause-does g c =
     (Ok (server.settings, server.replica.archive)) c.args.host.now c.open_server.new.host in (
       Ok (server.settings, server.replica.archive),
       c.open_server.new.host,
-      subst (λ makes. P makes _) c.makes_store.ensures
-          (subst (P _) c.settings_path.ensures c.in-Ok.ensures.opens),
+      subst (λ makes. P makes (settings_path c.args.line)) c.makes_store.ensures
+          (subst (P c.makes_store.result) c.settings_path.ensures c.in-Ok.ensures.opens),
       rw c.new-log.ensures at c.do_over.ensures.does,
     )
