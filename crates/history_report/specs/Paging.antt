@@ -114,6 +114,7 @@ IsSoFar {X} IsLine all rest before now =
     (done : List X) × (lines : List ℕ) × (done ++ rest ≡ all) × AreLines IsLine done lines
     × Appends before now lines
 
+-- the archive was asked without a fault, and so far the lines of the first were printed
 abbrev pub Printing : {X : Type 0} → (X → List ℕ → Type 0) → Store → Store
     → (all rest : Content → List X) → (before now : Option (List ℕ)) → Type 0
 Printing IsLine old new all rest before now =

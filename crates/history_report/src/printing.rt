@@ -30,7 +30,8 @@ fn send_header<W: Write>(
         (λ why. ((why ≡ ReportFault.Write) ⊎ (why ≡ ReportFault.OutOfMemory))
         × AppendsPart (W.contents output.old.inner) (W.contents output.new.inner)
         (header_of report.now)) }
-    ensures write { IsErrOf result ReportFault.Write → output.new.faults ≡ counted output.old.faults }
+    ensures write { IsErrOf result ReportFault.Write
+        → output.new.faults ≡ counted output.old.faults }
     ensures kept { (IsErrOf result ReportFault.Write → ⊥) → output.new.faults ≡ output.old.faults }
 {
     let mut text = Vec::new(alloc);
@@ -56,7 +57,8 @@ fn print_values<A: Archive, W: Write>(
         (λ R. PrintsLines (IsValueLine report.now) (λ h. IsTextless h.value.value) []
         (values_left report.now.node pages R) (W.contents output.old.inner)
         (W.contents output.new.inner) result) }
-    ensures write { IsErrOf result ReportFault.Write → output.new.faults ≡ counted output.old.faults }
+    ensures write { IsErrOf result ReportFault.Write
+        → output.new.faults ≡ counted output.old.faults }
     ensures kept { (IsErrOf result ReportFault.Write → ⊥) → output.new.faults ≡ output.old.faults }
 {
     let mut text = Vec::new(alloc);
@@ -89,7 +91,8 @@ fn print_changes<A: Archive, W: Write>(
         (λ R. PrintsLines (IsChangeLine report.now) (λ e. ShowsTextless e.value) []
         (changes_left report.now.node pages R) (W.contents output.old.inner)
         (W.contents output.new.inner) result) }
-    ensures write { IsErrOf result ReportFault.Write → output.new.faults ≡ counted output.old.faults }
+    ensures write { IsErrOf result ReportFault.Write
+        → output.new.faults ≡ counted output.old.faults }
     ensures kept { (IsErrOf result ReportFault.Write → ⊥) → output.new.faults ≡ output.old.faults }
 {
     let mut text = Vec::new(alloc);
@@ -110,12 +113,12 @@ fn print_changes<A: Archive, W: Write>(
     Err(ReportFault::OutOfMemory)
 }
 
-/// Prints a node's history: a header, and a line for each live value, or for each modification, whose
-/// source time is at `from` or later and before `to`, in the order of time, of one time the newest
-/// modification first. With `csv` a line is a row of CSV, as `history_csv` writes it. Else it is a
-/// line of a table without the node: each field but the last is padded with blanks to its column's
-/// width, and two more, and a byte that controls a terminal is a question mark. The archive stays as
-/// it is. A hundred values are in memory at a time.
+/// Prints a node's history: a header, and a line for each live value, or for each modification,
+/// whose source time is at `from` or later and before `to`, in the order of time, of one time the
+/// newest modification first. With `csv` a line is a row of CSV, as `history_csv` writes it. Else
+/// it is a line of a table without the node: each field but the last is padded with blanks to its
+/// column's width, and two more, and a byte that controls a terminal is a question mark. The
+/// archive stays as it is. At most a hundred values are in memory at a time.
 ///
 /// Errors: `Store` where the archive met a fault of its store, `NoText` where the next value has no
 /// text (all lines before it stand), `Write` where a write failed (the writer's `faults` rose),
@@ -128,7 +131,8 @@ pub fn print_report<A: Archive, W: Write>(
 ) -> Result<(), ReportFault>
     ensures prints { Prints report.now (A.state archive.old) (A.state archive.new)
         (W.contents output.old.inner) (W.contents output.new.inner) result }
-    ensures write { IsErrOf result ReportFault.Write → output.new.faults ≡ counted output.old.faults }
+    ensures write { IsErrOf result ReportFault.Write
+        → output.new.faults ≡ counted output.old.faults }
     ensures kept { (IsErrOf result ReportFault.Write → ⊥) → output.new.faults ≡ output.old.faults }
 {
     let within = match archive.vector() {

@@ -27,8 +27,8 @@ pub(crate) trait Row {
     /// It shows a value that has no text.
     ghost is_textless: { Self → Type 0 };
 
-    /// Appends it as a line. `NoText` says that it shows a value that has no text, and `OutOfMemory`
-    /// that memory ran out; then nothing is appended.
+    /// Appends it as a line. `NoText` says that it shows a value that has no text, and
+    /// `OutOfMemory` that memory ran out; then nothing is appended.
     fn put_line(&self, alloc: Global, report: &Report, out: &mut Vec<u8>) -> Result<(), TextFault>
         ensures written { OnOk result
             (IsPut out.old.items out.new.items (is_line report.now self.now)) }
@@ -95,7 +95,8 @@ pub(crate) fn send_rows<T: Row, W: Write>(
 ) -> Result<(), ReportFault>
     ensures sends { SendsLines (T.is_line report.now) T.is_textless rows.now
         (W.contents output.old.inner) (W.contents output.new.inner) result }
-    ensures write { IsErrOf result ReportFault.Write → output.new.faults ≡ counted output.old.faults }
+    ensures write { IsErrOf result ReportFault.Write
+        → output.new.faults ≡ counted output.old.faults }
     ensures kept { (IsErrOf result ReportFault.Write → ⊥) → output.new.faults ≡ output.old.faults }
 {
     text.clear();
