@@ -6,3 +6,4 @@ pub mod CurrentLemmas
 pub mod AheadLemmas
 pub mod LoopLemmas
 pub mod SinceLemmas
+pub mod ReadableLemmas

@@ -1,4 +1,5 @@
 pub mod Walking
 pub mod Lacked
 pub mod Tables
+pub mod Readable
 pub mod Connections

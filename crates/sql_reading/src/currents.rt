@@ -1,6 +1,6 @@
 //! A node's live values, by the table of current values.
 
-ghost use Rattle.std.specs.Prelude.{◌≡◌, ◌∷◌, ◌⊎◌, [], None, Some, pos, map, take, IfOk};
+ghost use Rattle.std.specs.Prelude.{◌≡◌, ◌∷◌, ◌⊎◌, [], None, Some, pos, map, take, IfOk, IfErr};
 ghost use Rattle.std.specs.List.{flat_map};
 ghost use Rattle.sqlite.specs.Held.{state};
 ghost use Rattle.sqlite_value.specs.Order.{column, bytes};
@@ -15,6 +15,7 @@ ghost use Rattle.sql_tables.specs.Derived.{AreKept, current_columns};
 ghost use Rattle.sql_tables.specs.Currents.{is_live_after, is_live_before, current_order, AreNextCurrents, values_in, helds_in};
 ghost use Rattle.sql_tables.specs.State.{Idles, LeavesUnchanged};
 ghost use Rattle.sql_tables.specs.Words.{IsPage};
+ghost use Rattle.sql_reading.specs.Readable.{IsReadable, HasUnreadable};
 ghost use Rattle.sql_reading.specs.Walking.{IsStartPlace, stretch, values_at, moment_of};
 ghost use Rattle.sql_tables.specs.Connections.{WhereClean, Sees, tables_of, content_of};
 
@@ -109,16 +110,23 @@ fn currents_next<S: Alter>(
 }
 
 /// The value of a row.
+#[tactic(auto, using(crate::proofs::ReadableLemmas::no_bytes, crate::proofs::ReadableLemmas::no_value_by))]
 fn value_at(alloc: Global, row: &Row) -> Result<DataValue, RecordFault>
-    ensures { IfOk result (λ v. values_in (data_value.read (bytes (column row.now 7))) ≡ v ∷ []) }
+    ensures found { IfOk result
+        (λ v. values_in (data_value.read (bytes (column row.now 7))) ≡ v ∷ []) }
+    ensures unread { IfErr result (λ fault. (fault ≡ RecordFault.OutOfMemory)
+        ⊎ (IsReadable row.now → ⊥)) }
 {
     let mut cursor = Cursor::new(bytes_at(row, 7)?);
     Ok(read_data_value(alloc, &mut cursor)?)
 }
 
 /// The live value that a row of current values stands for.
+#[tactic(auto, using(crate::proofs::ReadableLemmas::no_time, crate::proofs::ReadableLemmas::no_pico, crate::proofs::ReadableLemmas::no_moment, crate::proofs::ReadableLemmas::no_extra))]
 fn held_in(alloc: Global, row: &Row) -> Result<Held, RecordFault>
-    ensures { IfOk result (λ h. helds_in row.now ≡ h ∷ []) }
+    ensures found { IfOk result (λ h. helds_in row.now ≡ h ∷ []) }
+    ensures unread { IfErr result (λ fault. (fault ≡ RecordFault.OutOfMemory)
+        ⊎ (IsReadable row.now → ⊥)) }
 {
     let ticks = int_at(row, 1)?;
     let pico = short_at(row, 2)?;
@@ -132,7 +140,9 @@ fn held_in(alloc: Global, row: &Row) -> Result<Held, RecordFault>
 
 /// The live values that rows of current values stand for.
 fn helds_in(alloc: Global, rows: &[Row]) -> Result<Vec<Held>, RecordFault>
-    ensures { IfOk result (λ all. all.items ≡ flat_map helds_in rows.now) }
+    ensures found { IfOk result (λ all. all.items ≡ flat_map helds_in rows.now) }
+    ensures unread { IfErr result (λ fault. (fault ≡ RecordFault.OutOfMemory)
+        ⊎ HasUnreadable rows.now) }
 {
     let mut all = Vec::new(alloc);
     for row in rows {

@@ -1,4 +1,4 @@
-use Rattle.std.proofs.Common.{◌∙◌, ap, arith, refl, pos, map}
+use Rattle.std.proofs.Common.{rules, ◌≡◌, Err, ◌∙◌, ap, arith, refl, pos, map}
 use Rattle.std.specs.List.{flat_map}
 use Rattle.sqlite.specs.Held.{state}
 use Rattle.sqlite.specs.State.{HasCleanDisk}
@@ -8,7 +8,21 @@ use Rattle.records.specs.Moments.{ticks_of, pico_of}
 use Rattle.sql_tables.specs.Derived.{current_columns}
 use Rattle.sql_tables.specs.Currents.{AreNextCurrents, helds_in}
 use Rattle.sql_reading.proofs.CurrentLemmas.{currents_found, first_limited}
+use Rattle.archive.specs.Fault.{of_record}
+use Rattle.sql_reading.proofs.ReadableLemmas.{never_opening}
 use Rattle.sql_reading.proofs.currents.current_values.Goals as goal
+
+pub returns-in_err-found : goal.returns-in_err-found
+returns-in_err-found g c =
+    let e = c.in_ok-rows.ensures in
+    let told : c.from_residual-in_err-found.result
+    ≡ Err (of_record c.in_err-found.field-0.0) = search rules in
+    rw told (record {
+      answer = λ clean. tt;
+      kept = λ clean ok. e.kept clean refl;
+      met = never_opening c.in_err-found.field-0.0;
+      crash = e.crash;
+    })
 
 pub returns : goal.returns
 returns g c =
@@ -36,7 +50,7 @@ returns g c =
           s.ticks s.pico c.args.span.far
           limit rows c.in_ok-found.found.items (c.requires.filled before)
           (c.requires.kept before) c.requires.lawful c.requires.spelled c.requires.place page
-          (c.in_ok-found.ensures ∙ ap (flat_map helds_in) c.deref.ensures.value) in
+          (c.in_ok-found.ensures.found ∙ ap (flat_map helds_in) c.deref.ensures.value) in
           c.truncate.ensures.items
           ∙ first_limited c.args.limit limit c.in_ok-found.found.items _
           c.stretch_of-along.ensures.count items;
