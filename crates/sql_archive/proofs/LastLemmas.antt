@@ -1,5 +1,5 @@
 -- The last record of an origin, by its row of vectors.
-use Rattle.std.proofs.Common.{◌≡◌, inl, inr, ℕ, ◌≤◌, pos, not, ◌&&◌, Bool, true, false, List, [], ◌∷◌, map, filter, refl, sym, ap, subst, ◌∙◌, arith, is_eq, is_gt, IsPermutation}
+use Rattle.std.proofs.Common.{◌≡◌, inl, inr, ℕ, ℤ, ◌≤◌, Ok, Err, Result, IfOk, IfErr, pos, not, ◌&&◌, Bool, true, false, List, [], ◌∷◌, map, filter, refl, sym, ap, subst, ◌∙◌, arith, is_eq, is_gt, IsPermutation}
 use Rattle.std.specs.List.{list_any}
 use Rattle.std.specs.Ordering.{int_cmp}
 use Rattle.std.proofs.lemmas.Bool.{true≢false, cases_lt, cases_Bool}
@@ -19,15 +19,19 @@ use Rattle.sql_tables.specs.Rows.{row_of, content_in, IsFilled}
 use Rattle.sql_tables.specs.Derived.{AreKept, is_newer, last_of, vectors_of, vector_columns}
 use Rattle.sql_tables.specs.Keeping.{is_vector_of}
 use Rattle.sql_tables.specs.Learning.{IsLast, end_of}
+use Rattle.std.specs.Result.{IsOkAnd}
+use Rattle.records.specs.declared.fault.RecordFault.{RecordFault}
+use Rattle.sql_archive.specs.Ends.{LacksEnd}
 use Rattle.sql_tables.proofs.RowLemmas.{content_is}
 use Rattle.sql_tables.proofs.DerivedLemmas.{vectors_permuted}
 use Rattle.sql_tables.proofs.KeptLemmas.{newer_is, not_above, is_above, same_ints, same_origins, equal_origins}
 
-pub last_kept : (db : Trees) (origin : ℕ) (rows : List Row) → IsFilled db → AreKept db
+last_both : (db : Trees) (origin : ℕ) (rows : List Row) → IsFilled db → AreKept db
     → IsPermutation (filter (is_vector_of (pos origin)) (map vector_columns (db 6))) rows
-    → IsLast (content_in db) origin (end_of rows)
-last_kept db origin rows (R, l, stand) kept shown =
-    subst (λ S. IsLast S origin (end_of rows)) (sym (content_is R db l stand)) (go rows refl)
+    → IsLast (content_in db) origin (end_of rows) × (LacksEnd rows → ⊥)
+last_both db origin rows (R, l, stand) kept shown =
+    subst (λ S. IsLast S origin (end_of rows) × (LacksEnd rows → ⊥)) (sym (content_is R db l stand))
+        (go rows refl)
   where
     X : List Row
     X = map row_of R
@@ -85,7 +89,8 @@ last_kept db origin rows (R, l, stand) kept shown =
             r.1,
             from,
             λ z k e.
-                below r.0 z (e ∙ sym from) (all-has (λ d. is_newer (row_of r.0) d ≡ false) X (row_of z)
+                below r.0 z (e ∙ sym from) (all-has (λ d. is_newer (row_of r.0) d ≡ false) X
+                    (row_of z)
                 (none_from_any (is_newer (row_of r.0)) X none) (has-map row_of R z k)),
           ),
           is,
@@ -129,12 +134,15 @@ last_kept db origin rows (R, l, stand) kept shown =
           (h.0, (h.1, h.2.0, λ s m e. let b = bound s m e in omega (arith, b, named)))
     ]
 
-    go : (xs : List Row) → rows ≡ xs → IsLast R origin (end_of xs)
+    go : (xs : List Row) → rows ≡ xs → IsLast R origin (end_of xs) × (LacksEnd xs → ⊥)
     go [] e =
         let none : (z : Record) → Has R z → z.origin ≡ origin → ⊥ = λ z k from. let t =
         some_top z k from in subst (λ l. Has l (last_of (row_of t.0))) e (there t.0 t.1) in (
-          vec_is R origin 0 (λ z h from. absurd (none z h from)) (inl refl),
-          elim (last_attained R origin) [ inl is ↦ is | inr w ↦ absurd (none w.0 w.1 w.2) ],
+          (
+            vec_is R origin 0 (λ z h from. absurd (none z h from)) (inl refl),
+            elim (last_attained R origin) [ inl is ↦ is | inr w ↦ absurd (none w.0 w.1 w.2) ],
+          ),
+          λ lacks. lacks,
         )
     go (x ∷ xs) e =
         let t = of_top x (subst (λ l. Has l x) (sym e) (inl refl)) in
@@ -144,4 +152,16 @@ last_kept db origin rows (R, l, stand) kept shown =
         let tick : last_tick R origin ≡ r.tick =
         sym (last_of_last R r l.closed t.1.0 (sym greatest ∙ sym (ap (vec R) t.1.1))
         ∙ ap (last_tick R) t.1.1) in
-        subst (λ y. IsLast R origin (end_of (y ∷ xs))) (sym t.2) (greatest, tick)
+        subst (λ y. IsLast R origin (end_of (y ∷ xs)) × (LacksEnd (y ∷ xs) → ⊥)) (sym t.2)
+        ((greatest, tick), λ lacks. lacks r.number r.tick refl refl)
+
+-- what is read of the row is the last number and tick, and it is read
+pub last_read : (db : Trees) (origin : ℕ) (rows : List Row) (told : Result (ℕ × ℤ) RecordFault)
+    → IsFilled db → AreKept db
+    → IsPermutation (filter (is_vector_of (pos origin)) (map vector_columns (db 6))) rows
+    → IfOk told (λ last. last ≡ end_of rows) → IfErr told (λ _. LacksEnd rows)
+    → IsOkAnd told (IsLast (content_in db) origin)
+last_read db origin rows (Ok last) filled kept shown is other =
+    subst (IsLast (content_in db) origin) (sym is) (last_both db origin rows filled kept shown).0
+last_read db origin rows (Err e) filled kept shown is other =
+    absurd ((last_both db origin rows filled kept shown).1 other)

@@ -1,5 +1,6 @@
 pub mod StoreLemmas
 pub mod LastLemmas
+pub mod NamedLemmas
 pub mod BeginLemmas
 pub mod FileLemmas
 pub mod StartLemmas

@@ -1,3 +1,4 @@
 pub mod Kept
 pub mod Files
 pub mod Starting
+pub mod Ends

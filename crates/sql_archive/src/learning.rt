@@ -1,6 +1,7 @@
 //! Learning a record.
 
-ghost use Rattle.std.specs.Prelude.{◌≡◌, ◌<◌, pos, None, IfOk};
+ghost use Rattle.std.specs.Prelude.{◌≡◌, ◌<◌, pos, None, IfOk, IfErr, MatchResult};
+ghost use Rattle.std.specs.Result.{IsOkAnd};
 ghost use Rattle.std.specs.List.{list_any};
 ghost use Rattle.sqlite.specs.State.{HasCleanDisk};
 ghost use Rattle.sqlite.specs.Held.{state};
@@ -13,6 +14,7 @@ ghost use Rattle.sql_tables.specs.Derived.{AreKept};
 ghost use Rattle.sql_tables.specs.State.{Idles, LeavesUnchanged};
 ghost use Rattle.sql_tables.specs.Learning.{IsLast, Learned, beyond, reached, is_added, flat, IsOwn, end_of};
 ghost use Rattle.sql_tables.specs.Connections.{WhereClean, Sees, content_of};
+ghost use Rattle.sql_archive.specs.Ends.{LacksEnd};
 
 use archive::{LearnFault, StoreFault};
 use records::{Record, RecordFault};
@@ -64,7 +66,8 @@ fn first_of(origin: ReplicaNo) -> Name
 
 /// The number and the tick in the first of some rows of vectors, 0 and 0 where there is none.
 fn end_of(rows: &[Row]) -> Result<(u64, i64), RecordFault>
-    ensures { IfOk result (λ last. last ≡ end_of rows.now) }
+    ensures last { IfOk result (λ last. last ≡ end_of rows.now) }
+    ensures lacks { IfErr result (λ _. LacksEnd rows.now) }
 {
     match rows.first() {
         Some(row) => {
@@ -76,7 +79,24 @@ fn end_of(rows: &[Row]) -> Result<(u64, i64), RecordFault>
     }
 }
 
-/// The last number and tick of an origin, which its row of vectors has.
+/// The last number and tick of an origin, which its row of vectors has: that is read, where the disk is honest.
+fn last_told<S: Alter>(
+    conn: &mut Connection<S>,
+    origin: ReplicaNo,
+) -> Result<Result<(u64, i64), RecordFault>, StoreFault>
+    requires idles { WhereClean S.Store conn.old Idles }
+    requires filled { WhereClean S.Store conn.old (Sees IsFilled) }
+    requires kept { WhereClean S.Store conn.old (Sees AreKept) }
+    ensures { LeavesUnchanged (state S.Store conn.old) (state S.Store conn.new) result
+        (λ told. IsOkAnd told (IsLast (content_of S.Store conn.old) origin)) }
+{
+    let name = first_of(origin);
+    let rows = rows_last(conn, &name)?;
+    Ok(end_of(&rows))
+}
+
+/// The last number and tick of an origin.
+#[tactic(auto, using(sql_reading::proofs::ReadableLemmas::never_opening))]
 fn last_of<S: Alter>(conn: &mut Connection<S>, origin: ReplicaNo) -> Result<(u64, i64), StoreFault>
     requires idles { WhereClean S.Store conn.old Idles }
     requires filled { WhereClean S.Store conn.old (Sees IsFilled) }
@@ -84,10 +104,8 @@ fn last_of<S: Alter>(conn: &mut Connection<S>, origin: ReplicaNo) -> Result<(u64
     ensures { LeavesUnchanged (state S.Store conn.old) (state S.Store conn.new) result
         (IsLast (content_of S.Store conn.old) origin) }
 {
-    let name = first_of(origin);
-    let rows = rows_last(conn, &name)?;
-    let last = end_of(&rows)?;
-    Ok(last)
+    let told = last_told(conn, origin)?;
+    Ok(told?)
 }
 
 fn name_of(r: &Record) -> Name
@@ -119,7 +137,28 @@ fn is_among(records: &[Record], candidate: &Record) -> bool
     false
 }
 
+/// The records of a record's name: where the disk is honest, their rows are read, or memory for them is wanting.
+fn records_named<S: Alter>(
+    alloc: Global,
+    conn: &mut Connection<S>,
+    candidate: &Record,
+) -> Result<Result<Vec<Record>, RecordFault>, StoreFault>
+    requires idles { WhereClean S.Store conn.old Idles }
+    requires filled { WhereClean S.Store conn.old (Sees IsFilled) }
+    requires lawful { IsLawfulRecord candidate.now }
+    ensures { LeavesUnchanged (state S.Store conn.old) (state S.Store conn.new) result
+        (λ told. MatchResult told
+        (λ all. list_any (same_record candidate.now) all.items
+        ≡ list_any (same_record candidate.now) (content_of S.Store conn.old))
+        (λ fault. fault ≡ RecordFault.OutOfMemory)) }
+{
+    let name = name_of(candidate);
+    let rows = rows_named(conn, &name)?;
+    Ok(decode_all(alloc, &rows))
+}
+
 /// Whether the record is held.
+#[tactic(auto, using(sql_reading::proofs::ReadableLemmas::never_opening))]
 fn is_held<S: Alter>(
     alloc: Global,
     conn: &mut Connection<S>,
@@ -131,9 +170,8 @@ fn is_held<S: Alter>(
     ensures { LeavesUnchanged (state S.Store conn.old) (state S.Store conn.new) result
         (λ b. b ≡ list_any (same_record candidate.now) (content_of S.Store conn.old)) }
 {
-    let name = name_of(candidate);
-    let rows = rows_named(conn, &name)?;
-    let records = decode_all(alloc, &rows)?;
+    let told = records_named(alloc, conn, candidate)?;
+    let records = told?;
     Ok(is_among(&records, candidate))
 }
 
