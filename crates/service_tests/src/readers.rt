@@ -1,6 +1,6 @@
 //! Users who may only read, beside one on the same server who may write.
 
-use crate::services::{ACTIVATE, Client, Row, TOKEN, create_session, is_answered, is_session_made};
+use crate::services::{ACTIVATE, Client, Row, TOKEN, create_session, first_other, is_session_made};
 use std::alloc::Global;
 use std::test::Fail;
 use ua_settings::Settings;
@@ -162,24 +162,29 @@ fn begin(alloc: Global, client: &mut Client, reader: &str) -> Result<bool, Fail>
     Ok(made)
 }
 
-/// The number of the first row that is answered otherwise; none where there is no such row.
-fn first_other(alloc: Global, client: &mut Client) -> Result<Option<usize>, Fail> {
-    for (number, row) in ROWS.iter().enumerate() {
-        if !is_answered(alloc, client, row)? {
-            return Ok(Some(number));
-        }
+/// The first row that is answered otherwise, once both sessions are there.
+fn first_other_of(alloc: Global, client: &mut Client, reader: &str) -> Result<Option<usize>, Fail> {
+    if !begin(alloc, client, reader)? {
+        return Err(Fail::from("no sessions"));
     }
-    Ok(None)
+    first_other(alloc, client, &ROWS)
+}
+
+/// The same at a server of the plant.
+fn first_other_at_the_plant(alloc: Global, reader: &str) -> Result<Option<usize>, Fail> {
+    let mut client = Client::of(alloc, Settings::read(alloc, PLANT)?);
+    first_other_of(alloc, &mut client, reader)
 }
 
 /// Nobody is one who may read here, and ben is another.
 #[test]
 fn readers_change_nothing(rt: HostRuntime) -> Result<(), Fail> {
-    let alloc = rt.alloc();
     for reader in [ACTIVATE, BEN] {
-        let mut client = Client::of(alloc, Settings::read(alloc, PLANT)?);
-        assert!(rt; begin(alloc, &mut client, reader)?, "{reader}");
-        assert_eq!(rt; first_other(alloc, &mut client)?, None, "{reader}");
+        assert_eq!(rt;
+            first_other_at_the_plant(rt.alloc(), reader)?,
+            None,
+            "{reader}"
+        );
     }
     Ok(())
 }

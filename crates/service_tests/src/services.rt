@@ -44,8 +44,7 @@ impl Client {
         token: &str,
         body: &str,
     ) -> Result<String, Fail> {
-        let digits = digits_of(alloc, &[type_id, token, HEADER, body])?;
-        let message = hex::decode(alloc, digits.as_slice())?;
+        let message = message_of(alloc, &[type_id, token, HEADER, body])?;
         let mut out = Vec::new(alloc);
         answer_message(
             &mut self.server,
@@ -56,6 +55,12 @@ impl Client {
         )?;
         Ok(hex::encode_upper(alloc, out.as_slice())?)
     }
+}
+
+/// The bytes that texts in a row spell in hex digits, with spaces between them.
+fn message_of(alloc: Global, texts: &[&str]) -> Result<Vec<u8>, Fail> {
+    let digits = digits_of(alloc, texts)?;
+    Ok(hex::decode(alloc, digits.as_slice())?)
 }
 
 /// The digits of texts in a row, without spaces.
@@ -106,6 +111,20 @@ pub fn is_answered(alloc: Global, client: &mut Client, row: &Row) -> Result<bool
     Ok(is_response(alloc, &found, told, status, rest)?)
 }
 
+/// The number of the first row that is answered otherwise; none where there is no such row.
+pub fn first_other(
+    alloc: Global,
+    client: &mut Client,
+    rows: &[Row],
+) -> Result<Option<usize>, Fail> {
+    for (number, row) in rows.iter().enumerate() {
+        if !is_answered(alloc, client, row)? {
+            return Ok(Some(number));
+        }
+    }
+    Ok(None)
+}
+
 /// What CreateSession asks for: no limit, and nothing by name.
 const CREATE: &str =
     "FFFFFFFF FFFFFFFF 00 00000000 FFFFFFFF FFFFFFFF FFFFFFFF FFFFFFFF FFFFFFFF FFFFFFFF FFFFFFFF FFFFFFFF 0000000000000000 00000000";
@@ -129,19 +148,41 @@ pub fn is_session_made(alloc: Global, client: &mut Client) -> Result<bool, Fail>
     Ok(told.as_bytes().starts_with(b"0100D001"))
 }
 
-/// The 17th is refused (Bad_TooManySessions), and made once another one is closed.
+/// Whether sixteen sessions are made.
+fn are_sixteen_made(alloc: Global, client: &mut Client) -> Result<bool, Fail> {
+    for _ in 0..16 {
+        if !is_session_made(alloc, client)? {
+            return Ok(false);
+        }
+    }
+    Ok(true)
+}
+
+/// One session too many is refused (Bad_TooManySessions), and the first one is closed.
+static REFUSED_AND_CLOSED: [Row; 2] = [
+    ("0100CD01", "0000", CREATE, "01008D01", "00005680", ""),
+    ("0100D901", TOKEN, "00", "0100DC01", "00000000", ""),
+];
+
+/// Whether sixteen are made and no more, until one is closed.
+fn are_sixteen(alloc: Global, client: &mut Client) -> Result<bool, Fail> {
+    Ok(
+        are_sixteen_made(alloc, client)?
+            && first_other(alloc, client, &REFUSED_AND_CLOSED)?.is_none()
+            && is_session_made(alloc, client)?,
+    )
+}
+
+/// The same at a server of its own.
+fn are_sixteen_at_a_server(alloc: Global) -> Result<bool, Fail> {
+    let mut client = Client::new(alloc)?;
+    are_sixteen(alloc, &mut client)
+}
+
+/// The 17th is refused, and made once another one is closed.
 #[test]
 fn sixteen_sessions_and_no_more(rt: HostRuntime) -> Result<(), Fail> {
-    let alloc = rt.alloc();
-    let mut client = Client::new(alloc)?;
-    for number in 0..16 {
-        assert!(rt; is_session_made(alloc, &mut client)?, "{number}");
-    }
-    let refused = client.ask(alloc, "0100CD01", "0000", CREATE)?;
-    assert!(rt; is_response(alloc, &refused, "01008D01", "00005680", "")?);
-    let closed = client.ask(alloc, "0100D901", TOKEN, "00")?;
-    assert!(rt; is_response(alloc, &closed, "0100DC01", "00000000", "")?);
-    assert!(rt; is_session_made(alloc, &mut client)?);
+    assert!(rt; are_sixteen_at_a_server(rt.alloc())?);
     Ok(())
 }
 
@@ -198,42 +239,75 @@ static LISTINGS: [Listing; 4] = [
     },
 ];
 
-/// Whether a list of so many items is answered by a response of this type, and with this status.
-fn is_list_told(
+/// The response to a list of so many items.
+fn told_of(
     alloc: Global,
     client: &mut Client,
     listing: &Listing,
     count: u32,
-    response: &str,
-    status: &str,
-) -> Result<bool, Fail> {
+) -> Result<String, Fail> {
     let body = listing.body(alloc, count)?;
-    let told = client.ask(alloc, listing.type_id, TOKEN, body.as_str())?;
-    let head = digits_of(alloc, &[response, "00803ED5DEB19D01 02000000", status])?;
-    Ok(told.as_bytes().starts_with(head.as_slice()))
+    client.ask(alloc, listing.type_id, TOKEN, body.as_str())
 }
 
-/// A list of no item is refused (Bad_NothingToDo), and one of one too many (Bad_TooManyOperations).
-#[test]
-fn lists_have_a_greatest_count(rt: HostRuntime) -> Result<(), Fail> {
-    let alloc = rt.alloc();
-    let mut client = Client::new(alloc)?;
-    assert!(rt; create_session(alloc, &mut client)?);
-    let _ = client.ask(alloc, "0100D301", TOKEN, ACTIVATE)?;
-    for listing in &LISTINGS {
-        for (count, response, status) in [
-            (0, "01008D01", "00000F80"),
-            (1, listing.response, "00000000"),
-            (listing.most, listing.response, "00000000"),
-            (listing.most.saturating_add(1), "01008D01", "00001080"),
-        ] {
-            assert!(rt;
-                is_list_told(alloc, &mut client, listing, count, response, status)?,
-                "{count} of {}",
-                listing.type_id
-            );
+/// Whether a response begins with this type and this status.
+fn has_head(
+    alloc: Global,
+    found: &String,
+    type_id: &str,
+    status: &str,
+) -> Result<bool, AllocError> {
+    let head = digits_of(alloc, &[type_id, "00803ED5DEB19D01 02000000", status])?;
+    Ok(found.as_bytes().starts_with(head.as_slice()))
+}
+
+/// The first count of items that is answered otherwise than it has to be: a list of no item is refused
+/// (Bad_NothingToDo), and one of one too many (Bad_TooManyOperations).
+fn first_other_count(
+    alloc: Global,
+    client: &mut Client,
+    listing: &Listing,
+) -> Result<Option<u32>, Fail> {
+    for (count, response, status) in [
+        (0, "01008D01", "00000F80"),
+        (1, listing.response, "00000000"),
+        (listing.most, listing.response, "00000000"),
+        (listing.most.saturating_add(1), "01008D01", "00001080"),
+    ] {
+        let told = told_of(alloc, client, listing, count)?;
+        if !has_head(alloc, &told, response, status)? {
+            return Ok(Some(count));
         }
     }
+    Ok(None)
+}
+
+/// The same of all lists, behind an activation, with the type of the request.
+fn first_other_list(
+    alloc: Global,
+    client: &mut Client,
+) -> Result<Option<(&'static str, u32)>, Fail> {
+    if !create_session(alloc, client)? {
+        return Err(Fail::from("no session"));
+    }
+    let _ = client.ask(alloc, "0100D301", TOKEN, ACTIVATE)?;
+    for listing in &LISTINGS {
+        if let Some(count) = first_other_count(alloc, client, listing)? {
+            return Ok(Some((listing.type_id, count)));
+        }
+    }
+    Ok(None)
+}
+
+/// The same at a server of its own.
+fn first_other_list_at_a_server(alloc: Global) -> Result<Option<(&'static str, u32)>, Fail> {
+    let mut client = Client::new(alloc)?;
+    first_other_list(alloc, &mut client)
+}
+
+#[test]
+fn lists_have_a_greatest_count(rt: HostRuntime) -> Result<(), Fail> {
+    assert_eq!(rt; first_other_list_at_a_server(rt.alloc())?, None);
     Ok(())
 }
 
@@ -274,12 +348,22 @@ static VALUES: &[Row] = &[
     ),
 ];
 
+/// The first of these rows that is answered otherwise, once a session is made.
+fn first_other_value(alloc: Global, client: &mut Client) -> Result<Option<usize>, Fail> {
+    if !create_session(alloc, client)? {
+        return Err(Fail::from("no session"));
+    }
+    first_other(alloc, client, VALUES)
+}
+
+/// The same at a server of its own.
+fn first_other_value_at_a_server(alloc: Global) -> Result<Option<usize>, Fail> {
+    let mut client = Client::new(alloc)?;
+    first_other_value(alloc, &mut client)
+}
+
 #[test]
 fn values_are_kept_or_refused_whole(rt: HostRuntime) -> Result<(), Fail> {
-    let mut client = Client::new(rt.alloc())?;
-    assert!(rt; create_session(rt.alloc(), &mut client)?);
-    for row in VALUES {
-        assert!(rt; is_answered(rt.alloc(), &mut client, row)?, "{}", row.2);
-    }
+    assert_eq!(rt; first_other_value_at_a_server(rt.alloc())?, None);
     Ok(())
 }
