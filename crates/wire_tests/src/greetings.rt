@@ -73,33 +73,37 @@ fn reads_hellos(rt: HostRuntime) {
         max_chunks: 2,
     };
     assert_eq!(rt; hello, Ok(want));
-    for (what, body) in [
-        ("nothing", b"".as_slice()),
-        (
-            "no URL",
-            b"\0\0\0\0\0\x20\0\0\0\x20\0\0\0\0\0\0\0\0\0\0".as_slice(),
-        ),
-        (
-            "length -2",
-            b"\0\0\0\0\0\x20\0\0\0\x20\0\0\0\0\0\0\0\0\0\0\xfe\xff\xff\xff".as_slice(),
-        ),
-        (
-            "a URL of two bytes that has one",
-            b"\0\0\0\0\0\x20\0\0\0\x20\0\0\0\0\0\0\0\0\0\0\x02\0\0\0a".as_slice(),
-        ),
-        (
-            "a URL that is not UTF-8",
-            b"\0\0\0\0\0\x20\0\0\0\x20\0\0\0\0\0\0\0\0\0\0\x02\0\0\0\xc3\x28".as_slice(),
-        ),
-        (
-            "a byte after a null URL",
-            b"\0\0\0\0\0\x20\0\0\0\x20\0\0\0\0\0\0\0\0\0\0\xff\xff\xff\xff\0".as_slice(),
-        ),
-        (
-            "a byte after the URL",
-            b"\0\0\0\0\0\x20\0\0\0\x20\0\0\0\0\0\0\0\0\0\0\x01\0\0\0ab".as_slice(),
-        ),
-    ] {
+}
+
+/// What is no Hello, and its bytes.
+static NO_HELLOS: [(&str, &[u8]); 7] = [
+    ("nothing", b""),
+    ("no URL", b"\0\0\0\0\0\x20\0\0\0\x20\0\0\0\0\0\0\0\0\0\0"),
+    (
+        "length -2",
+        b"\0\0\0\0\0\x20\0\0\0\x20\0\0\0\0\0\0\0\0\0\0\xfe\xff\xff\xff",
+    ),
+    (
+        "a URL of two bytes that has one",
+        b"\0\0\0\0\0\x20\0\0\0\x20\0\0\0\0\0\0\0\0\0\0\x02\0\0\0a",
+    ),
+    (
+        "a URL that is not UTF-8",
+        b"\0\0\0\0\0\x20\0\0\0\x20\0\0\0\0\0\0\0\0\0\0\x02\0\0\0\xc3\x28",
+    ),
+    (
+        "a byte after a null URL",
+        b"\0\0\0\0\0\x20\0\0\0\x20\0\0\0\0\0\0\0\0\0\0\xff\xff\xff\xff\0",
+    ),
+    (
+        "a byte after the URL",
+        b"\0\0\0\0\0\x20\0\0\0\x20\0\0\0\0\0\0\0\0\0\0\x01\0\0\0ab",
+    ),
+];
+
+#[test]
+fn refuses_other_hellos(rt: HostRuntime) {
+    for (what, body) in &NO_HELLOS {
         assert_eq!(rt; read_hello(body), Err(UacpFault::HelloInvalid), "at {what}");
     }
 }

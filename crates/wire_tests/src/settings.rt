@@ -1,7 +1,7 @@
 use std::alloc::Global;
 use std::test::Fail;
 use ua_binary::{NodeIdRef, Text};
-use ua_session::{Access, Identity, Sessions};
+use ua_session::{Access, Identity, Sessions, Users};
 use ua_settings::{PasswordLine, Place, Settings, SettingsFault, password_files};
 use ua_space::BuildFault;
 
@@ -248,10 +248,7 @@ static ROWS: [(&str, Option<SettingsFault>); 54] = [
 
 /// Why a text is refused.
 fn refusal(alloc: Global, text: &str) -> Option<SettingsFault> {
-    match Settings::read(alloc, text) {
-        Ok(_) => None,
-        Err(fault) => Some(fault),
-    }
+    Settings::read(alloc, text).err()
 }
 
 #[test]
@@ -276,12 +273,21 @@ fn is_sample(settings: &Settings) -> bool {
         && settings.users().has_named()
 }
 
+/// The number of the type of the sample's variable.
+fn type_in(settings: &Settings) -> Option<u8> {
+    let found = settings.space().variable(NodeIdRef::Named(1, "T"))?;
+    Some(found.value_type.number)
+}
+
+/// Whether the sample is read so.
+fn is_read(alloc: Global) -> Result<bool, Fail> {
+    let settings = Settings::read(alloc, SAMPLE)?;
+    Ok(is_sample(&settings) && type_in(&settings) == Some(11))
+}
+
 #[test]
 fn sample_is_read(rt: HostRuntime) -> Result<(), Fail> {
-    let settings = Settings::read(rt.alloc(), SAMPLE)?;
-    assert!(rt; is_sample(&settings));
-    let found = settings.space().variable(NodeIdRef::Named(1, "T"));
-    assert_eq!(rt; found.map(|variable| variable.value_type.number), Some(11));
+    assert!(rt; is_read(rt.alloc())?);
     Ok(())
 }
 
@@ -492,6 +498,24 @@ fn places_are_told(rt: HostRuntime) -> Result<(), Fail> {
 const FILED: &str =
     "namespace = ''\nanonymous = true\n[[user]]\nname = 'ann'\npassword_file = 'secrets/ann'\n[[user]]\nname = 'ben'\npassword = 'b'\n[[user]]\nname = 'cid'\npassword_file = 'cid'";
 
+/// Whether these are the password files that a text names, in order.
+fn are_named(alloc: Global, text: &str, paths: &[&str]) -> bool {
+    match password_files(alloc, text) {
+        Ok(named) => named
+            .iter()
+            .map(|path| path.as_str())
+            .eq(paths.iter().copied()),
+        Err(_) => false,
+    }
+}
+
+#[test]
+fn password_files_are_named_in_order(rt: HostRuntime) -> Result<(), Fail> {
+    let text = format!(in rt.alloc(); "{HEAD}{FILED}\n")?;
+    assert!(rt; are_named(rt.alloc(), text.as_str(), &["secrets/ann", "cid"]));
+    Ok(())
+}
+
 /// What these files say.
 fn passwords(alloc: Global, files: &[(&str, &str)]) -> Result<Vec<PasswordLine>, Fail> {
     let mut lines = Vec::new(alloc);
@@ -507,7 +531,7 @@ fn passwords(alloc: Global, files: &[(&str, &str)]) -> Result<Vec<PasswordLine>,
 /// Whether the user of this name has this password.
 fn has_password<'a>(
     alloc: Global,
-    settings: &Settings,
+    users: &Users,
     name: &'a str,
     password: &'a str,
 ) -> Result<bool, Fail> {
@@ -518,38 +542,64 @@ fn has_password<'a>(
         password: Some(password.as_bytes()),
         algorithm: None,
     };
-    let user = sessions.activate(token.as_ref(), identity, settings.users());
+    let user = sessions.activate(token.as_ref(), identity, users);
     Ok(user == Ok(name))
 }
 
-/// A user's password is the line of its file; a file that is missing or says nothing is none.
+/// The users, and the password of each.
+static PASSWORDS: [(&str, &str); 3] = [("ann", "a"), ("ben", "b"), ("cid", "c")];
+
+/// Whether each user has that password, and hasn't an empty one too.
+fn are_users(alloc: Global, users: &Users) -> Result<bool, Fail> {
+    for (name, password) in &PASSWORDS {
+        if !has_password(alloc, users, name, password)? || has_password(alloc, users, name, "")? {
+            return Ok(false);
+        }
+    }
+    Ok(true)
+}
+
+/// Whether the users of a text have those passwords, where its files say this.
+fn have_passwords(alloc: Global, text: &str, lines: &[PasswordLine]) -> Result<bool, Fail> {
+    let settings = Settings::read_with(alloc, text, lines)?;
+    are_users(alloc, settings.users())
+}
+
+/// Whether they have them where each file says what it should.
+fn have_passwords_of_files(alloc: Global, text: &str) -> Result<bool, Fail> {
+    let lines = passwords(alloc, &[("cid", "c"), ("secrets/ann", "a")])?;
+    have_passwords(alloc, text, lines.as_slice())
+}
+
 #[test]
 fn passwords_are_those_of_files(rt: HostRuntime) -> Result<(), Fail> {
-    let alloc = rt.alloc();
-    let text = format!(in alloc; "{HEAD}{FILED}\n")?;
-    let paths = password_files(alloc, text.as_str())?;
-    assert_eq!(rt; paths.len(), 2);
-    for (number, path) in ["secrets/ann", "cid"].iter().enumerate() {
-        assert!(rt;
-            paths
-                .get(number)
-                .is_some_and(|found| found.as_str() == *path),
-            "{path}"
-        );
-    }
-    let all = passwords(alloc, &[("cid", "c"), ("secrets/ann", "a")])?;
-    let settings = Settings::read_with(alloc, text.as_str(), all.as_slice())?;
-    for (name, password) in [("ann", "a"), ("ben", "b"), ("cid", "c")] {
-        assert!(rt; has_password(alloc, &settings, name, password)?, "{name}");
-        assert!(rt; !has_password(alloc, &settings, name, "")?, "{name}");
-    }
-    for files in [
-        [("cid", "c"), ("ann", "a")],
-        [("cid", ""), ("secrets/ann", "a")],
-    ] {
-        let some = passwords(alloc, &files)?;
-        let read = Settings::read_with(alloc, text.as_str(), some.as_slice());
-        assert_eq!(rt; read.err(), Some(SettingsFault::BadValue));
+    let text = format!(in rt.alloc(); "{HEAD}{FILED}\n")?;
+    assert!(rt; have_passwords_of_files(rt.alloc(), text.as_str())?);
+    Ok(())
+}
+
+/// Why a text is refused where its files say this.
+fn refusal_with(
+    alloc: Global,
+    text: &str,
+    files: &[(&str, &str)],
+) -> Result<Option<SettingsFault>, Fail> {
+    let lines = passwords(alloc, files)?;
+    Ok(Settings::read_with(alloc, text, lines.as_slice()).err())
+}
+
+/// What files say of which one is missing, or says nothing.
+static NO_PASSWORDS: [[(&str, &str); 2]; 2] = [
+    [("cid", "c"), ("ann", "a")],
+    [("cid", ""), ("secrets/ann", "a")],
+];
+
+#[test]
+fn a_file_that_is_missing_or_says_nothing_is_no_password(rt: HostRuntime) -> Result<(), Fail> {
+    let text = format!(in rt.alloc(); "{HEAD}{FILED}\n")?;
+    for files in &NO_PASSWORDS {
+        let refused = refusal_with(rt.alloc(), text.as_str(), files)?;
+        assert_eq!(rt; refused, Some(SettingsFault::BadValue), "{files:?}");
     }
     Ok(())
 }

@@ -53,27 +53,29 @@ static REFUSED: [(u32, u32, Direction, Status); 3] = [
     (85, 33, None, Status::BAD_BROWSE_DIRECTION_INVALID),
 ];
 
-#[test]
-fn browses_are_refused(rt: HostRuntime) -> Result<(), Fail> {
-    let space = space_of_one(rt.alloc())?;
+/// Whether each of them is refused so.
+fn are_refused(space: &Space) -> bool {
     for (node, reference_type, direction, status) in &REFUSED {
-        let told = refusal(&space, *node, *reference_type, *direction);
-        assert!(rt; told == Some(*status), "{node}");
+        if refusal(space, *node, *reference_type, *direction) != Some(*status) {
+            return false;
+        }
     }
-    Ok(())
+    true
+}
+
+/// Whether both are the same.
+fn are_same<T: PartialEq + Drop>(told: T, wanted: T) -> bool {
+    told == wanted
+}
+
+/// An attribute that is this byte.
+fn byte(level: u8) -> Result<Answered, Status> {
+    Ok(Answered::Value(Variant::Scalar(Scalar::Byte(level))))
 }
 
 /// Whether the value's attribute 17 says that it may be read and written, in history too.
 fn is_writable(space: &Space) -> bool {
-    let told = space.read_attribute(NodeIdRef::Named(1, "T"), 17);
-    told == Ok(Answered::Value(Variant::Scalar(Scalar::Byte(13))))
-}
-
-#[test]
-fn attributes_are_told(rt: HostRuntime) -> Result<(), Fail> {
-    let space = space_of_one(rt.alloc())?;
-    assert!(rt; is_writable(&space));
-    Ok(())
+    are_same(space.read_attribute(NodeIdRef::Named(1, "T"), 17), byte(13))
 }
 
 /// The variable of the space, and the state of the server.
@@ -91,19 +93,56 @@ static LEVELS: [(Access, NodeIdRef<'static>, u8, u8); 4] = [
 
 /// Whether an attribute of a node is this byte, for a user who may do this.
 fn is_level(space: &Space, access: Access, node: NodeIdRef<'_>, attribute: u32, level: u8) -> bool {
-    let told = space.read_attribute_for(access, node, attribute);
-    told == Ok(Answered::Value(Variant::Scalar(Scalar::Byte(level))))
+    are_same(
+        space.read_attribute_for(access, node, attribute),
+        byte(level),
+    )
+}
+
+/// Whether each user is told these levels.
+fn are_levels(space: &Space) -> bool {
+    for (access, node, level, user_level) in &LEVELS {
+        if !is_level(space, *access, *node, 17, *level)
+            || !is_level(space, *access, *node, 18, *user_level)
+        {
+            return false;
+        }
+    }
+    true
+}
+
+/// What is asked of the space.
+#[derive(Clone, Copy)]
+enum Asked {
+    Browses,
+    Attributes,
+    Levels,
+}
+
+/// Whether the space with that variable alone answers it so.
+fn is_answered(alloc: Global, asked: Asked) -> Result<bool, Fail> {
+    let space = space_of_one(alloc)?;
+    Ok(match asked {
+        Asked::Browses => are_refused(&space),
+        Asked::Attributes => is_writable(&space),
+        Asked::Levels => are_levels(&space),
+    })
+}
+
+#[test]
+fn browses_are_refused(rt: HostRuntime) -> Result<(), Fail> {
+    assert!(rt; is_answered(rt.alloc(), Asked::Browses)?);
+    Ok(())
+}
+
+#[test]
+fn attributes_are_told(rt: HostRuntime) -> Result<(), Fail> {
+    assert!(rt; is_answered(rt.alloc(), Asked::Attributes)?);
+    Ok(())
 }
 
 #[test]
 fn levels_are_told_to_each_user(rt: HostRuntime) -> Result<(), Fail> {
-    let space = space_of_one(rt.alloc())?;
-    for (access, node, level, user_level) in &LEVELS {
-        assert!(rt;
-            is_level(&space, *access, *node, 17, *level)
-                && is_level(&space, *access, *node, 18, *user_level),
-            "{access:?}, {node:?}"
-        );
-    }
+    assert!(rt; is_answered(rt.alloc(), Asked::Levels)?);
     Ok(())
 }

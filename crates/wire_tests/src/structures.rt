@@ -22,7 +22,7 @@ enum Kind {
 }
 
 /// Whether this was read, as `{:?}` shows it.
-fn is_shown<T: Debug>(alloc: Global, found: &T, want: &str) -> bool {
+fn is_shown<T: Debug + Drop>(alloc: Global, found: T, want: &str) -> bool {
     format!(in alloc; "{found:?}").is_ok_and(|text| text.as_str() == want)
 }
 
@@ -31,24 +31,20 @@ fn left_of(alloc: Global, kind: Kind, bytes: &[u8], want: &str) -> Option<usize>
     let mut cursor = Cursor::new(bytes);
     let is_read = match kind {
         Kind::GetEndpoints => {
-            is_shown(alloc, &read_get_endpoints_request(alloc, &mut cursor), want)
+            is_shown(alloc, read_get_endpoints_request(alloc, &mut cursor), want)
         }
-        Kind::CreateSession => is_shown(alloc, &read_create_session_request(&mut cursor), want),
+        Kind::CreateSession => is_shown(alloc, read_create_session_request(&mut cursor), want),
         Kind::ActivateSession => {
-            is_shown(alloc, &read_activate_session_request(&mut cursor), want)
+            is_shown(alloc, read_activate_session_request(&mut cursor), want)
         }
-        Kind::CloseSession => is_shown(alloc, &read_close_session_request(&mut cursor), want),
+        Kind::CloseSession => is_shown(alloc, read_close_session_request(&mut cursor), want),
         Kind::HistoryUpdate => {
-            is_shown(
-                alloc,
-                &read_history_update_request(alloc, &mut cursor),
-                want,
-            )
+            is_shown(alloc, read_history_update_request(alloc, &mut cursor), want)
         }
-        Kind::Browse => is_shown(alloc, &read_browse_request(alloc, &mut cursor), want),
-        Kind::Read => is_shown(alloc, &read_read_request(alloc, &mut cursor), want),
+        Kind::Browse => is_shown(alloc, read_browse_request(alloc, &mut cursor), want),
+        Kind::Read => is_shown(alloc, read_read_request(alloc, &mut cursor), want),
         Kind::HistoryRead => {
-            is_shown(alloc, &read_history_read_request(alloc, &mut cursor), want)
+            is_shown(alloc, read_history_read_request(alloc, &mut cursor), want)
         }
     };
     if is_read {

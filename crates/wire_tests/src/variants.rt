@@ -4,6 +4,7 @@ ghost use Rattle.ua_variant.specs.Variant.{IsShortVariant};
 ghost use Rattle.ua_variant.specs.DataValue.{IsShortData};
 
 use std::alloc::Global;
+use std::fmt::Debug;
 use ua_binary::{Cursor, TryClone};
 use ua_variant::{
     DataValue, ValueType, Variant, VariantFault, put_data_value, put_variant, read_data_value,
@@ -239,23 +240,45 @@ fn is_written(alloc: Global, value: &Variant, bytes: &[u8]) -> bool
     put_variant(&mut out, value).is_ok() && out.as_slice() == bytes && value.size() == bytes.len()
 }
 
-/// Whether `{:?}` shows this of the value.
-fn is_shown(alloc: Global, value: &Variant, shown: &str) -> bool {
+/// Whether `{:?}` shows this of a value.
+fn is_shown<T: Debug>(alloc: Global, value: &T, shown: &str) -> bool {
     format!(in alloc; "{value:?}").is_ok_and(|text| text.as_str() == shown)
 }
 
-/// Whether the bytes are read as a value of this type, all of them, and are written of it again; whether
-/// its copy is the value; and whether `{:?}` shows this of it.
+/// Whether a value's copy is the value.
+fn is_copied<T: TryClone + PartialEq + Drop>(value: &T) -> bool {
+    match value.try_clone() {
+        Ok(copy) => copy == *value,
+        Err(_) => false,
+    }
+}
+
+/// Whether the value is of this type, and is written as these bytes; whether its copy is the value; and
+/// whether `{:?}` shows this of it.
+fn is_value(
+    alloc: Global,
+    value: &Variant,
+    bytes: &[u8],
+    value_type: ValueType,
+    shown: &str,
+) -> bool
+    requires { IsShortVariant value.now }
+{
+    same_type(value, value_type)
+        && is_written(alloc, value, bytes)
+        && is_shown(alloc, value, shown)
+        && is_copied(value)
+}
+
+/// Whether the bytes are read as such a value, all of them.
 fn there_and_back(alloc: Global, bytes: &[u8], value_type: ValueType, shown: &str) -> bool {
     let mut cursor = Cursor::new(bytes);
-    let Ok(value) = read_variant(alloc, &mut cursor) else {
-        return false;
-    };
-    cursor.rest().is_empty()
-        && same_type(&value, value_type)
-        && is_written(alloc, &value, bytes)
-        && is_shown(alloc, &value, shown)
-        && value.try_clone().is_ok_and(|copy| copy == value)
+    match read_variant(alloc, &mut cursor) {
+        Ok(value) => {
+            cursor.rest().is_empty() && is_value(alloc, &value, bytes, value_type, shown)
+        }
+        Err(_) => false,
+    }
 }
 
 #[test]
@@ -296,21 +319,21 @@ fn is_data_written(alloc: Global, value: &DataValue, bytes: &[u8]) -> bool
         && value.size() == bytes.len()
 }
 
-/// Whether `{:?}` shows this of the data value.
-fn is_data_shown(alloc: Global, value: &DataValue, shown: &str) -> bool {
-    format!(in alloc; "{value:?}").is_ok_and(|text| text.as_str() == shown)
+/// Whether the data value is written as these bytes; whether its copy is the value; and whether `{:?}`
+/// shows this of it.
+fn is_data(alloc: Global, value: &DataValue, bytes: &[u8], shown: &str) -> bool
+    requires { IsShortData value.now }
+{
+    is_data_written(alloc, value, bytes) && is_shown(alloc, value, shown) && is_copied(value)
 }
 
-/// The same of a data value.
+/// Whether the bytes are read as such a data value, all of them.
 fn data_there_and_back(alloc: Global, bytes: &[u8], shown: &str) -> bool {
     let mut cursor = Cursor::new(bytes);
-    let Ok(value) = read_data_value(alloc, &mut cursor) else {
-        return false;
-    };
-    cursor.rest().is_empty()
-        && is_data_written(alloc, &value, bytes)
-        && is_data_shown(alloc, &value, shown)
-        && value.try_clone().is_ok_and(|copy| copy == value)
+    match read_data_value(alloc, &mut cursor) {
+        Ok(value) => cursor.rest().is_empty() && is_data(alloc, &value, bytes, shown),
+        Err(_) => false,
+    }
 }
 
 /// A value with its moment; without a value, all the rest; nothing; a null value; and a value with a status.
@@ -349,10 +372,8 @@ fn data_values(rt: HostRuntime) {
 /// The fault of bytes that spell no value, and how many are left then.
 fn value_refusal(alloc: Global, bytes: &[u8]) -> Option<(VariantFault, usize)> {
     let mut cursor = Cursor::new(bytes);
-    match read_variant(alloc, &mut cursor) {
-        Ok(_) => None,
-        Err(fault) => Some((fault, cursor.rest().len())),
-    }
+    let fault = read_variant(alloc, &mut cursor).err()?;
+    Some((fault, cursor.rest().len()))
 }
 
 #[test]
@@ -382,10 +403,12 @@ fn refused_values(rt: HostRuntime) {
     }
 }
 
-/// The picoseconds of the data value that the bytes spell.
-fn picoseconds(alloc: Global, bytes: &[u8]) -> Option<(Option<u16>, Option<u16>)> {
-    let value = read_data_value(alloc, &mut Cursor::new(bytes)).ok()?;
-    Some((value.source_pico, value.server_pico))
+/// Whether the bytes spell a data value with these picoseconds.
+fn are_picoseconds(alloc: Global, bytes: &[u8], source: Option<u16>, server: Option<u16>) -> bool {
+    match read_data_value(alloc, &mut Cursor::new(bytes)) {
+        Ok(value) => value.source_pico == source && value.server_pico == server,
+        Err(_) => false,
+    }
 }
 
 #[test]
@@ -397,7 +420,7 @@ fn picoseconds_have_a_most(rt: HostRuntime) {
         (&[0x20, 0, 0], None, Some(0)),
     ] {
         assert!(rt;
-            picoseconds(rt.alloc(), bytes) == Some((source, server)),
+            are_picoseconds(rt.alloc(), bytes, source, server),
             "at {bytes:?}"
         );
     }
@@ -406,10 +429,8 @@ fn picoseconds_have_a_most(rt: HostRuntime) {
 /// The fault of bytes that spell no data value, and how many are left then.
 fn data_refusal(alloc: Global, bytes: &[u8]) -> Option<(VariantFault, usize)> {
     let mut cursor = Cursor::new(bytes);
-    match read_data_value(alloc, &mut cursor) {
-        Ok(_) => None,
-        Err(fault) => Some((fault, cursor.rest().len())),
-    }
+    let fault = read_data_value(alloc, &mut cursor).err()?;
+    Some((fault, cursor.rest().len()))
 }
 
 #[test]
