@@ -9,7 +9,7 @@ use history_text::TextFault;
 use records::{Entry, Held, Moment};
 use stamp::ReplicaNo;
 use std::alloc::Global;
-use ua_binary::{Status, Text};
+use ua_binary::{NodeId, Status, Text};
 use ua_variant::{DataValue, HistoryUpdateType, Scalar, Variant};
 
 /// A value with a status.
@@ -110,7 +110,11 @@ static REFUSED: [(u8, &str, RowFault); 10] = [
     (6, "i=1;@0;5;Good\n", RowFault::Fields),
     (6, "x,noon,five,good\n", RowFault::Node),
     (6, "i=1,noon,five,good\n", RowFault::Time(TextFault::NoTime)),
-    (6, "i=1,@0,five,good\n", RowFault::Value(TextFault::NoInteger)),
+    (
+        6,
+        "i=1,@0,five,good\n",
+        RowFault::Value(TextFault::NoInteger),
+    ),
     (6, "i=1,@0,5,good\n", RowFault::Status(TextFault::NoStatus)),
     (1, "i=1,@0,5,Good\n", RowFault::Value(TextFault::NoBoolean)),
     (17, "i=1,@0,i=85,Good\n", RowFault::Value(TextFault::NoText)),
@@ -149,45 +153,55 @@ fn headers_are_written(rt: HostRuntime) {
     assert!(rt; good);
 }
 
-/// What is written of a modification of ns=1;s=T, made at noon.
-fn is_change(alloc: Global, kind: HistoryUpdateType, value: Option<DataValue>, text: &str) -> bool {
-    let Ok(user) = Text::from_str(alloc, "a,b") else {
-        return false;
-    };
-    let Some(origin) = ReplicaNo::new(1) else {
-        return false;
-    };
-    let Ok(node) = read_node(alloc, "ns=1;s=T") else {
-        return false;
-    };
-    let entry = Entry {
+/// A modification at the last moment, made at noon, which shows this number, or nothing.
+fn entry_of(kind: HistoryUpdateType, shown: Option<i32>, origin: ReplicaNo, user: Text) -> Entry {
+    Entry {
         time: Moment::at(-1),
-        value,
+        value: shown.map(|number| value_of(Some(Variant::Scalar(Scalar::Int32(number))), None)),
         kind,
         tick: 134_168_400_000_000_000,
         origin,
         user,
-    };
+    }
+}
+
+/// Whether a modification of a node is written so.
+fn is_written_so(alloc: Global, node: &NodeId, entry: &Entry, text: &str) -> bool {
     let mut out = Vec::new(alloc);
-    match put_change_row(alloc, &mut out, &node, &entry) {
-        Ok(()) => out.as_slice() == text.as_bytes(),
+    let done = put_change_row(alloc, &mut out, node, entry).is_ok();
+    done && out.as_slice() == text.as_bytes()
+}
+
+/// Whether a modification of ns=1;s=T is written so.
+fn is_row_of(alloc: Global, entry: &Entry, text: &str) -> bool {
+    match read_node(alloc, "ns=1;s=T") {
+        Ok(node) => is_written_so(alloc, &node, entry, text),
         Err(_) => false,
     }
 }
 
+/// Whether a modification of ns=1;s=T by `a,b` is written so.
+fn is_change(alloc: Global, kind: HistoryUpdateType, shown: Option<i32>, text: &str) -> bool {
+    let Some(origin) = ReplicaNo::new(1) else {
+        return false;
+    };
+    let Ok(user) = Text::from_str(alloc, "a,b") else {
+        return false;
+    };
+    is_row_of(alloc, &entry_of(kind, shown, origin, user), text)
+}
+
 #[test]
 fn changes_are_written(rt: HostRuntime) {
-    let alloc = rt.alloc();
-    let five = value_of(Some(Variant::Scalar(Scalar::Int32(5))), None);
     let replaced = is_change(
-        alloc,
+        rt.alloc(),
         HistoryUpdateType::Replace,
-        Some(five),
+        Some(5),
         "ns=1;s=T,@-1,5,Good,replace,2026-03-01T12:00:00.0000000Z,\"a,b\"\n",
     );
     assert!(rt; replaced);
     let deleted = is_change(
-        alloc,
+        rt.alloc(),
         HistoryUpdateType::Delete,
         None,
         "ns=1;s=T,@-1,,,delete,2026-03-01T12:00:00.0000000Z,\"a,b\"\n",

@@ -128,10 +128,10 @@ answer_of node from to words = do
 words-line : (node : Option NodeId) (from to : Result (Option ℤ) ProgramFault)
     (words : HistoryWords) (line : LineFault) → (from ≡ Err (Line line) → ⊥)
     → (to ≡ Err (Line line) → ⊥) → answer_of node from to words ≡ Err (Line line) → ⊥
-words-line None from to words line no other same = cc
-words-line (Some n) (Err e) to words line no other same = no cc
-words-line (Some n) (Ok f) (Err e) words line no other same = other cc
-words-line (Some n) (Ok f) (Ok t) words line no other same = cc
+words-line None from to words line first second same = cc
+words-line (Some n) (Err e) to words line first second same = first cc
+words-line (Some n) (Ok f) (Err e) words line first second same = second cc
+words-line (Some n) (Ok f) (Ok t) words line first second same = cc
 
 asked-line : (words : HistoryWords) (line : LineFault) → report_asked words ≡ Err (Line line) → ⊥
 asked-line words line same =
