@@ -197,9 +197,9 @@ static CASES: [Case; 9] = [
         Ok(()),
         b"time                          value                     status    \
           change    changed                       user\n\
-          2026-03-01T12:00:03.0000000Z  a,b?[31m\xc2?m               Good      \
+          2026-03-01T12:00:03.0000000Z  a,b?[31m\xc2\xbfm                Good      \
           delete    2026-03-01T12:01:05.0000000Z  ann\n\
-          2026-03-01T12:00:03.0000000Z  a,b?[31m\xc2?m               Good      \
+          2026-03-01T12:00:03.0000000Z  a,b?[31m\xc2\xbfm                Good      \
           insert    2026-03-01T12:01:02.0000000Z  ann\n",
     ),
     (
