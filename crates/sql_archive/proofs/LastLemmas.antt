@@ -31,7 +31,7 @@ last_both : (db : Trees) (origin : ℕ) (rows : List Row) → IsFilled db → Ar
     → IsLast (content_in db) origin (end_of rows) × (LacksEnd rows → ⊥)
 last_both db origin rows (R, l, stand) kept shown =
     subst (λ S. IsLast S origin (end_of rows) × (LacksEnd rows → ⊥)) (sym (content_is R db l stand))
-        (go rows refl)
+    (go rows refl)
   where
     X : List Row
     X = map row_of R
@@ -90,7 +90,7 @@ last_both db origin rows (R, l, stand) kept shown =
             from,
             λ z k e.
                 below r.0 z (e ∙ sym from) (all-has (λ d. is_newer (row_of r.0) d ≡ false) X
-                    (row_of z)
+                (row_of z)
                 (none_from_any (is_newer (row_of r.0)) X none) (has-map row_of R z k)),
           ),
           is,
