@@ -141,8 +141,12 @@ def files_alone():
     assert dumped() == found
     os.remove(store + "-wal")
     os.remove(store)
-    assert dumped() == [] and os.path.exists(store + "-wal")
-    print("then the same is dumped; where both are gone a new store is made")
+    shown = subprocess.run([program, "history", "--settings", settings, "--node", "ns=1;s=T"], stdout=subprocess.PIPE, text=True, check=True).stdout
+    assert dumped() == [] and shown.startswith("time ") and shown.count("\n") == 1 and not os.path.exists(store) and not os.path.exists(store + "-wal")
+    print("then the same is dumped; where both are gone nothing is printed, and nothing made")
+    subprocess.run([program, "answer", "--settings", settings], stdin=subprocess.DEVNULL, stdout=subprocess.DEVNULL, check=True)
+    assert dumped() == [] and os.path.exists(store) and os.path.exists(store + "-wal")
+    print("a store that is gone with its log is made by what writes, and by no command that only prints")
 
 
 if __name__ == "__main__":
