@@ -1,0 +1,3 @@
+pub mod DoingLemmas
+pub mod TellingLemmas
+pub mod StandingLemmas
