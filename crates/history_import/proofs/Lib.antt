@@ -1,3 +1,0 @@
-pub mod DoingLemmas
-pub mod TellingLemmas
-pub mod StandingLemmas
