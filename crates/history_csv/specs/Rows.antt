@@ -51,18 +51,18 @@ optional_in number text =
     ]
 
 -- the second step from what the first one gave, if it gave something
-abbrev pub and_then : {A B : Type 0} → Result A RowFault → (A → Result B RowFault)
+abbrev pub and_read : {A B : Type 0} → Result A RowFault → (A → Result B RowFault)
     → Result B RowFault
-and_then (Ok x) f = f x
-and_then (Err e) f = Err e
+and_read (Ok x) f = f x
+and_read (Err e) f = Err e
 
 -- the row that four texts say
 abbrev pub row_in : (number : ℕ) → (node time value status : List ℕ) → Result Row RowFault
 row_in number node time value status =
-    and_then (ok_or (node_in node) fault.Node) λ node.
-    and_then (ok_or (moment_in time) (fault.Time NoTime)) λ time.
-    and_then (optional_in number value) λ value.
-    and_then (ok_or (status_in status) (fault.Status NoStatus)) λ status.
+    and_read (ok_or (node_in node) fault.Node) λ node.
+    and_read (ok_or (moment_in time) (fault.Time NoTime)) λ time.
+    and_read (optional_in number value) λ value.
+    and_read (ok_or (status_in status) (fault.Status NoStatus)) λ status.
     Ok (record { node = node; time = time; value = value; status = status })
 
 -- the row that fields say: four
@@ -173,7 +173,7 @@ read_again number given =
 -- the row that is read of one that was written
 abbrev pub row_again : (number : ℕ) → NodeId → Held → Result Row RowFault
 row_again number node held =
-    and_then (read_again number held.value.value) λ value.
+    and_read (read_again number held.value.value) λ value.
     Ok (record {
       node = node;
       time = held.time;

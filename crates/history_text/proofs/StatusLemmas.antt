@@ -9,7 +9,7 @@ use Rattle.std.proofs.lemmas.Slice.Eq.{bytes_eq-Decides}
 use Rattle.hex.specs.Hex.{IsBytes, decode_sized, encode_upper, upper_digits}
 use Rattle.hex.proofs.HexLemmas.{decode_of-encode_upper, decode_sized-twice, length-encode_with}
 use Rattle.ua_binary.specs.declared.codes.Status.{Status}
-use Rattle.history_text.specs.Statuses.{kept, code_in, status_in, status_text}
+use Rattle.history_text.specs.Statuses.{kept, hex_code_in, status_in, status_text}
 
 -- the bytes of a number are bytes
 be_bytes : (n : ℕ) → IsBytes (to_be_bytes w32 n)
@@ -28,13 +28,13 @@ other a b apart = elim (cases_Bool (bytes_eq a b)) [
 
 -- eight digits are read
 code_again : (n : ℕ) → n < 2 ^ 32
-    → code_in (encode_upper (to_be_bytes w32 n)) ≡ Some (kept (record { 0 = n }))
+    → hex_code_in (encode_upper (to_be_bytes w32 n)) ≡ Some (kept (record { 0 = n }))
 code_again n small =
     let text = encode_upper (to_be_bytes w32 n) in
     let long : length text ≡ 2 * 4 = length-encode_with upper_digits (to_be_bytes w32 n) in
     let bytes : decode_sized text 4 ≡ Ok (to_be_bytes w32 n) =
     decode_sized-twice text 4 long ∙ decode_of-encode_upper _ (be_bytes n) in
-    rw (bytes, code_in) (ap (λ k. Some (kept (record { 0 = k })))
+    rw (bytes, hex_code_in) (ap (λ k. Some (kept (record { 0 = k })))
     (from_be_bytes-to_be_bytes_4 n small))
 
 kept_kept : (status : Status) → kept (kept status) ≡ kept status

@@ -7,7 +7,7 @@ use Rattle.ua_binary.specs.declared.values.Ticks.{Ticks}
 use Rattle.ua_variant.specs.declared.value.Scalar.{Scalar}
 use Rattle.ua_variant.specs.declared.value.Scalar.TheVariants.{DateTime}
 use Rattle.history_text.specs.Times.{◌>>=◌, time_in, IsTimeText}
-use Rattle.history_text.specs.Values.{ticks_of, ticks_in, bytes_in, IsValueText}
+use Rattle.history_text.specs.Values.{whole_ticks, ticks_in, bytes_in, IsValueText}
 
 -- what is decoded, if it is
 abbrev optional : Result (List ℕ) FromHexError → Option (List ℕ)
@@ -24,7 +24,7 @@ bytes_again bytes fits = ap optional (decode_of-encode_lower bytes fits)
 -- a moment that is read is its steps
 pub ticks_again : (text : List ℕ) (ticks : Ticks)
     → time_in text ≡ Some (record { ticks = ticks.0; pico = 0 }) → ticks_in text ≡ Some ticks
-ticks_again text ticks h = ap (λ o. o >>= ticks_of) h
+ticks_again text ticks h = ap (λ o. o >>= whole_ticks) h
 
 -- a moment's text, whatever the value and the text are called
 pub dated : (v : Scalar) (ticks : Ticks) (t u : List ℕ) → v ≡ DateTime ticks → t ≡ u

@@ -10,8 +10,8 @@ abbrev pub kept : Status → Status
 kept status = record { 0 = bit_and status.0 4_294_966_263 }
 
 -- the code that eight hex digits write
-abbrev pub code_in : List ℕ → Option Status
-code_in text =
+abbrev pub hex_code_in : List ℕ → Option Status
+hex_code_in text =
     elim (decode_sized text 4)
     [ Ok bytes ↦ Some (kept (record { 0 = from_be_bytes w32 bytes })) | Err _ ↦ None ]
 
@@ -19,7 +19,7 @@ code_in text =
 abbrev pub status_in : List ℕ → Option Status
 status_in text =
     if bytes_eq text [] || bytes_eq text (codes "Good") then Some
-    (record { 0 = 0 }) else code_in text
+    (record { 0 = 0 }) else hex_code_in text
 
 -- the text of a code: Good, or eight hex digits
 abbrev pub status_text : Status → List ℕ

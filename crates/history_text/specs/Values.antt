@@ -29,12 +29,12 @@ boolean_in text =
     else if bytes_eq text false_text then Some false else None
 
 -- the steps of a moment, where it has no picoseconds
-abbrev pub ticks_of : Time → Option Ticks
-ticks_of time = if time.pico == 0 then Some (record { 0 = time.ticks }) else None
+abbrev pub whole_ticks : Time → Option Ticks
+whole_ticks time = if time.pico == 0 then Some (record { 0 = time.ticks }) else None
 
 -- a moment without picoseconds
 abbrev pub ticks_in : List ℕ → Option Ticks
-ticks_in text = time_in text >>= ticks_of
+ticks_in text = time_in text >>= whole_ticks
 
 -- the bytes that hex digits write
 abbrev pub bytes_in : List ℕ → Option (List ℕ)

@@ -2,7 +2,7 @@
 
 ghost use Rattle.std.specs.Prelude.{◌≡◌, ◌<◌, ◌^◌, IfOk, Ok, Err, Some, None};
 ghost use Rattle.std.specs.Option.{ok_or};
-ghost use Rattle.history_text.specs.Statuses.{kept, code_in, status_in, status_text};
+ghost use Rattle.history_text.specs.Statuses.{kept, hex_code_in, status_in, status_text};
 ghost use Rattle.history_text.specs.declared.fault.TextFault.TheVariants.{NoStatus};
 
 use crate::fault::TextFault;
@@ -22,8 +22,8 @@ pub fn kept_status(status: Status) -> Status
 }
 
 /// The status code that eight hex digits write.
-fn code_in(text: &[u8]) -> Option<Status>
-    ensures { result ≡ code_in text.now }
+fn hex_code_in(text: &[u8]) -> Option<Status>
+    ensures { result ≡ hex_code_in text.now }
 {
     let mut bytes = [0; 4];
     match hex::decode_to_slice(text, &mut bytes) {
@@ -38,7 +38,7 @@ pub(crate) fn status_in(text: &str) -> Option<Status>
 {
     match text {
         "" | "Good" => Some(Status(0)),
-        _ => code_in(text.as_bytes()),
+        _ => hex_code_in(text.as_bytes()),
     }
 }
 

@@ -5,7 +5,7 @@ ghost use Rattle.hex.specs.declared.error.FromHexError.TheVariants.{OutOfMemory 
 ghost use Rattle.hex.specs.Hex.{encode_lower};
 ghost use Rattle.ua_variant.specs.Scalar.{scalar_number};
 ghost use Rattle.ua_variant.specs.declared.value.Scalar.TheVariants.{ByteString};
-ghost use Rattle.history_text.specs.Values.{ticks_of, ticks_in, bytes_in, plain_in, value_in, Answers, IsUnwritten, read_back, IsValueText, as_value};
+ghost use Rattle.history_text.specs.Values.{whole_ticks, ticks_in, bytes_in, plain_in, value_in, Answers, IsUnwritten, read_back, IsValueText, as_value};
 ghost use Rattle.history_text.specs.Times.{time_in, IsTimeText};
 ghost use Rattle.history_text.specs.declared.fault.TextFault.TheVariants.{NoBytes, NoText, OutOfMemory};
 
@@ -24,8 +24,8 @@ use ua_binary::{Bytes, Text, Ticks};
 use ua_variant::Scalar;
 
 /// The steps of a moment, where it has no picoseconds.
-fn ticks_of(time: Time) -> Option<Ticks>
-    ensures { result ≡ ticks_of time }
+fn whole_ticks(time: Time) -> Option<Ticks>
+    ensures { result ≡ whole_ticks time }
 {
     if time.pico == 0 {
         Some(Ticks(time.ticks))
@@ -39,7 +39,7 @@ fn ticks_in(text: &str) -> Option<Ticks>
     ensures { result ≡ ticks_in text.now }
 {
     match time_in(text.as_bytes()) {
-        Some(time) => ticks_of(time),
+        Some(time) => whole_ticks(time),
         None => None,
     }
 }
