@@ -11,7 +11,7 @@ use Rattle.archive.specs.Reading.{lives, log}
 use Rattle.archive.specs.Store.{Store, StepResult, faults_of}
 use Rattle.archive.specs.Steps.{Transitions}
 use Rattle.archive.specs.declared.fault.StoreFault.{StoreFault}
-use Rattle.history_csv.specs.Rows.{value_names, change_names, AreValueFields, AreChangeFields, IsTextless, ShowsTextless}
+use Rattle.history_csv.specs.Rows.{value_names, change_names, AreReadFields, AreChangeFields, IsTextless, ShowsTextless}
 use Rattle.history_report.specs.declared.report.Report.{Report}
 use Rattle.history_report.specs.declared.fault.ReportFault.{ReportFault}
 use Rattle.history_report.specs.declared.fault.ReportFault.TheVariants as fault
@@ -43,11 +43,11 @@ fields_line csv fields = if csv then row_text default_writer fields else table_l
 abbrev pub header_of : Report → List ℕ
 header_of report = fields_line report.csv (if report.changes then change_names else value_names)
 
--- a line of a live value
+-- a line of a live value, whose fields are read again as that value
 abbrev pub IsValueLine : Report → Held → List ℕ → Type 0
 IsValueLine report held line =
     (fields : List (List ℕ)) × (line ≡ fields_line report.csv fields)
-    × AreValueFields report.node held fields
+    × AreReadFields report.node held fields
 
 -- a line of a modification
 abbrev pub IsChangeLine : Report → Entry → List ℕ → Type 0

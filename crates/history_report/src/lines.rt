@@ -2,7 +2,7 @@
 
 ghost use Rattle.std.specs.Prelude.{◌≡◌, ◌++◌, ◌∷◌, [], ℕ, List, IfOk, IfErr, OnOk, OnErr, if◌then◌else◌};
 ghost use Rattle.csv.specs.Writing.{default_writer, row_text};
-ghost use Rattle.history_csv.specs.Rows.{value_names, change_names, AreValueFields, AreChangeFields, IsTextless, ShowsTextless};
+ghost use Rattle.history_csv.specs.Rows.{value_names, change_names, AreReadFields, AreChangeFields, IsTextless, ShowsTextless};
 ghost use Rattle.history_report.specs.Tables.{table_line};
 ghost use Rattle.history_report.specs.Reports.{header_of, IsValueLine, IsChangeLine};
 ghost use Rattle.history_report.specs.Paging.{IsPut, IsWhy};
@@ -63,7 +63,7 @@ fn put_value_shown(
 ) -> Result<(), TextFault>
     ensures written { OnOk result (IsPut out.old.items out.new.items
         (λ line. (fields : List (List ℕ)) × (line ≡ table_line fields)
-        × AreValueFields report.now.node held.now fields)) }
+        × AreReadFields report.now.node held.now fields)) }
     ensures refused { IfErr result (IsWhy (IsTextless held.now.value.value)) }
     ensures kept { OnErr result (out.new.items ≡ out.old.items) }
 {

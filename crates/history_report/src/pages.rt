@@ -2,6 +2,7 @@
 
 ghost use Rattle.std.specs.Prelude.{◌≡◌, MatchResult};
 ghost use Rattle.archive.specs.Reading.{place_of};
+ghost use Rattle.archive.specs.Store.{IsAskedWithin};
 ghost use Rattle.history_report.specs.Paging.{IsBehind, place_behind, values_left, changes_left, GivesPage, Fails};
 
 use crate::report::Report;
@@ -42,10 +43,11 @@ pub(crate) fn next_values<A: Archive>(
     report: &Report,
     pages: &mut Pages,
 ) -> Result<Vec<Held>, StoreFault>
-    ensures { MatchResult result
+    ensures pages { MatchResult result
         (λ page. GivesPage (A.state archive.old) (A.state archive.new) page.items
         (values_left report.now.node pages.new) (values_left report.now.node pages.old))
         (λ why. Fails (A.state archive.old) (A.state archive.new) why) }
+    ensures asked { IsAskedWithin 100 (A.asked archive.old) (A.asked archive.new) }
 {
     let Span { from, to } = pages.span;
     let way = Direction::Forward;
@@ -87,10 +89,11 @@ pub(crate) fn next_changes<A: Archive>(
     report: &Report,
     pages: &mut Pages,
 ) -> Result<Vec<Entry>, StoreFault>
-    ensures { MatchResult result
+    ensures pages { MatchResult result
         (λ page. GivesPage (A.state archive.old) (A.state archive.new) page.items
         (changes_left report.now.node pages.new) (changes_left report.now.node pages.old))
         (λ why. Fails (A.state archive.old) (A.state archive.new) why) }
+    ensures asked { IsAskedWithin 100 (A.asked archive.old) (A.asked archive.new) }
 {
     let Span { from, to } = pages.span;
     let (after, way) = (pages.after, Direction::Forward);

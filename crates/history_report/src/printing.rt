@@ -2,6 +2,7 @@
 
 ghost use Rattle.std.specs.Prelude.{◌≡◌, ◌⊎◌, [], IsErrOf, MatchResult};
 ghost use Rattle.std.specs.Io.KnownBytes.{Appends};
+ghost use Rattle.archive.specs.Store.{IsAskedWithin};
 ghost use Rattle.counted_io.specs.Bytes.{AppendsPart, counted};
 ghost use Rattle.history_csv.specs.Rows.{IsTextless, ShowsTextless};
 ghost use Rattle.history_report.specs.Reports.{Prints, PrintsLines, ReadsFor, IsValueLine, IsChangeLine, header_of};
@@ -57,6 +58,7 @@ fn print_values<A: Archive, W: Write>(
         (λ R. PrintsLines (IsValueLine report.now) (λ h. IsTextless h.value.value) []
         (values_left report.now.node pages R) (W.contents output.old.inner)
         (W.contents output.new.inner) result) }
+    ensures asked { IsAskedWithin 100 (A.asked archive.old) (A.asked archive.new) }
     ensures write { IsErrOf result ReportFault.Write
         → output.new.faults ≡ counted output.old.faults }
     ensures kept { (IsErrOf result ReportFault.Write → ⊥) → output.new.faults ≡ output.old.faults }
@@ -91,6 +93,7 @@ fn print_changes<A: Archive, W: Write>(
         (λ R. PrintsLines (IsChangeLine report.now) (λ e. ShowsTextless e.value) []
         (changes_left report.now.node pages R) (W.contents output.old.inner)
         (W.contents output.new.inner) result) }
+    ensures asked { IsAskedWithin 100 (A.asked archive.old) (A.asked archive.new) }
     ensures write { IsErrOf result ReportFault.Write
         → output.new.faults ≡ counted output.old.faults }
     ensures kept { (IsErrOf result ReportFault.Write → ⊥) → output.new.faults ≡ output.old.faults }
@@ -131,6 +134,7 @@ pub fn print_report<A: Archive, W: Write>(
 ) -> Result<(), ReportFault>
     ensures prints { Prints report.now (A.state archive.old) (A.state archive.new)
         (W.contents output.old.inner) (W.contents output.new.inner) result }
+    ensures asked { IsAskedWithin 100 (A.asked archive.old) (A.asked archive.new) }
     ensures write { IsErrOf result ReportFault.Write
         → output.new.faults ≡ counted output.old.faults }
     ensures kept { (IsErrOf result ReportFault.Write → ⊥) → output.new.faults ≡ output.old.faults }

@@ -10,6 +10,6 @@ returns-clause-written c =
       (
         row.node.items ∷ row.time.items ∷ row.shown.value.items ∷ row.shown.status.items ∷ [],
         c.in_ok-line.ensures,
-        c.in_ok-row.ensures.written.0,
+        c.in_ok-row.ensures.written,
       ),
     )

@@ -5,15 +5,15 @@ use Rattle.history_report.specs.Paging.{IsBehind, values_left}
 use Rattle.history_report.proofs.PageLemmas.{answered, unanswered, values-page}
 use Rattle.history_report.proofs.pages.next_values.Goals as goal
 
-pub returns-in-Err : goal.returns-in-Err
-returns-in-Err g c =
+pub returns-in-Err-clause-pages : goal.returns-in-Err-clause-pages
+returns-in-Err-clause-pages g c =
     let state = g.A.Archive.state in
     unanswered (state c.args.archive.now) (state c.range.new.self) c.in-Err.fault
     (λ v. v.items ≡ take 100 (values_left c.args.report.now.node c.args.pages.now
     (state c.args.archive.now).content)) c.in-Err.ensures.asks
 
-pub returns : goal.returns
-returns g c =
+pub returns-clause-pages : goal.returns-clause-pages
+returns-clause-pages g c =
     let state = g.A.Archive.state in
     let old = c.args.pages.now in
     let page = c.in-Ok.page in

@@ -1,4 +1,4 @@
-use Rattle.std.proofs.Common.{List, sym, ◌∙◌, subst}
+use Rattle.std.proofs.Common.{arith, List, sym, ◌∙◌, subst}
 use Rattle.std.specs.Prelude.{Err, Ok}
 use Rattle.records.specs.declared.shown.Held.{Held}
 use Rattle.history_csv.specs.Rows.{IsTextless}
@@ -16,7 +16,7 @@ returns-in-Err-clause-prints g c =
     (state c.args.archive.now) (state c.loop.archive) (state c.next_values.new.archive)
     (values_left report.node c.args.pages) (values_left report.node c.loop.pages)
     (g.W.Write.contents c.args.output.now.inner) now now c.loop.invariant.so_far c.in-Err.fault
-    c.in-Err.ensures
+    c.in-Err.ensures.pages
 
 pub returns-then-is_empty-clause-prints : goal.returns-then-is_empty-clause-prints
 returns-then-is_empty-clause-prints g c =
@@ -27,7 +27,7 @@ returns-then-is_empty-clause-prints g c =
     (state c.args.archive.now) (state c.loop.archive) (state c.next_values.new.archive)
     (values_left report.node c.args.pages) (values_left report.node c.loop.pages)
     (g.W.Write.contents c.args.output.now.inner) now now c.loop.invariant.so_far
-    c.in-Ok.page.items (values_left report.node c.next_values.new.pages) c.in-Ok.ensures
+    c.in-Ok.page.items (values_left report.node c.next_values.new.pages) c.in-Ok.ensures.pages
     (sym c.as_slice-rows.ensures.value
     ∙ no-items c.as_slice-rows.result.now (sym c.if-is_empty.ensures))
 
@@ -41,7 +41,7 @@ returns-in-Err-send_rows-clause-prints g c =
     (state c.args.archive.now) (state c.loop.archive) (state c.next_values.new.archive)
     (values_left report.node c.args.pages) (values_left report.node c.loop.pages)
     (g.W.Write.contents c.args.output.now.inner) now after c.loop.invariant.so_far
-    c.in-Ok.page.items (values_left report.node c.next_values.new.pages) c.in-Ok.ensures
+    c.in-Ok.page.items (values_left report.node c.next_values.new.pages) c.in-Ok.ensures.pages
     c.in-Err-send_rows.fault
     (subst (λ (l : List Held). SendsLines (IsValueLine report)
     (λ (h : Held). IsTextless h.value.value) l now after (Err c.in-Err-send_rows.fault))
@@ -58,11 +58,12 @@ loop-preserved g c =
           (state c.args.archive.now) (state c.loop.archive) (state c.next_values.new.archive)
           (values_left report.node c.args.pages) (values_left report.node c.loop.pages)
           (g.W.Write.contents c.args.output.now.inner) now after c.loop.invariant.so_far
-          c.in-Ok.page.items (values_left report.node c.next_values.new.pages) c.in-Ok.ensures
+          c.in-Ok.page.items (values_left report.node c.next_values.new.pages) c.in-Ok.ensures.pages
           (subst (λ (l : List Held). SendsLines (IsValueLine report)
           (λ (h : Held). IsTextless h.value.value) l now after (Ok tt))
           c.as_slice-rows.ensures.value c.in-Ok-send_rows.ensures.sends);
       faults = c.in-Ok-send_rows.ensures.kept (λ e. absurd cc) ∙ c.loop.invariant.faults;
+      asked = omega (arith, c.loop.invariant.asked, c.in-Ok.ensures.asked);
     }
 
 pub returns-clause-prints : goal.returns-clause-prints

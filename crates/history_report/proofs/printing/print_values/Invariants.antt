@@ -1,4 +1,5 @@
 use Rattle.std.proofs.Common.{◌≡◌}
+use Rattle.archive.specs.Store.{IsAskedWithin}
 use Rattle.history_report.specs.Reports.{IsValueLine}
 use Rattle.history_report.specs.Paging.{Printing, values_left}
 use Rattle.history_report.proofs.printing.print_values.Given as goal
@@ -10,4 +11,5 @@ invariant-loop g l = record {
       (values_left l.report.node l.pages)
       (g.W.Write.contents l.fn.output.inner) (g.W.Write.contents l.output.inner);
   faults : l.output.faults ≡ l.fn.output.faults;
+  asked : IsAskedWithin 100 (g.A.Archive.asked l.fn.archive) (g.A.Archive.asked l.archive);
 }
