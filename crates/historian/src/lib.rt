@@ -22,3 +22,4 @@ pub use message::answer_message;
 pub use responses::put_service_fault;
 pub use server::Server;
 pub use service::ClientMessage;
+pub use updating::{granted_type, update_one};

@@ -29,6 +29,7 @@ use std::alloc::{AllocError, Global};
 use ua_binary::{Listing, NodeIdRef, Status, Text, Ticks};
 use ua_services::{HistoryUpdateDetails, HistoryUpdateResult};
 use ua_session::{Access, Sessions};
+use ua_settings::Settings;
 use ua_variant::ValueType;
 
 /// The most details of a HistoryUpdate.
@@ -162,6 +163,53 @@ fn update_item<A: Archive>(
         Ok(request) => update_of(alloc, archive, &request, value_type, details),
         Err(_) => refused(alloc, Status::BAD_OUT_OF_MEMORY),
     }
+}
+
+/// The address space of these settings as their user of this name sees it.
+fn seen_by<'a>(settings: &'a Settings, user: &str) -> UserSpace<'a>
+    ensures { user_space_of result ≡ space_for settings.now user.now }
+{
+    UserSpace {
+        space: settings.space(),
+        access: settings.users().access_of(user),
+    }
+}
+
+/// The type of an archived variable whose history a user of these settings may update, as
+/// HistoryUpdate judges it: `BAD_NODE_ID_UNKNOWN`, `BAD_HISTORY_OPERATION_UNSUPPORTED` where the node
+/// isn't archived, `BAD_USER_ACCESS_DENIED` for a user who may only read.
+pub fn granted_type(
+    settings: &Settings,
+    user: &str,
+    node: NodeIdRef<'_>,
+) -> Result<ValueType, Status>
+    ensures told { result
+        ≡ type_granted (space_for settings.now user.now) (Some (node_of node.entry)) }
+    ensures short { IfOk result (λ _. id_length (node_of node.entry) ≤ 256) }
+{
+    type_of(seen_by(settings, user), node)
+}
+
+/// What one of the details of a HistoryUpdate of this user is answered, at this moment. Its status is
+/// as `update_history` has it of each of the details; the settings stay.
+pub fn update_one<A: Archive>(
+    server: &mut Server<A>,
+    user: &str,
+    now: Ticks,
+    details: &HistoryUpdateDetails<'_>,
+) -> HistoryUpdateResult
+    requires user { IsUserName user.now }
+    requires values { HasShortValues (details_of details.now) }
+    ensures acts { (used : List StepResult)
+        × Refines (A.state server.old.replica.archive) (A.state server.new.replica.archive) used
+        (update_item (A.state server.old.replica.archive).own
+        (space_for server.old.settings user.now) user.now now (details_of details.now)) result }
+    ensures settings { server.new.settings ≡ server.old.settings }
+    ensures short { IsShortUpdate result }
+{
+    let seen = seen_by(&server.settings, user);
+    let archive = &mut server.replica.archive;
+    update_item(server.alloc, seen, archive, user, now, details)
 }
 
 /// What details are answered, in order, each over what those before it left.

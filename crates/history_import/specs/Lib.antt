@@ -1,0 +1,5 @@
+pub mod Rows
+pub mod Words
+pub mod Telling
+pub mod Imports
+pub mod Reading

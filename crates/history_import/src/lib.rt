@@ -1,0 +1,26 @@
+//! A history read from CSV: each row is an update of one value, in a user's name.
+#![tactic(auto)]
+
+mod asked;
+mod counts;
+mod fates;
+mod fault;
+mod importing;
+mod input;
+mod lines;
+mod reading;
+mod row_end;
+mod rows;
+mod tally;
+mod telling;
+mod update;
+mod words;
+mod writers;
+
+pub use asked::{Import, Perform};
+pub use counts::Counts;
+pub use fault::ImportFault;
+pub use importing::import_rows;
+pub use row_end::{Fate, RowEnd};
+pub use words::{text_words, why_words};
+pub use writers::may_import;

@@ -1,0 +1,13 @@
+//! Tests: histories that are read from CSV.
+#![tactic(auto)]
+
+#[cfg(test)]
+mod exports;
+#[cfg(test)]
+mod many;
+#[cfg(test)]
+mod plant;
+#[cfg(test)]
+mod runs;
+#[cfg(test)]
+mod words;
