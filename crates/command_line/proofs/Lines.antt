@@ -1,9 +1,9 @@
 -- What the matches give.
 use Rattle.std.proofs.Common.{◌≡◌, List, [], Some, None, refl, subst, ap, sym, ◌∙◌, codes, arith, get_or}
-use Rattle.std.specs.Prelude.{Option, Result, Ok, Err, OnErr}
+use Rattle.std.specs.Prelude.{Option, option_map, Result, Ok, Err, OnErr}
 use Rattle.clap.specs.Words.{Row, Text}
-use Rattle.command_line.specs.declared.line.Line.TheVariants.{Answer, Serve, Dump, Sync, History}
-use Rattle.command_line.specs.Line.{IsLine, IsAnswer, IsServe, IsDump, IsSync, IsHistoryCommand, NoLine}
+use Rattle.command_line.specs.declared.line.Line.TheVariants.{Answer, Serve, Dump, Sync, History, Import}
+use Rattle.command_line.specs.Line.{IsLine, IsAnswer, IsServe, IsDump, IsSync, IsHistoryCommand, IsImportCommand, NoLine}
 
 -- what holds of a value that is there, and of one that isn't
 pub of-value : {T : Type 0} (o : Option T) (none : Type 0) (some : T → Type 0) → (o ≡ None → none)
@@ -40,6 +40,9 @@ no-answer matches rows is none (Sync path address) h = let same =
     one-name matches (codes "answer") (codes "sync") rows h.0 is h.1 in absurd cc
 no-answer matches rows is none (History path asked) h = let same =
     one-name matches (codes "answer") (codes "history") rows h.0 is h.1 in absurd cc
+no-answer matches rows is none (Import path asked) h = let first : 97 ≡ 105 =
+    ap (λ (l : Text). get_or l 0 0)
+    (one-name matches (codes "answer") (codes "import") rows h.0 is h.1) in omega (arith, first)
 
 pub no-serve : (matches : Option (Text × List Row)) (rows : List Row)
     → matches ≡ Some (codes "serve", rows) → NoLine (IsServe rows) → NoLine (IsLine matches)
@@ -54,6 +57,8 @@ no-serve matches rows is none (Sync path address) h = let same =
     one-name matches (codes "serve") (codes "sync") rows h.0 is h.1 in absurd cc
 no-serve matches rows is none (History path asked) h = let same =
     one-name matches (codes "serve") (codes "history") rows h.0 is h.1 in absurd cc
+no-serve matches rows is none (Import path asked) h = let same =
+    one-name matches (codes "serve") (codes "import") rows h.0 is h.1 in absurd cc
 
 pub no-dump : (matches : Option (Text × List Row)) (rows : List Row)
     → matches ≡ Some (codes "dump", rows) → NoLine (IsDump rows) → NoLine (IsLine matches)
@@ -69,6 +74,8 @@ no-dump matches rows is none (Sync path address) h = let first : 100 ≡ 115 =
     (one-name matches (codes "dump") (codes "sync") rows h.0 is h.1) in omega (arith, first)
 no-dump matches rows is none (History path asked) h = let same =
     one-name matches (codes "dump") (codes "history") rows h.0 is h.1 in absurd cc
+no-dump matches rows is none (Import path asked) h = let same =
+    one-name matches (codes "dump") (codes "import") rows h.0 is h.1 in absurd cc
 
 pub no-sync : (matches : Option (Text × List Row)) (rows : List Row)
     → matches ≡ Some (codes "sync", rows) → NoLine (IsSync rows) → NoLine (IsLine matches)
@@ -84,6 +91,8 @@ no-sync matches rows is none (Sync path address) h =
     (one-list matches (codes "sync") (codes "sync") rows h.0 is h.1) h.2)
 no-sync matches rows is none (History path asked) h = let same =
     one-name matches (codes "sync") (codes "history") rows h.0 is h.1 in absurd cc
+no-sync matches rows is none (Import path asked) h = let same =
+    one-name matches (codes "sync") (codes "import") rows h.0 is h.1 in absurd cc
 
 pub no-history : (matches : Option (Text × List Row)) (rows : List Row)
     → matches ≡ Some (codes "history", rows) → NoLine (IsHistoryCommand rows)
@@ -99,6 +108,31 @@ no-history matches rows is none (Sync path address) h = let same =
 no-history matches rows is none (History path asked) h =
     none (History path asked) (subst (λ (r : List Row). IsHistoryCommand r (History path asked))
     (one-list matches (codes "history") (codes "history") rows h.0 is h.1) h.2)
+no-history matches rows is none (Import path asked) h = let same =
+    one-name matches (codes "history") (codes "import") rows h.0 is h.1 in absurd cc
+
+pub no-import : (matches : Option (Text × List Row)) (rows : List Row)
+    → matches ≡ Some (codes "import", rows) → NoLine (IsImportCommand rows)
+    → NoLine (IsLine matches)
+no-import matches rows is none (Answer path flag moment) h = let first : 105 ≡ 97 =
+    ap (λ (l : Text). get_or l 0 0)
+    (one-name matches (codes "import") (codes "answer") rows h.0 is h.1) in omega (arith, first)
+no-import matches rows is none (Serve path count) h = let same =
+    one-name matches (codes "import") (codes "serve") rows h.0 is h.1 in absurd cc
+no-import matches rows is none (Dump path) h = let same =
+    one-name matches (codes "import") (codes "dump") rows h.0 is h.1 in absurd cc
+no-import matches rows is none (Sync path address) h = let same =
+    one-name matches (codes "import") (codes "sync") rows h.0 is h.1 in absurd cc
+no-import matches rows is none (History path asked) h = let same =
+    one-name matches (codes "import") (codes "history") rows h.0 is h.1 in absurd cc
+no-import matches rows is none (Import path asked) h =
+    none (Import path asked) (subst (λ (r : List Row). IsImportCommand r (Import path asked))
+    (one-list matches (codes "import") (codes "import") rows h.0 is h.1) h.2)
+
+-- what is known of an option's value, said of the option
+pub mapped : {T U : Type 0} (f : T → U) (o p : Option T) (m : Option U) → option_map f o ≡ m → o ≡ p
+    → m ≡ option_map f p
+mapped f o p m same e = sym same ∙ ap (option_map f) e
 
 -- what is said of a refusal, said of it by what follows from that
 pub refused-so : {T E P Q : Type 0} (result : Result T E) → (P → Q) → OnErr result P

@@ -1,5 +1,6 @@
 -- The command line.
-use Rattle.std.specs.Prelude.{◌≡◌, ◌≢◌, ℤ, List, [], ◌∷◌, ℕ, Bool, true, false, ◌⊎◌, Option, None, Some, Ok, option_copied, codes, fold}
+use Rattle.std.specs.Prelude.{◌≡◌, ◌≢◌, ℤ, List, [], ◌∷◌, ℕ, Bool, true, false, ◌⊎◌, Option, None, Some, Ok, option_copied, codes, fold, nat_eq, if◌then◌else◌}
+use Rattle.std.specs.Cmp.Lexicographic.{pointwise}
 use Rattle.std.specs.Int.{w64}
 use Rattle.std.specs.Str.Parse.{ParsesSigned, ParsesUnsigned}
 use Rattle.std.specs.declared.num.ParseIntError.{ParseIntError}
@@ -10,8 +11,11 @@ use Rattle.clap.specs.declared.error.ErrorKind.TheVariants.{DisplayHelp, Display
 use Rattle.clap.specs.declared.builder.action.ArgAction.TheVariants.{Set, SetTrue}
 use Rattle.clap.specs.declared.builder.value_parser.ValueParser.TheVariants.{Unsigned}
 use Rattle.command_line.specs.declared.line.Line.{Line}
-use Rattle.command_line.specs.declared.line.Line.TheVariants.{Answer, Serve, Dump, Sync, History}
+use Rattle.command_line.specs.declared.line.Line.TheVariants.{Answer, Serve, Dump, Sync, History, Import}
 use Rattle.command_line.specs.declared.line.HistoryWords.{HistoryWords}
+use Rattle.command_line.specs.declared.line.ImportWords.{ImportWords}
+use Rattle.command_line.specs.declared.line.PerformWord.{PerformWord}
+use Rattle.command_line.specs.declared.line.PerformWord.TheVariants.{Insert, Replace, Update}
 use Rattle.command_line.specs.declared.line.Asked.{Asked}
 use Rattle.command_line.specs.declared.line.Asked.TheVariants.{Work, Text as Shown}
 use Rattle.command_line.specs.declared.line.LineFault.{LineFault}
@@ -71,6 +75,12 @@ abbrev pub history_command : App
 history_command =
     with_rule (with_rule span_command (flag (codes "changes"))) (flag (codes "csv"))
 
+-- `import --settings FILE --user NAME [--perform WORD]`
+abbrev pub import_command : App
+import_command =
+    command (codes "import")
+    (needed (codes "settings") ∷ needed (codes "user") ∷ option (codes "perform") ∷ [])
+
 -- the program with no commands yet: it has a version, which its commands have too
 abbrev pub program : App
 program =
@@ -89,7 +99,8 @@ movers = with_subcommand (with_subcommand servers dump_command.top) sync_command
 abbrev pub uahist : App
 uahist =
     fold (λ all one. with_subcommand all one.top) program
-    (answer_command ∷ serve_command ∷ dump_command ∷ sync_command ∷ history_command ∷ [])
+    (answer_command ∷ serve_command ∷ dump_command ∷ sync_command ∷ history_command
+    ∷ import_command ∷ [])
 
 -- where the first fault that clap finds may be that help, or the version, is asked for
 abbrev pub MayAskForText : Kinds → Type 0
@@ -161,6 +172,31 @@ IsHistoryCommand rows line =
       | _ ↦ ⊥
     ]
 
+-- what a word asks of rows
+abbrev pub perform_named : Text → Option PerformWord
+perform_named word =
+    if pointwise nat_eq word (codes "insert") then Some Insert
+    else if pointwise nat_eq word (codes "replace") then Some Replace
+    else if pointwise nat_eq word (codes "update") then Some Update else None
+
+-- the same, and to be inserted where no word is given
+abbrev pub perform_in : Option Text → Option PerformWord
+perform_in given = elim given [ None ↦ Some Insert | Some word ↦ perform_named word ]
+
+-- what rows ask of an import: in whose name, and what the rows are to do
+pub record AreImportWords (rows : List Row) (asked : ImportWords) : Type 0 where
+  pub user : first_of (codes "user") rows ≡ Some asked.user.now
+  pub perform : perform_in (first_of (codes "perform") rows) ≡ Some asked.perform
+
+-- what the rows of `import` give
+abbrev pub IsImportCommand : List Row → Line → Type 0
+IsImportCommand rows line =
+    elim line [
+      | Import path asked ↦ (first_of (codes "settings") rows ≡ Some path.now)
+          × AreImportWords rows asked
+      | _ ↦ ⊥
+    ]
+
 -- the matches name this command, and its rows give this line
 abbrev pub NamesCommand : Option (Text × List Row) → Text → (List Row → Line → Type 0) → Line
     → Type 0
@@ -176,6 +212,7 @@ IsLine m (Serve path count) = NamesCommand m (codes "serve") IsServe (Serve path
 IsLine m (Dump path) = NamesCommand m (codes "dump") IsDump (Dump path)
 IsLine m (Sync path peer) = NamesCommand m (codes "sync") IsSync (Sync path peer)
 IsLine m (History path it) = NamesCommand m (codes "history") IsHistoryCommand (History path it)
+IsLine m (Import path it) = NamesCommand m (codes "import") IsImportCommand (Import path it)
 
 -- no line is so
 abbrev pub NoLine : (Line → Type 0) → Type 0
@@ -190,7 +227,7 @@ Asks faults matches (Shown text) = MayAskForText faults
 -- the usage of the program, in one line
 abbrev pub usage : List ℕ
 usage =
-    codes "usage: uahist answer [--settings FILE] [--hex] [--now N] | serve --settings FILE [--connections N] | dump --settings FILE | sync --settings FILE --peer ADDRESS | history --settings FILE --node ID [--from T] [--to T] [--changes] [--csv]"
+    codes "usage: uahist answer [--settings FILE] [--hex] [--now N] | serve --settings FILE [--connections N] | dump --settings FILE | sync --settings FILE --peer ADDRESS | history --settings FILE --node ID [--from T] [--to T] [--changes] [--csv] | import --settings FILE --user NAME [--perform insert|replace|update]"
 
 -- the text that tells a refused command line
 abbrev pub line_text_of : LineFault → List ℕ

@@ -3,4 +3,4 @@
 
 mod line;
 
-pub use line::{Asked, HistoryWords, Line, LineFault, read_line};
+pub use line::{Asked, HistoryWords, ImportWords, Line, LineFault, PerformWord, read_line};

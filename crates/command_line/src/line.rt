@@ -1,13 +1,13 @@
 //! The command line.
 
-ghost use Rattle.std.specs.Prelude.{◌≡◌, [], map, IfOk, OnErr, IsErrOf, None, Some, true, false, codes};
+ghost use Rattle.std.specs.Prelude.{◌≡◌, [], map, IfOk, OnErr, IsErrOf, None, Some, true, false, codes, option_copied};
 ghost use Rattle.clap.specs.Words.{app_of, kind_of, rule_of, rows_of, found_of, subcommand_of, subcommand_rows_of, first_of};
 ghost use Rattle.clap.specs.declared.builder.command.Command.TheViews.{out-Command};
 ghost use Rattle.clap.specs.declared.error.ErrorKind.TheVariants as clap;
 ghost use Rattle.clap.specs.Takes.{takes};
 ghost use Rattle.clap.specs.Faults.{fault_of as fault_kinds};
-ghost use Rattle.command_line.specs.Line.{Asks, AsksForText, AreHistoryWords, IsLine, option, uahist, IsAnswer, IsServe, IsDump, IsHistoryCommand, IsMistake, IsSync, IsText, IsTextOf, NoLine, movers, node_command, servers, span_command};
-ghost use Rattle.command_line.specs.Line.{answer_command, connections, dump_command, flag, history_command, now, serve_command, sync_command};
+ghost use Rattle.command_line.specs.Line.{Asks, AsksForText, AreHistoryWords, IsLine, option, uahist, IsAnswer, IsServe, IsDump, IsHistoryCommand, IsImportCommand, IsMistake, IsSync, IsText, IsTextOf, NoLine, movers, node_command, perform_in, perform_named, servers, span_command};
+ghost use Rattle.command_line.specs.Line.{answer_command, connections, dump_command, flag, history_command, import_command, now, serve_command, sync_command};
 
 use clap::builder::ValueParser;
 use clap::error::{Error as Refusal, ErrorKind};
@@ -56,6 +56,31 @@ pub enum Line<'a> {
         settings: &'a str,
         asked: HistoryWords<'a>,
     },
+    /// Write the rows of standard input into the archive that the file at `settings` sets.
+    Import {
+        settings: &'a str,
+        asked: ImportWords<'a>,
+    },
+}
+
+/// What rows are to do with the values that they name.
+#[derive(Clone, Copy, Debug, PartialEq, Eq)]
+pub enum PerformWord {
+    /// Add a value where none stands.
+    Insert,
+    /// Put a value in the place of one that stands.
+    Replace,
+    /// Do the one or the other.
+    Update,
+}
+
+/// What a command line asks of an import, in its own words.
+#[derive(Clone, Copy, Debug, PartialEq, Eq)]
+pub struct ImportWords<'a> {
+    /// The user in whose name it is done.
+    pub user: &'a str,
+    /// What the rows are to do.
+    pub perform: PerformWord,
 }
 
 /// What a command line asks of a node's history, in its own words.
@@ -100,7 +125,7 @@ impl LineFault {
     {
         match self {
             LineFault::Words =>
-                "usage: uahist answer [--settings FILE] [--hex] [--now N] | serve --settings FILE [--connections N] | dump --settings FILE | sync --settings FILE --peer ADDRESS | history --settings FILE --node ID [--from T] [--to T] [--changes] [--csv]",
+                "usage: uahist answer [--settings FILE] [--hex] [--now N] | serve --settings FILE [--connections N] | dump --settings FILE | sync --settings FILE --peer ADDRESS | history --settings FILE --node ID [--from T] [--to T] [--changes] [--csv] | import --settings FILE --user NAME [--perform insert|replace|update]",
             LineFault::OutOfMemory => "memory ran out before the command began",
         }
     }
@@ -324,6 +349,45 @@ fn history_command<'a>(alloc: Global) -> Result<Command<'a>, AllocError>
     Ok(command)
 }
 
+/// The option `--user NAME`.
+fn user_option<'a>(alloc: Global) -> Arg<'a>
+    ensures rule { rule_of result ≡ option (codes "user") }
+    ensures local { result.global ≡ false }
+{
+    Arg::new(alloc, "user")
+        .long("user")
+        .value_name("NAME")
+        .help("The user in whose name it is done")
+        .action(ArgAction::Set)
+}
+
+/// The option `--perform WORD`.
+fn perform_option<'a>(alloc: Global) -> Arg<'a>
+    ensures rule { rule_of result ≡ option (codes "perform") }
+    ensures local { result.global ≡ false }
+{
+    Arg::new(alloc, "perform")
+        .long("perform")
+        .value_name("WORD")
+        .help("What the rows do: insert (as without it), replace, or update, which is either")
+        .action(ArgAction::Set)
+}
+
+/// The command `import` and its options.
+fn import_command<'a>(alloc: Global) -> Result<Command<'a>, AllocError>
+    ensures app { IfOk result (λ command. app_of command ≡ import_command) }
+    ensures local { IfOk result (λ command. (out-Command command).has_globals ≡ false) }
+{
+    let settings = settings_option(alloc).required(true);
+    let user = user_option(alloc).required(true);
+    let perform = perform_option(alloc);
+    let command = Command::new(alloc, "import").about(
+        "Writes the values of CSV from standard input, as history --csv prints them",
+    );
+    let command = command.arg(settings)?.arg(user)?.arg(perform)?;
+    Ok(command)
+}
+
 /// The program with its commands that answer clients.
 fn servers<'a>(alloc: Global) -> Result<Command<'a>, AllocError>
     ensures { IfOk result (λ command. app_of command ≡ servers) }
@@ -354,8 +418,9 @@ fn command<'a>(alloc: Global) -> Result<Command<'a>, AllocError>
     ensures { IfOk result (λ command. app_of command ≡ uahist) }
 {
     let history = history_command(alloc)?;
+    let import = import_command(alloc)?;
     let whole = movers(alloc)?;
-    let whole = whole.subcommand(history)?;
+    let whole = whole.subcommand(history)?.subcommand(import)?;
     Ok(whole)
 }
 
@@ -474,6 +539,51 @@ fn read_history<'a>(history: &ArgMatches<'a>) -> Result<Line<'a>, LineFault>
     }
 }
 
+/// What a word asks of rows.
+fn perform_named(word: &str) -> Option<PerformWord>
+    ensures { result ≡ perform_named word.now }
+{
+    if word == "insert" {
+        Some(PerformWord::Insert)
+    } else if word == "replace" {
+        Some(PerformWord::Replace)
+    } else if word == "update" {
+        Some(PerformWord::Update)
+    } else {
+        None
+    }
+}
+
+/// What rows are to do: to be inserted where no word is given.
+fn perform_in(word: Option<&str>) -> Option<PerformWord>
+    ensures { result ≡ perform_in (option_copied word.entry) }
+{
+    match word {
+        Some(word) => perform_named(word),
+        None => Some(PerformWord::Insert),
+    }
+}
+
+/// Reads the options of `import`.
+fn read_import<'a>(import: &ArgMatches<'a>) -> Result<Line<'a>, LineFault>
+    ensures ok { IfOk result (IsImportCommand (rows_of (found_of import.now))) }
+    ensures words { OnErr result (NoLine (IsImportCommand (rows_of (found_of import.now)))) }
+{
+    let Some(settings) = import.get_str("settings") else {
+        return Err(LineFault::Words);
+    };
+    let Some(user) = import.get_str("user") else {
+        return Err(LineFault::Words);
+    };
+    match perform_in(import.get_str("perform")) {
+        Some(perform) => Ok(Line::Import {
+            settings,
+            asked: ImportWords { user, perform },
+        }),
+        None => Err(LineFault::Words),
+    }
+}
+
 /// Reads the command that the matches name.
 fn read_matches<'a>(matches: &ArgMatches<'a>) -> Result<Line<'a>, LineFault>
     ensures ok { IfOk result (IsLine (subcommand_rows_of matches.now)) }
@@ -491,9 +601,12 @@ fn read_matches<'a>(matches: &ArgMatches<'a>) -> Result<Line<'a>, LineFault>
     if let Some(sync) = matches.subcommand_matches("sync") {
         return read_sync(sync);
     }
-    match matches.subcommand_matches("history") {
+    if let Some(history) = matches.subcommand_matches("history") {
+        return read_history(history);
+    }
+    match matches.subcommand_matches("import") {
         None => Err(LineFault::Words),
-        Some(history) => read_history(history),
+        Some(import) => read_import(import),
     }
 }
 

@@ -3,14 +3,10 @@ use Rattle.std.specs.Prelude.{Option, option_map}
 use Rattle.clap.specs.Matches.{first_value}
 use Rattle.clap.specs.Words.{Row, first_of, found_of, rows_of}
 use Rattle.command_line.specs.Line.{IsHistoryCommand, NoLine}
-use Rattle.command_line.specs.declared.line.Line.TheVariants.{Answer, Serve, Dump, Sync, History}
+use Rattle.command_line.specs.declared.line.Line.TheVariants.{Answer, Serve, Dump, Sync, History, Import}
 use Rattle.clap.proofs.WalkLemmas.{first_value-rows}
+use Rattle.command_line.proofs.Lines.{mapped}
 use Rattle.command_line.proofs.line.read_history.Goals as goal
-
--- what is known of an option's value, said of the option
-mapped : {T U : Type 0} (f : T → U) (o p : Option T) (m : Option U) → option_map f o ≡ m → o ≡ p
-    → m ≡ option_map f p
-mapped f o p m same e = sym same ∙ ap (option_map f) e
 
 not_set : (rows : List Row) → first_of (codes "settings") rows ≡ None → NoLine (IsHistoryCommand rows)
 not_set rows none (History path asked) h = let wrong = sym none ∙ h.0 in cc
@@ -18,6 +14,7 @@ not_set rows none (Answer path flag reading) h = h
 not_set rows none (Serve path count) h = h
 not_set rows none (Dump path) h = h
 not_set rows none (Sync path address) h = h
+not_set rows none (Import path asked) h = h
 
 not_told : (rows : List Row) → first_of (codes "node") rows ≡ None → NoLine (IsHistoryCommand rows)
 not_told rows none (History path asked) h = let wrong = sym none ∙ h.1.node in cc
@@ -25,6 +22,7 @@ not_told rows none (Answer path flag reading) h = h
 not_told rows none (Serve path count) h = h
 not_told rows none (Dump path) h = h
 not_told rows none (Sync path address) h = h
+not_told rows none (Import path asked) h = h
 
 pub returns-in_default-clause-words : goal.returns-in_default-clause-words
 returns-in_default-clause-words c =

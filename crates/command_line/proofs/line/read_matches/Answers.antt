@@ -1,6 +1,6 @@
 use Rattle.std.proofs.Common.{rules}
 use Rattle.clap.specs.Words.{rows_of, found_of, subcommand_rows_of}
-use Rattle.command_line.proofs.Lines.{refused-so, no-answer, no-serve, no-dump, no-sync, no-history}
+use Rattle.command_line.proofs.Lines.{refused-so, no-answer, no-serve, no-dump, no-sync, no-history, no-import}
 use Rattle.command_line.proofs.line.read_matches.Goals as goal
 
 pub returns-in-Some-clause-words : goal.returns-in-Some-clause-words
@@ -35,3 +35,10 @@ returns-in-Some-subcommand_matches-4-clause-words c =
     refused-so c.read_history.result (no-history (subcommand_rows_of c.args.matches.now)
     (rows_of (found_of c.in-Some-subcommand_matches-4.history.now)) (search rules))
     c.read_history.ensures.words
+
+pub returns-in-Some-subcommand_matches-5-clause-words :
+    goal.returns-in-Some-subcommand_matches-5-clause-words
+returns-in-Some-subcommand_matches-5-clause-words c =
+    refused-so c.read_import.result (no-import (subcommand_rows_of c.args.matches.now)
+    (rows_of (found_of c.in-Some-subcommand_matches-5.import.now)) (search rules))
+    c.read_import.ensures.words

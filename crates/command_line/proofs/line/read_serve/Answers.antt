@@ -7,8 +7,8 @@ use Rattle.clap.specs.Matches.{TriesOne, first_value}
 use Rattle.clap.specs.Words.{Row, Text, first_of, found_of, one_of, one_text, rows_of}
 use Rattle.clap.proofs.WalkLemmas.{first_value-rows, one_text-rows}
 use Rattle.command_line.specs.Line.{IsServe, NoLine}
-use Rattle.command_line.proofs.Lines.{of-value}
-use Rattle.command_line.specs.declared.line.Line.TheVariants.{Answer, Serve, Dump, Sync, History}
+use Rattle.command_line.proofs.Lines.{mapped, of-value}
+use Rattle.command_line.specs.declared.line.Line.TheVariants.{Answer, Serve, Dump, Sync, History, Import}
 use Rattle.command_line.proofs.line.read_serve.Goals as goal
 
 -- what a 32-bit number is read by
@@ -41,6 +41,7 @@ not_counted rows text is spells_none (Answer path flag reading) h = h
 not_counted rows text is spells_none (Dump path) h = h
 not_counted rows text is spells_none (Sync path address) h = h
 not_counted rows text is spells_none (History path asked) h = h
+not_counted rows text is spells_none (Import path asked) h = h
 
 not_set : (rows : List Row) → first_of (codes "settings") rows ≡ None → NoLine (IsServe rows)
 not_set rows none (Serve path count) h = let wrong = sym none ∙ h.0 in cc
@@ -48,6 +49,7 @@ not_set rows none (Answer path flag reading) h = h
 not_set rows none (Dump path) h = h
 not_set rows none (Sync path address) h = h
 not_set rows none (History path asked) h = h
+not_set rows none (Import path asked) h = h
 
 no_count : (rows : List Row) (one : Option Text) (result : Result (Option ℕ) ParseIntError)
     (fault : ParseIntError) → one_of (codes "connections") rows ≡ one
@@ -62,11 +64,6 @@ no_count rows (Some text) result fault is none tries fails =
 none_of : (result : Result (Option ℕ) ParseIntError) (count : Option ℕ) → result ≡ Ok None
     → result ≡ Ok count → unwrap_or count 4294967295 ≡ 4294967295
 none_of result count none is = let same : count ≡ None = cc in ap (λ o. unwrap_or o 4294967295) same
-
--- what is known of an option's value, said of the option
-mapped : {T U : Type 0} (f : T → U) (o p : Option T) (m : Option U) → option_map f o ≡ m → o ≡ p
-    → m ≡ option_map f p
-mapped f o p m same e = sym same ∙ ap (option_map f) e
 
 pub returns-in_default-clause-words : goal.returns-in_default-clause-words
 returns-in_default-clause-words c =
