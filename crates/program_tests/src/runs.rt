@@ -9,13 +9,13 @@ use stamp::ReplicaNo;
 use std::alloc::Global;
 use std::net::SocketAddr;
 use ua_server::{
-    Asked, ConstantClock, Counted, Door, HistoryWords, Host, Line, LineFault, Listening,
-    ProgramFault, ServeFault, read_line, report, run,
+    Asked, ConstantClock, Counted, Door, HistoryWords, Host, ImportWords, Line, LineFault,
+    Listening, PerformWord, ProgramFault, ServeFault, read_line, report, run,
 };
 use uuid::Uuid;
 
 /// Command lines, and what they are.
-static LINES: [(&[&str], Result<Line<'static>, LineFault>); 40] = [
+static LINES: [(&[&str], Result<Line<'static>, LineFault>); 46] = [
     (
         &[
             "uahist",
@@ -93,6 +93,69 @@ static LINES: [(&[&str], Result<Line<'static>, LineFault>); 40] = [
     ),
     (
         &["uahist", "history", "--node", "i=1"],
+        Err(LineFault::Words),
+    ),
+    (
+        &["uahist", "import", "--settings=a", "--user", "ann"],
+        Ok(Line::Import {
+            settings: "a",
+            asked: ImportWords {
+                user: "ann",
+                perform: PerformWord::Insert,
+            },
+        }),
+    ),
+    (
+        &[
+            "uahist",
+            "import",
+            "--user=ann",
+            "--perform",
+            "replace",
+            "--settings",
+            "a",
+        ],
+        Ok(Line::Import {
+            settings: "a",
+            asked: ImportWords {
+                user: "ann",
+                perform: PerformWord::Replace,
+            },
+        }),
+    ),
+    (
+        &[
+            "uahist",
+            "import",
+            "--user=ann",
+            "--perform=update",
+            "--settings=a",
+        ],
+        Ok(Line::Import {
+            settings: "a",
+            asked: ImportWords {
+                user: "ann",
+                perform: PerformWord::Update,
+            },
+        }),
+    ),
+    (
+        &["uahist", "import", "--settings", "a"],
+        Err(LineFault::Words),
+    ),
+    (
+        &["uahist", "import", "--user", "ann"],
+        Err(LineFault::Words),
+    ),
+    (
+        &[
+            "uahist",
+            "import",
+            "--settings=a",
+            "--user=ann",
+            "--perform",
+            "delete",
+        ],
         Err(LineFault::Words),
     ),
     (
@@ -248,7 +311,7 @@ fn reads_lines(rt: HostRuntime) {
 }
 
 /// Command lines, the input, the room of the output, what it has then, what is said, and the exit status.
-static RUNS: [(&[&str], &[u8], usize, &str, &str, u8); 59] = [
+static RUNS: [(&[&str], &[u8], usize, &str, &str, u8); 66] = [
     (&["uahist", "--version"], b"", 1000, "uahist 0.1.0\n", "", 0),
     (
         &["uahist", "--version"],
@@ -453,6 +516,97 @@ static RUNS: [(&[&str], &[u8], usize, &str, &str, u8); 59] = [
         2,
     ),
     (
+        &[
+            "uahist",
+            "import",
+            "--settings",
+            "kept",
+            "--user",
+            "anonymous",
+        ],
+        b"node,time,value,status\n",
+        1000,
+        "0 rows\n",
+        "",
+        0,
+    ),
+    (
+        &[
+            "uahist",
+            "import",
+            "--settings",
+            "kept",
+            "--user",
+            "anonymous",
+        ],
+        b"node,time,value,status\nns=1;s=T,@5,5,\n",
+        1000,
+        "row 1: 80340000 Bad_NodeIdUnknown\n1 row: 1 refused\n",
+        "uahist: rows refused (1)\n",
+        1,
+    ),
+    (
+        &[
+            "uahist",
+            "import",
+            "--settings",
+            "kept",
+            "--user",
+            "anonymous",
+        ],
+        b"ns=1;s=T,@5,5,\n",
+        1000,
+        "",
+        "uahist: rows refused: want the header node,time,value,status\n",
+        2,
+    ),
+    (
+        &[
+            "uahist",
+            "import",
+            "--settings",
+            "kept",
+            "--user",
+            "anonymous",
+        ],
+        b"node,time,value,status\n",
+        3,
+        "0 r",
+        "uahist: connection ended (2)\n",
+        1,
+    ),
+    (
+        &["uahist", "import", "--settings", "kept", "--user", "ann"],
+        b"node,time,value,status\n",
+        1000,
+        "",
+        "uahist: --user: want a user of the settings who may write\n",
+        2,
+    ),
+    (
+        &[
+            "uahist",
+            "import",
+            "--settings",
+            "good",
+            "--user",
+            "anonymous",
+        ],
+        b"node,time,value,status\n",
+        1000,
+        "",
+        "uahist: import refused: the settings name no store\n",
+        2,
+    ),
+    (
+        &["uahist", "import", "--settings", "none", "--user", "ann"],
+        b"node,time,value,status\n",
+        1000,
+        "",
+        "uahist: settings file can't be read\n",
+        2,
+    ),
+    (
         &["uahist", "dump", "--settings", "unmade"],
         b"",
         1000,
@@ -546,7 +700,7 @@ static RUNS: [(&[&str], &[u8], usize, &str, &str, u8); 59] = [
         b"",
         1000,
         "",
-        "uahist: usage: uahist answer [--settings FILE] [--hex] [--now N] | serve --settings FILE [--connections N] | dump --settings FILE | sync --settings FILE --peer ADDRESS | history --settings FILE --node ID [--from T] [--to T] [--changes] [--csv]\n",
+        "uahist: usage: uahist answer [--settings FILE] [--hex] [--now N] | serve --settings FILE [--connections N] | dump --settings FILE | sync --settings FILE --peer ADDRESS | history --settings FILE --node ID [--from T] [--to T] [--changes] [--csv] | import --settings FILE --user NAME [--perform insert|replace|update]\n",
         2,
     ),
     (
@@ -1077,6 +1231,16 @@ fn tells_each_fault(rt: HostRuntime) {
         (
             ProgramFault::PeerAddress(u64::MAX),
             "uahist: peer's address refused (18446744073709551615)\n",
+            1,
+        ),
+        (
+            ProgramFault::UnreadRows,
+            "uahist: import ended: the rows can't be read\n",
+            1,
+        ),
+        (
+            ProgramFault::RowsRefused(u64::MAX),
+            "uahist: rows refused (18446744073709551615)\n",
             1,
         ),
         (

@@ -1,11 +1,11 @@
 -- What a command does, for the clauses of run, do_line and do_command (program.rt).
-use Rattle.std.proofs.Common.{◌≡◌, ℕ, ℤ, List, [], Some, None, Ok, Err, subst, ap, sym, ◌∙◌, inl, inr}
+use Rattle.std.proofs.Common.{◌≡◌, ℕ, ℤ, List, [], Some, None, Ok, Err, refl, subst, ap, sym, ◌∙◌, inl, inr}
 use Rattle.std.specs.Result.{result_map_both}
-use Rattle.std.specs.Prelude.{Bool, Option, Result, option_copied, ok_or}
+use Rattle.std.specs.Prelude.{Bool, true, false, ◌==◌, if◌then◌else◌, Option, Result, option_copied, ok_or}
 use Rattle.ua_server.specs.declared.hexed.HexFault.{HexFault}
 use Rattle.ua_server.specs.declared.hexed.HexFault.TheVariants as hexed
 use Rattle.ua_server.specs.declared.program.ProgramFault.{ProgramFault}
-use Rattle.ua_server.specs.declared.program.ProgramFault.TheVariants.{Line, File, Settings, BadHex, Address, DoorAddress, DoorNetwork, PeerAddress, Connection, BadOption, NoText}
+use Rattle.ua_server.specs.declared.program.ProgramFault.TheVariants.{Line, File, Settings, BadHex, Address, DoorAddress, DoorNetwork, PeerAddress, Connection, BadOption, NoText, BadUser, NoStore, NoHeader, UnreadRows, RowsRefused}
 use Rattle.ua_server.specs.declared.program.ProgramFault.TheVariants as program
 use Rattle.ua_peers.specs.declared.calling.Synced.{Synced}
 use Rattle.ua_peers.specs.declared.calling.SyncFault.{SyncFault}
@@ -22,8 +22,14 @@ use Rattle.history_report.specs.declared.fault.ReportFault.TheVariants as report
 use Rattle.ua_server.specs.declared.histories.OptionFault.{OptionFault}
 use Rattle.ua_server.specs.declared.histories.OptionFault.TheVariants.{Node, From, To}
 use Rattle.ua_server.specs.Histories.{moment_asked, report_asked, PrintsHistory}
-use Rattle.command_line.specs.declared.line.Line.TheVariants.{Answer, Serve, Dump, Sync, History}
+use Rattle.command_line.specs.declared.line.Line.TheVariants.{Answer, Serve, Dump, Sync, History, Import}
 use Rattle.command_line.specs.declared.line.HistoryWords.{HistoryWords}
+use Rattle.command_line.specs.declared.line.ImportWords.{ImportWords}
+use Rattle.history_import.specs.declared.counts.Counts.{Counts}
+use Rattle.history_import.specs.declared.fault.ImportFault.{ImportFault}
+use Rattle.history_import.specs.declared.fault.ImportFault.TheVariants as rows
+use Rattle.history_import.specs.Rows.{may_write}
+use Rattle.ua_server.specs.Importing.{Importing, ImportsFor, WritesRows, import_refusal, import_told}
 use Rattle.command_line.specs.declared.line.Line.{Line as CommandLine}
 use Rattle.command_line.specs.declared.line.LineFault.{LineFault}
 use Rattle.command_line.specs.declared.line.LineFault.TheVariants.{Words, OutOfMemory as NoMemory}
@@ -33,7 +39,7 @@ use Rattle.archive.specs.Store.{Store}
 use Rattle.ua_server.specs.Host.{Machine, KnownMachine}
 use Rattle.conversation.specs.declared.door.Door.TheVariants.{Both, Clients, Peers}
 use Rattle.ua_server.specs.Network.{Readings, Serving}
-use Rattle.ua_server.specs.Program.{SettingsAt, FindsNoPlace, OpensBy, CallsPeer, Calling, Scene, PrintsSynced, Shows, Findings, IsMistaken, DoesCommand, DoesLine, Runs, makes_store, settings_path}
+use Rattle.ua_server.specs.Program.{SettingsAt, FindsNoPlace, OpensBy, CallsPeer, Calling, Scene, PrintsSynced, Shows, Findings, IsMistaken, DoesCommand, DoesLine, Runs, importing_in, makes_store, settings_path}
 use Rattle.ua_server.specs.Telling.{Known, dump_fault, fault_of, report_fault}
 use Rattle.ua_server.proofs.ProgramParts.{IsUnbegun}
 
@@ -150,6 +156,60 @@ history-line held words first last before after line (Err fault, inr starved, (i
 history-line held words first last before after line (Ok asked, answered, (printed, prints, is)) =
     reported-line printed line is
 
+-- rows that were refused aren't told as a refused line, nor is an import that ended
+counted-line : (none : Bool) (number : ℕ) (line : LineFault)
+    → ◌≡◌ {A = Result (Unit {0}) ProgramFault} (Err (Line line))
+    (if none then Ok tt else Err (RowsRefused number)) → ⊥
+counted-line true number line same = cc
+counted-line false number line same = cc
+
+imported-line : (ended : Result Counts ImportFault) (line : LineFault)
+    → Err (Line line) ≡ import_told ended → ⊥
+imported-line (Ok counts) line same = counted-line (counts.refused == 0) counts.refused line same
+imported-line (Err rows.Header) line same = cc
+imported-line (Err rows.Read) line same = cc
+imported-line (Err rows.Write) line same = cc
+imported-line (Err rows.OutOfMemory) line same = cc
+
+-- nor is one that is refused as a whole
+stored-line : (store : Option (List ℕ)) (fault : ProgramFault) (line : LineFault)
+    → (elim store [ None ↦ Some NoStore | Some path ↦ None ]) ≡ Some fault → fault ≡ Line line → ⊥
+stored-line None fault line is same = let both : Some NoStore ≡ Some (Line line) =
+    is ∙ ap Some same in cc
+stored-line (Some path) fault line is same = cc
+
+judged-line : (may : Bool) (store : Option (List ℕ)) (fault : ProgramFault) (line : LineFault)
+    → (if may then (elim store [ None ↦ Some NoStore | Some path ↦ None ]) else Some BadUser)
+    ≡ Some fault → fault ≡ Line line → ⊥
+judged-line true store fault line is same = stored-line store fault line is same
+judged-line false store fault line is same = let both : Some BadUser ≡ Some (Line line) =
+    is ∙ ap Some same in cc
+
+whole-line : (settings : SettingsValues) (user : List ℕ) (fault : ProgramFault) (line : LineFault)
+    → import_refusal settings user ≡ Some fault → fault ≡ Line line → ⊥
+whole-line settings user fault line is same =
+    judged-line (may_write settings.users user) settings.store fault line is same
+
+refused-import : {A C : Type 0} (held : A → Store) (gave : Readings C) (settings : SettingsValues)
+    (words : ImportWords) (old new : Importing A C) (line : LineFault) (refusal : Option ProgramFault)
+    → ((fault : ProgramFault) → refusal ≡ Some fault → fault ≡ Line line → ⊥)
+    → elim refusal as (λ _. Type 0) [
+      | Some fault ↦ ◌≡◌ {A = Result (Unit {0}) ProgramFault} (Err (Line line)) (Err fault)
+          × (new ≡ old)
+      | None ↦ WritesRows held gave settings words old new (Err (Line line))
+    ] → ⊥
+refused-import held gave settings words old new line (Some fault) never (is, stays) =
+    let same : fault ≡ Line line = cc in never fault refl same
+refused-import held gave settings words old new line None never (reading, given, ended, imports, is) =
+    imported-line ended line is
+
+import-line : {A C : Type 0} (held : A → Store) (gave : Readings C) (settings : SettingsValues)
+    (words : ImportWords) (old new : Importing A C) (line : LineFault)
+    → ImportsFor held gave settings words old new (Err (Line line)) → ⊥
+import-line {A} {C} held gave settings words old new line =
+    refused-import held gave settings words old new line (import_refusal settings words.user.now)
+    (λ fault is. whole-line settings words.user.now fault line is)
+
 synced-line : (old written : Option (List ℕ)) (synced : Result Synced SyncFault) (line : LineFault)
     → PrintsSynced old written synced (Err (Line line)) → ⊥
 synced-line old written (Ok synced) line prints = let same = prints.0 in cc
@@ -194,6 +254,9 @@ never-line known gave told (Sync path peer) settings first last old new fault (s
     (record { host = new.host; archive = last; written = new.written }) fault so
 never-line known gave told (History path words) settings first last old new fault (same, so) =
     history-line known.held words first last old.written new.written fault so
+never-line known gave told (Import path words) settings first last old new fault (same, so) =
+    import-line known.held gave settings words (importing_in first old) (importing_in last new)
+    fault so
 
 -- a line that ends as a refused one: its settings were refused so, and nothing was done
 by-line : {C E : Type 0} (known : KnownMachine) (gave : Readings C) (told : Known E)
@@ -257,6 +320,16 @@ line-done found known gave told line old new (Err (BadOption fault)) free is so 
     inl (free, (line, is, so))
 line-done found known gave told line old new (Err NoText) free is so =
     inl (free, (line, is, so))
+line-done found known gave told line old new (Err BadUser) free is so =
+    inl (free, (line, is, so))
+line-done found known gave told line old new (Err NoStore) free is so =
+    inl (free, (line, is, so))
+line-done found known gave told line old new (Err NoHeader) free is so =
+    inl (free, (line, is, so))
+line-done found known gave told line old new (Err UnreadRows) free is so =
+    inl (free, (line, is, so))
+line-done found known gave told line old new (Err (RowsRefused number)) free is so =
+    inl (free, (line, is, so))
 
 -- a text that was asked for was printed, and nothing else was done
 pub text-shown : {C E : Type 0} (found : Findings) (known : KnownMachine) (gave : Readings C)
@@ -287,5 +360,11 @@ text-shown found known gave told old new (Err (program.Peer number)) may so = le
 text-shown found known gave told old new (Err (BadOption fault)) may so = let is = so.1.0 in
     absurd cc
 text-shown found known gave told old new (Err NoText) may so = let is = so.1.0 in absurd cc
+text-shown found known gave told old new (Err BadUser) may so = let is = so.1.0 in absurd cc
+text-shown found known gave told old new (Err NoStore) may so = let is = so.1.0 in absurd cc
+text-shown found known gave told old new (Err NoHeader) may so = let is = so.1.0 in absurd cc
+text-shown found known gave told old new (Err UnreadRows) may so = let is = so.1.0 in absurd cc
+text-shown found known gave told old new (Err (RowsRefused number)) may so = let is = so.1.0 in
+    absurd cc
 
 pub ruleset lines = (line-done, text-shown)

@@ -47,6 +47,11 @@ module _ {C E : Type 0} (known : KnownMachine) (gave : Readings C) (told : Known
   no-address (program.Peer number) none same stays = absurd none
   no-address (program.BadOption fault) none same stays = absurd none
   no-address program.NoText none same stays = absurd none
+  no-address program.BadUser none same stays = absurd none
+  no-address program.NoStore none same stays = absurd none
+  no-address program.NoHeader none same stays = absurd none
+  no-address program.UnreadRows none same stays = absurd none
+  no-address (program.RowsRefused number) none same stays = absurd none
 
   -- one can't be listened at
   no-place : (listening : Listening) (door : Door) → IsListening settings listening
@@ -89,6 +94,11 @@ none-serving settings (program.Exchange fault) none = absurd none
 none-serving settings (program.Peer number) none = absurd none
 none-serving settings (program.BadOption fault) none = absurd none
 none-serving settings program.NoText none = absurd none
+none-serving settings program.BadUser none = absurd none
+none-serving settings program.NoStore none = absurd none
+none-serving settings program.NoHeader none = absurd none
+none-serving settings program.UnreadRows none = absurd none
+none-serving settings (program.RowsRefused number) none = absurd none
 
 door-serving : (door : Door) → IsServingFault (door_fault door)
 door-serving Both = tt

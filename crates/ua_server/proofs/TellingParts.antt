@@ -13,7 +13,7 @@ use Rattle.counted_io.specs.declared.fault.ServeFault.{ServeFault}
 use Rattle.ua_peers.specs.declared.calling.SyncFault.{SyncFault}
 use Rattle.ua_server.specs.declared.log.ErrorLog.{ErrorLog}
 use Rattle.ua_server.specs.declared.program.ProgramFault.{ProgramFault}
-use Rattle.ua_server.specs.declared.program.ProgramFault.TheVariants.{Line, File, Settings, Store, BadHex, Address, DoorAddress, DoorNetwork, PeerAddress, Connection, Call, Exchange, Peer, BadOption, NoText}
+use Rattle.ua_server.specs.declared.program.ProgramFault.TheVariants.{Line, File, Settings, Store, BadHex, Address, DoorAddress, DoorNetwork, PeerAddress, Connection, Call, Exchange, Peer, BadOption, NoText, BadUser, NoStore, NoHeader, UnreadRows, RowsRefused}
 use Rattle.ua_server.specs.Telling.{Known, words_of, number_told, numbered, fault_text, failed_text, outcome_text, call_lines, told_line, place_line, KeepsLast, LogsCall, LogsLine}
 
 -- the text of a fault without a number, and of one with it
@@ -45,6 +45,11 @@ short-words (Exchange fault) number e = omega arith
 short-words (Peer told) number e = omega arith
 short-words (BadOption fault) number e = absurd cc
 short-words NoText number e = absurd cc
+short-words BadUser number e = absurd cc
+short-words NoStore number e = absurd cc
+short-words NoHeader number e = absurd cc
+short-words UnreadRows number e = absurd cc
+short-words (RowsRefused rows) number e = omega arith
 
 -- what has room isn't cut
 cut-fits : (room : ℕ) (text : List ℕ) → length text ≤ room → cut_to room text ≡ text
@@ -136,6 +141,11 @@ second-line (Exchange fault) = refl
 second-line (Peer number) = refl
 second-line (BadOption fault) = refl
 second-line NoText = refl
+second-line BadUser = refl
+second-line NoStore = refl
+second-line NoHeader = refl
+second-line UnreadRows = refl
+second-line (RowsRefused number) = refl
 
 -- a line that was written, or a first part of it
 pub line-logged : {W : Type 0} (contents : W → Option (List ℕ)) (old new : Tally W)

@@ -2,6 +2,7 @@ pub mod Telling
 pub mod Either
 pub mod Hexed
 pub mod Histories
+pub mod Importing
 pub mod Single
 pub mod Listening
 pub mod Host

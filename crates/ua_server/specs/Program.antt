@@ -44,9 +44,11 @@ use Rattle.clap.specs.Takes.{takes}
 use Rattle.clap.specs.Faults.{fault_of as fault_kinds}
 use Rattle.clap.specs.declared.error.ErrorKind.{ErrorKind}
 use Rattle.command_line.specs.declared.line.Line.{Line as CommandLine}
-use Rattle.command_line.specs.declared.line.Line.TheVariants.{Answer, Serve, Dump, Sync, History}
+use Rattle.command_line.specs.declared.line.Line.TheVariants.{Answer, Serve, Dump, Sync, History, Import}
 use Rattle.command_line.specs.declared.line.HistoryWords.{HistoryWords}
+use Rattle.command_line.specs.declared.line.ImportWords.{ImportWords}
 use Rattle.ua_server.specs.Histories.{PrintsHistory}
+use Rattle.ua_server.specs.Importing.{Importing, ImportsFor}
 use Rattle.command_line.specs.declared.line.LineFault.TheVariants.{Words, OutOfMemory as NoMemory}
 use Rattle.command_line.specs.Line.{AsksForText, IsLine, MayAskForText, uahist}
 
@@ -305,6 +307,24 @@ DoesHistory known words first last old new result =
     (new ≡ record old { written = new.written })
     × PrintsHistory known.held words first last old.written new.written result
 
+-- what an import is done over, of what stands around a run
+abbrev pub importing_in : {A H C E : Type 0} → A → Scene H C E → Importing A C
+importing_in archive scene = record {
+  archive = archive;
+  unread = scene.unread;
+  written = scene.written;
+  clock = scene.clock;
+}
+
+-- `import`: the rows of the input are written into the archive
+abbrev pub DoesImporting : {C E : Type 0} → (known : KnownMachine) → Readings C → SettingsValues
+    → ImportWords → (first last : known.Archive) → (old new : Scene known.Host C E)
+    → Result (Unit {0}) ProgramFault → Type 0
+DoesImporting known gave settings words first last old new result =
+    (new ≡ record old { unread = new.unread; written = new.written; clock = new.clock })
+    × ImportsFor known.held gave settings words (importing_in first old) (importing_in last new)
+    result
+
 -- the path of a command's settings
 abbrev pub settings_path : CommandLine → Option (List ℕ)
 settings_path line =
@@ -314,6 +334,7 @@ settings_path line =
       | Dump path ↦ Some path.now
       | Sync path peer ↦ Some path.now
       | History path words ↦ Some path.now
+      | Import path words ↦ Some path.now
     ]
 
 -- a command makes its store where there is none; those that only print make none
@@ -332,6 +353,7 @@ DoesCommand known gave told line settings first last old new result =
       | Dump path ↦ DoesDumping (known.held first) (known.held last) old new result
       | Sync path peer ↦ DoesSyncing known peer.now first last old new result
       | History path words ↦ DoesHistory known words first last old new result
+      | Import path words ↦ DoesImporting known gave settings words first last old new result
     ]
 
 -- a command is done over an archive, which is closed then

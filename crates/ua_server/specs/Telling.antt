@@ -7,7 +7,7 @@ use Rattle.std.specs.Result.{result_err}
 use Rattle.std.specs.Io.KnownBytes.{Appends}
 use Rattle.counted_io.specs.Fault.{serve_fault_number as connection_number}
 use Rattle.ua_server.specs.declared.program.ProgramFault.{ProgramFault}
-use Rattle.ua_server.specs.declared.program.ProgramFault.TheVariants.{Line, File, Settings, Store, BadHex, Address, DoorAddress, DoorNetwork, PeerAddress, Connection, Call, Exchange, Peer, BadOption, NoText}
+use Rattle.ua_server.specs.declared.program.ProgramFault.TheVariants.{Line, File, Settings, Store, BadHex, Address, DoorAddress, DoorNetwork, PeerAddress, Connection, Call, Exchange, Peer, BadOption, NoText, BadUser, NoStore, NoHeader, UnreadRows, RowsRefused}
 use Rattle.ua_peers.specs.declared.calling.Synced.{Synced}
 use Rattle.command_line.specs.Line.{line_text_of}
 use Rattle.counted_io.specs.Bytes.{AppendsPart, counted}
@@ -38,6 +38,9 @@ fault_status (Settings fault place) = 2
 fault_status (Store fault) = 3
 fault_status BadHex = 2
 fault_status (BadOption fault) = 2
+fault_status BadUser = 2
+fault_status NoStore = 2
+fault_status NoHeader = 2
 fault_status fault = 1
 
 -- the exit status of a run
@@ -67,14 +70,20 @@ words_of (Exchange fault) = codes "exchange ended"
 words_of (Peer number) = codes "exchange ended"
 words_of (BadOption fault) = option_text fault
 words_of NoText = codes "history ended: a value of a type that has no text"
+words_of BadUser = codes "--user: want a user of the settings who may write"
+words_of NoStore = codes "import refused: the settings name no store"
+words_of NoHeader = codes "rows refused: want the header node,time,value,status"
+words_of UnreadRows = codes "import ended: the rows can't be read"
+words_of (RowsRefused number) = codes "rows refused"
 
--- its number, if it has one; a peer may give any, a peer's address has that of its table, and a
--- network that of its place in the list
+-- its number, if it has one; a peer may give any, a peer's address has that of its table, a network
+-- that of its place in the list, and rows are counted
 abbrev pub number_told : ProgramFault → Option ℕ
 number_told (Settings fault place) = Some (settings_number fault)
 number_told (Store fault) = Some (store_number fault)
 number_told (DoorNetwork number) = Some number
 number_told (PeerAddress number) = Some number
+number_told (RowsRefused number) = Some number
 number_told (Connection fault) = Some (connection_number fault)
 number_told (Call fault) = Some (connection_number fault)
 number_told (Exchange fault) = Some (exchange_number fault)

@@ -2,6 +2,7 @@
 
 ghost use Rattle.std.specs.Prelude.{◌≡◌, ◌≢◌, ◌++◌, ◌⊎◌, ◌↔◌, ℕ, max, OnOk, IfErr, IsErrOf, IsTrue, string_bytes};
 ghost use Rattle.counted_io.specs.Bytes.{counted};
+ghost use Rattle.archive.specs.Store.{IsAskedWithin};
 ghost use Rattle.std.specs.List.{flat_map, AllByRecursion};
 ghost use Rattle.stamp.specs.Numbers.{number_of};
 ghost use Rattle.records.specs.Contents.{vec};
@@ -98,6 +99,7 @@ pub fn dump<A: Archive, W: Write>(
 ) -> Result<(), DumpFault>
     ensures dumps { Dumps (A.state archive.old) (A.state archive.new) (W.contents output.old.inner)
         (W.contents output.new.inner) result }
+    ensures asked { IsAskedWithin 1000 (A.asked archive.old) (A.asked archive.new) }
     ensures write { IsErrOf result DumpFault.Write → output.new.faults ≡ counted output.old.faults }
     ensures kept { (IsErrOf result DumpFault.Write → ⊥) → output.new.faults ≡ output.old.faults }
 {

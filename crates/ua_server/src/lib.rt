@@ -8,13 +8,14 @@ mod files;
 mod hexed;
 mod histories;
 mod host;
+mod imports;
 mod laws;
 mod listening;
 mod log;
 mod program;
 mod single;
 
-pub use command_line::{Asked, HistoryWords, Line, LineFault, read_line};
+pub use command_line::{Asked, HistoryWords, ImportWords, Line, LineFault, PerformWord, read_line};
 pub use conversation::{
     Conversation, Door, Ended, Log, World, a_client_alone_is_answered, a_clients_door_takes_no_peer,
 };

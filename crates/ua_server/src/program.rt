@@ -18,6 +18,7 @@ use crate::files::settings_at;
 use crate::hexed::HexFault;
 use crate::histories::{OptionFault, history_over};
 use crate::host::Host;
+use crate::imports::import_over;
 use crate::log::ErrorLog;
 use crate::single::answer_at;
 use archive::{Archive, StoreFault};
@@ -72,6 +73,16 @@ pub enum ProgramFault {
     BadOption(OptionFault),
     /// A history has a value that has no text.
     NoText,
+    /// Rows are to be written in the name of nobody who may write.
+    BadUser,
+    /// Rows are to be written where the settings name no store.
+    NoStore,
+    /// Rows don't begin by their header.
+    NoHeader,
+    /// Rows can't be read.
+    UnreadRows,
+    /// So many rows were refused.
+    RowsRefused(u64),
 }
 
 impl ProgramFault {
@@ -96,6 +107,11 @@ impl ProgramFault {
             ProgramFault::Exchange(_) | ProgramFault::Peer(_) => "exchange ended",
             ProgramFault::BadOption(fault) => fault.text(),
             ProgramFault::NoText => "history ended: a value of a type that has no text",
+            ProgramFault::BadUser => "--user: want a user of the settings who may write",
+            ProgramFault::NoStore => "import refused: the settings name no store",
+            ProgramFault::NoHeader => "rows refused: want the header node,time,value,status",
+            ProgramFault::UnreadRows => "import ended: the rows can't be read",
+            ProgramFault::RowsRefused(_) => "rows refused",
         }
     }
 
@@ -111,14 +127,20 @@ impl ProgramFault {
             }
             ProgramFault::Exchange(fault) => Some(u64::from(fault.number())),
             ProgramFault::Peer(number) => Some(u64::from(*number)),
-            ProgramFault::DoorNetwork(number) | ProgramFault::PeerAddress(number) => Some(*number),
+            ProgramFault::DoorNetwork(number)
+            | ProgramFault::PeerAddress(number)
+            | ProgramFault::RowsRefused(number) => Some(*number),
             ProgramFault::Line(_)
             | ProgramFault::File
             | ProgramFault::BadHex
             | ProgramFault::Address
             | ProgramFault::DoorAddress
             | ProgramFault::BadOption(_)
-            | ProgramFault::NoText => None,
+            | ProgramFault::NoText
+            | ProgramFault::BadUser
+            | ProgramFault::NoStore
+            | ProgramFault::NoHeader
+            | ProgramFault::UnreadRows => None,
         }
     }
 
@@ -143,7 +165,12 @@ impl ProgramFault {
             | ProgramFault::Exchange(_)
             | ProgramFault::Peer(_)
             | ProgramFault::BadOption(_)
-            | ProgramFault::NoText => None,
+            | ProgramFault::NoText
+            | ProgramFault::BadUser
+            | ProgramFault::NoStore
+            | ProgramFault::NoHeader
+            | ProgramFault::UnreadRows
+            | ProgramFault::RowsRefused(_) => None,
         }
     }
 }
@@ -367,6 +394,7 @@ fn settings_path<'a>(line: &Line<'a>) -> Option<&'a str>
         Line::Dump { settings } => Some(settings),
         Line::Sync { settings, .. } => Some(settings),
         Line::History { settings, .. } => Some(settings),
+        Line::Import { settings, .. } => Some(settings),
     }
 }
 
@@ -419,6 +447,9 @@ fn do_command<H: Host, C: Clock, R: Read, W: Write, E: Write>(
         Line::Dump { .. } => dump_over(&mut world.server, output),
         Line::Sync { peer, .. } => sync_over(&mut world.server, peer, host, output),
         Line::History { asked, .. } => history_over(&mut world.server, asked, output),
+        Line::Import { asked, .. } => {
+            import_over(&mut world.server, &mut world.clock, asked, input, output)
+        }
     }
 }
 
@@ -523,8 +554,9 @@ fn print_text<W: Write>(text: &[u8], output: &mut Counted<W>) -> Result<(), Prog
 /// isn't, `Connection` where the connection of standard input met a fault, or a dump's writer did, or that of the line of a
 /// call of a peer, and of such a call
 /// `Call` where its connection met a fault, `Exchange` where the exchange met one here, and `Peer` where the peer ended it
-/// by a number; `BadOption` where an option of `history` says nothing of its kind, and `NoText` where a value of it has no text. What
-/// went out before it stands, and what was learned.
+/// by a number; `BadOption` where an option of `history` says nothing of its kind, and `NoText` where a value of it has no text; of an import
+/// `BadUser` where its user isn't one who may write, `NoStore` where the settings name no store, `NoHeader` where its rows don't begin by their header, `UnreadRows` where
+/// they can't be read, and `RowsRefused` where some were refused. What went out before it stands, and what was learned or written.
 #[tactic(auto, using(crate::proofs::Printing::lines))]
 pub fn run<S: AsStr, H: Host, C: Clock, R: Read, W: Write, E: Write>(
     alloc: Global,
@@ -579,8 +611,8 @@ pub(crate) fn tell<W: Write>(text: &[u8], errors: &mut Counted<W>) -> Result<(),
 }
 
 /// Tells on `errors` what went wrong, in a line that begins with `uahist: `, and where settings are refused in a second one;
-/// answers the exit status: 0 where nothing went wrong, 1 where a connection ended by a fault or a value has no text, 2 where
-/// the command line, the settings or the input was refused, 3 where the store was. Of a line that can't be written whole a first part stands, and the failed call is
+/// answers the exit status: 0 where nothing went wrong, 1 where a connection ended by a fault, a value has no text or rows were
+/// refused, 2 where the command line, the settings or the input was refused, 3 where the store was. Of a line that can't be written whole a first part stands, and the failed call is
 /// counted.
 pub fn report<W: Write>(ending: Result<(), ProgramFault>, errors: &mut Counted<W>) -> u8
     ensures status { result ≡ exit_status ending }
@@ -597,7 +629,10 @@ pub fn report<W: Write>(ending: Result<(), ProgramFault>, errors: &mut Counted<W
         | ProgramFault::File
         | ProgramFault::Settings(..)
         | ProgramFault::BadHex
-        | ProgramFault::BadOption(_) => 2,
+        | ProgramFault::BadOption(_)
+        | ProgramFault::BadUser
+        | ProgramFault::NoStore
+        | ProgramFault::NoHeader => 2,
         ProgramFault::Store(_) => 3,
         ProgramFault::Address
         | ProgramFault::DoorAddress
@@ -607,7 +642,9 @@ pub fn report<W: Write>(ending: Result<(), ProgramFault>, errors: &mut Counted<W
         | ProgramFault::Call(_)
         | ProgramFault::Exchange(_)
         | ProgramFault::Peer(_)
-        | ProgramFault::NoText => 1,
+        | ProgramFault::NoText
+        | ProgramFault::UnreadRows
+        | ProgramFault::RowsRefused(_) => 1,
     }
 }
 

@@ -18,6 +18,7 @@ loop-init g c = record {
   so_far = begun (g.A.Archive.state c.args.archive.now) c.new-known.result
       (g.W.Write.contents c.args.output.now.inner) c.new-known.ensures.none;
   faults = refl;
+  asked = omega arith;
 }
 
 pub returns-in-Err-clause-dumps : goal.returns-in-Err-clause-dumps
@@ -93,6 +94,7 @@ loop-preserved g c =
           ∙ ap (λ (l : List Record). max (number_of known o) (vec l o))
           c.as_slice-batch.ensures.value) (subst (Appends now after) text c.in-Ok-send.ensures.ok);
       faults = c.in-Ok-send.ensures.faults ∙ c.loop.invariant.faults;
+      asked = omega (arith, c.loop.invariant.asked, c.in-Ok.ensures.asked);
     }
 
 pub returns-clause-dumps : goal.returns-clause-dumps

@@ -1,4 +1,5 @@
 use Rattle.std.proofs.Common.{◌≡◌}
+use Rattle.archive.specs.Store.{IsAskedWithin}
 use Rattle.ua_server.specs.Dumping.{Dumping}
 use Rattle.ua_server.proofs.dumps.dump.Given as goal
 
@@ -7,4 +8,5 @@ invariant-loop g l = record {
   so_far : Dumping (g.A.Archive.state l.fn.archive) (g.A.Archive.state l.archive) l.known
       (g.W.Write.contents l.fn.output.inner) (g.W.Write.contents l.output.inner);
   faults : l.output.faults ≡ l.fn.output.faults;
+  asked : IsAskedWithin 1000 (g.A.Archive.asked l.fn.archive) (g.A.Archive.asked l.archive);
 }

@@ -93,3 +93,21 @@ returns-in-History-clause-does g c =
     c.args.world.now.log.errors)
     c.history_over.result in
     subst P (sym c.in-History.is) (refl, c.history_over.ensures.prints)
+
+pub returns-in-Import-clause-does : goal.returns-in-Import-clause-does
+returns-in-Import-clause-does g c =
+    let known =
+    known_machine g.H.Host.means g.H.Archive.Archive.state g.H.Source.Source.effects
+    g.H.Source.Reader.NonBlockingRead.input g.H.Source.Writer.NonBlockingWrite.output
+    g.H.Reader.Read.remaining g.H.Writer.Write.contents in
+    let P : CommandLine → Type 0 = λ line.
+    DoesCommand known g.C.Clock.gave g.E.Write.contents line c.args.world.now.server.settings
+    c.args.world.now.server.replica.archive c.import_over.new.server.replica.archive
+    (scene_of (g.R.Read.remaining c.args.input.now.inner)
+    (g.W.Write.contents c.args.output.now.inner) c.args.host.now c.args.world.now.clock
+    c.args.world.now.log.errors)
+    (scene_of (g.R.Read.remaining c.import_over.new.input.inner)
+    (g.W.Write.contents c.import_over.new.output.inner) c.args.host.now c.import_over.new.clock
+    c.args.world.now.log.errors)
+    c.import_over.result in
+    subst P (sym c.in-Import.is) (refl, c.import_over.ensures.imports)

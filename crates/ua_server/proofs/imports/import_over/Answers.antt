@@ -1,0 +1,33 @@
+use Rattle.std.proofs.Common.{ℤ, rules, subst, FitsSigned, w64}
+use Rattle.std.proofs.lemmas.Int.{to_z-of_z}
+use Rattle.history_import.specs.Imports.{Imports}
+use Rattle.history_import.specs.declared.asked.Import.{Import}
+use Rattle.history_import.specs.declared.asked.Perform.{Perform}
+use Rattle.ua_server.proofs.ImportLemmas.{imports-written}
+use Rattle.ua_server.proofs.imports.import_over.Goals as goal
+
+pub returns-clause-imports : goal.returns-clause-imports
+returns-clause-imports g c =
+    let state = g.A.Archive.state in
+    let first = c.args.server.now in
+    let last = c.import_rows.new.server in
+    let unread = g.R.Read.remaining c.args.input.now.inner in
+    let before = g.W.Write.contents c.args.output.now.inner in
+    let after = g.W.Write.contents c.import_rows.new.output.inner in
+    let now = c.now.result in
+    let fits : FitsSigned w64 now = search rules in
+    let Q : ℤ → Perform → Type 0 = λ reading perform.
+    let asked : Import =
+    record { user = c.args.words.user; perform = perform; reading = record { 0 = reading } } in
+    Imports first.settings asked (state first.replica.archive) (state last.replica.archive) unread
+    before after c.import_rows.result in
+    let done = subst (λ (n : ℤ). Q n c.perform_of.result) (to_z-of_z w64 now fits)
+    c.import_rows.ensures.imports in
+    imports-written state g.C.Clock.gave first.settings c.args.words _ _ c.import_told.result
+    c.import_refusal.result c.in-None.is c.import_refusal.ensures.why (
+      now,
+      c.now.ensures,
+      c.import_rows.result,
+      subst (Q now) c.perform_of.ensures done,
+      c.import_told.ensures.told,
+    )
