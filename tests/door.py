@@ -295,7 +295,7 @@ def from_networks():
     text = open(server.settings).read()
     for what, networks, place in (("a name", ["plant"], 1), ("33 bits of an IPv4 address", ["10.0.0.0/8", "10.0.0.0/33"], 2), ("a port behind it", ["192.0.2.2:4841"], 1), ("an empty text", ["::1", "fd00::/8", ""], 3)):
         told = ended(text.replace("from = ['192.0.2.2']", f"from = {networks}"))
-        tell(told == (1, f"door's network refused ({place})\n"), f"[door] from has {what}: door's network refused ({place}), status 1", told)
+        tell(told == (1, f"door's network refused ({place})\nuahist: not a network: want one as 10.1.0.0/16\n"), f"[door] from has {what}: door's network refused ({place}), status 1", told)
 
 
 def brought(records, sender=2):
@@ -385,11 +385,11 @@ def password_files():
     if os.path.exists(secret):
         os.remove(secret)
     done = run([program, "dump", "--settings", server.settings])
-    tell((done.status, done.said) == (2, "uahist: settings file can't be read\n"), "a password file that isn't there: settings file can't be read, status 2", (done.status, done.said))
+    tell((done.status, done.said) == (2, "uahist: settings file can't be read\nuahist: no such file\n"), "a password file that isn't there: settings file can't be read, no such file, status 2", (done.status, done.said))
     for what, text in (("an empty file", ""), ("an empty first line", "\nother\n")):
         open(secret, "w").write(text)
         done = run([program, "dump", "--settings", server.settings])
-        tell((done.status, done.said) == (2, "uahist: settings refused (3)\nuahist: [[user]] 2, password_file\n"), f"{what}: settings refused (3), [[user]] 2, password_file", (done.status, done.said))
+        tell((done.status, done.said) == (2, "uahist: settings refused (3)\nuahist: [[user]] 2, password_file\nuahist: want the path of a file whose first line isn't empty\n"), f"{what}: settings refused (3), [[user]] 2, password_file", (done.status, done.said))
     for what, text in (("a line", "valve 7\n"), ("a line that ends in CR LF, and more", "valve 7\r\nold\n"), ("a text without an end of line", "valve 7")):
         open(secret, "w").write(text)
         server.start()
@@ -480,28 +480,29 @@ def addresses():
     listen, door = f"127.0.0.1:{server.port}", f"listen = '127.0.0.1:{server.door}'"
     peer = "\n[[peer]]\naddress = '%s'\nevery = 60\n"
     fine, wrong = peer % "192.0.2.2:4840", peer % "plant.example:4840"
-    cases = [("[server] listen is a name", text.replace(listen, "localhost:4840"), "address refused"),
-             ("[server] listen lacks a port", text.replace(listen, "127.0.0.1"), "address refused"),
-             ("[server] listen is another machine's", text.replace(listen, "192.0.2.1:4840"), "address refused"),
-             ("[door] listen is a name", text.replace(door, "listen = 'localhost:4841'"), "door's address refused"),
-             ("[door] listen is another machine's", text.replace(door, "listen = '192.0.2.1:4841'"), "door's address refused"),
-             ("[door] listen is that of [server]", text.replace(door, f"listen = '{listen}'"), "door's address refused"),
-             ("[door] listen is the port of [server], at all addresses", text.replace(door, f"listen = '0.0.0.0:{server.port}'"), "door's address refused"),
-             ("the first [[peer]]'s address is a name", text + wrong, "peer's address refused (1)"),
-             ("the third's is, and those before it aren't", text + fine * 2 + wrong, "peer's address refused (3)"),
-             ("the second's and the third's are", text + fine + wrong * 2, "peer's address refused (2)"),
-             ("all three are names", text.replace(listen, "a:1").replace(door, "listen = 'b:1'") + wrong, "address refused"),
-             ("the door's and a peer's are", text.replace(door, "listen = 'b:1'") + wrong, "door's address refused"),
-             ("a peer's is, and [server] listen is another machine's", text.replace(listen, "192.0.2.1:4840") + wrong, "peer's address refused (1)")]
-    for what, settings, message in cases:
+    none, others, taken = "not an address: want one as 127.0.0.1:4840", "not an address of this machine", "port in use"
+    cases = [("[server] listen is a name", text.replace(listen, "localhost:4840"), "address refused", none),
+             ("[server] listen lacks a port", text.replace(listen, "127.0.0.1"), "address refused", none),
+             ("[server] listen is another machine's", text.replace(listen, "192.0.2.1:4840"), "address refused", others),
+             ("[door] listen is a name", text.replace(door, "listen = 'localhost:4841'"), "door's address refused", none),
+             ("[door] listen is another machine's", text.replace(door, "listen = '192.0.2.1:4841'"), "door's address refused", others),
+             ("[door] listen is that of [server]", text.replace(door, f"listen = '{listen}'"), "door's address refused", taken),
+             ("[door] listen is the port of [server], at all addresses", text.replace(door, f"listen = '0.0.0.0:{server.port}'"), "door's address refused", taken),
+             ("the first [[peer]]'s address is a name", text + wrong, "peer's address refused (1)", none),
+             ("the third's is, and those before it aren't", text + fine * 2 + wrong, "peer's address refused (3)", none),
+             ("the second's and the third's are", text + fine + wrong * 2, "peer's address refused (2)", none),
+             ("all three are names", text.replace(listen, "a:1").replace(door, "listen = 'b:1'") + wrong, "address refused", none),
+             ("the door's and a peer's are", text.replace(door, "listen = 'b:1'") + wrong, "door's address refused", none),
+             ("a peer's is, and [server] listen is another machine's", text.replace(listen, "192.0.2.1:4840") + wrong, "peer's address refused (1)", none)]
+    for what, settings, message, cause in cases:
         told = ended(settings)
-        tell(told == (1, message + "\n"), f"{what}: {message}, status 1", told)
+        tell(told == (1, f"{message}\nuahist: {cause}\n"), f"{what}: {message}, {cause}, status 1", told)
     with socket.create_server(("127.0.0.1", server.door)):
         told = ended(text)
-    tell(told == (1, "door's address refused\n"), "[door] listen is in use: door's address refused, status 1", told)
+    tell(told == (1, f"door's address refused\nuahist: {taken}\n"), "[door] listen is in use: door's address refused, port in use, status 1", told)
     with socket.create_server(("127.0.0.1", server.port)):
         told = ended(text)
-    tell(told == (1, "address refused\n"), "[server] listen is in use: address refused, status 1", told)
+    tell(told == (1, f"address refused\nuahist: {taken}\n"), "[server] listen is in use: address refused, port in use, status 1", told)
     told = ended(text.replace(listen, "a:1").replace(door, "listen = 'b:1'") + wrong, ["dump"])
     tell(told == (0, ""), "dump looks at none of them", told)
 
@@ -526,9 +527,13 @@ def settings():
              ("access is another word", text.replace(user, user + "access = 'all'\n"), 3, "[[user]] 1, access"),
              ("access is in capitals", text.replace(user, user + "access = 'READ'\n"), 3, "[[user]] 1, access"),
              ("anonymous_access is true", text.replace(anonymous, anonymous + "anonymous_access = true\n"), 3, "[server] anonymous_access")]
+    right = {"from": 'want an array of texts, as ["10.1.0.0/16"]', "replicas": "want an array of whole numbers from 1 to 64",
+             "ahead": "want a whole number of seconds from 1 to 31536000", "access": 'want "read" or "write"',
+             "anonymous_access": 'want "read" or "write"'}
     for what, changed, number, place in cases:
         told = ended(changed, ["dump"])
-        tell(told == (2, f"settings refused ({number})\nuahist: {place}\n"), f"{what}: settings refused ({number}), {place}", told)
+        why = {2: "this key has to be there", 4: "there is no such key"}.get(number) or right.get(place.split()[-1], "want a text, or a table of this name")
+        tell(told == (2, f"settings refused ({number})\nuahist: {place}\nuahist: {why}\n"), f"{what}: settings refused ({number}), {place}, {why}", told)
 
 
 def one_connection():

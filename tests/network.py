@@ -107,7 +107,7 @@ def taken_address(port):
     with socket.socket() as other:
         other.bind(("127.0.0.1", port))
         other.listen()
-        ends(serve(port, 1), "uahist: address refused\n", 1)
+        ends(serve(port, 1), "uahist: address refused\nuahist: port in use\n", 1)
 
 
 def silent(port):

@@ -134,7 +134,7 @@ def files_alone():
         if what == "empty":
             open(store, "wb").close()
         done = subprocess.run([program, "dump", "--settings", settings], stdout=subprocess.PIPE, stderr=subprocess.PIPE, text=True)
-        assert (done.returncode, done.stdout, done.stderr) == (3, "", "uahist: store refused (2)\n"), done
+        assert (done.returncode, done.stdout, done.stderr) == (3, "", "uahist: store refused (2)\nuahist: it is gone or empty, and its log has records\n"), done
         assert os.path.exists(store) == (what == "empty") and open(store + "-wal", "rb").read() == kept["-wal"], "a file changed"
         open(store, "wb").write(kept[""])
         print(f"a store that is {what} beside its log is refused (2), the log stays, and the file put back")

@@ -1,10 +1,14 @@
 //! The files of a store, before it is opened.
 
+use crate::causes;
 use archive::StoreFault;
-use std::fs::OpenOptions;
+use sql_archive::{FileArchive, SqlArchive};
+use stamp::ReplicaNo;
+use std::fs::{File, OpenOptions};
 use std::io::ErrorKind;
-use std::os::unix::fs::OpenOptionsExt;
+use std::os::unix::fs::{MetadataExt, OpenOptionsExt};
 use std::{fs, io};
+use uuid::Uuid;
 
 /// The least bytes of a log that has a record: its header, a frame's, and the smallest page.
 const LEAST_LOG: u64 = 568;
@@ -39,7 +43,7 @@ pub fn stands(rt: &HostRuntime, path: &str) -> bool {
 /// Makes the file of a store for its owner alone, where none stands. A store that is gone, or empty, beside a log that has
 /// records is refused, and both stay: an opening would begin anew, and the log may be all that is left. What else can't be read
 /// is left to the opening.
-pub fn prepare(rt: &HostRuntime, path: &str) -> Result<(), StoreFault> {
+fn prepare(rt: &HostRuntime, path: &str) -> Result<(), StoreFault> {
     if !matches!(length(rt, path), Ok(0)) {
         return Ok(());
     }
@@ -53,4 +57,37 @@ pub fn prepare(rt: &HostRuntime, path: &str) -> Result<(), StoreFault> {
         .mode(OWNERS)
         .open(rt, path);
     Ok(())
+}
+
+/// The archive of the store at a path, which is made where none stands.
+pub fn open(
+    rt: &HostRuntime,
+    path: &str,
+    id: Uuid,
+    number: ReplicaNo,
+) -> Result<FileArchive, StoreFault> {
+    prepare(rt, path)?;
+    SqlArchive::open(rt, path, id, number)
+}
+
+/// Whether a program has a lock on a file, as the system lists them.
+fn is_locked(rt: &HostRuntime, file: &File) -> io::Result<bool> {
+    let name = format!(in rt.alloc(); ":{} ", file.metadata()?.ino())?;
+    let locks = fs::read_to_string(rt, "/proc/locks")?;
+    Ok(locks.contains(name.as_str()))
+}
+
+/// Why a store that was refused can't be opened, as far as its file tells.
+pub fn why_refused(rt: &HostRuntime, path: &str) -> Option<&'static str> {
+    let file = match OpenOptions::new().read(true).write(true).open(rt, path) {
+        Ok(file) => file,
+        Err(error) => return causes::of_store(error.kind()),
+    };
+    if matches!(is_locked(rt, &file), Ok(true)) {
+        return Some("in use by another program");
+    }
+    if matches!(length(rt, path), Ok(0)) && matches!(has_log(rt, path), Ok(true)) {
+        return Some("it is gone or empty, and its log has records");
+    }
+    Some("no store of this program, or a damaged one, or its disk is full")
 }

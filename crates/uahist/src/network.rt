@@ -67,8 +67,8 @@ pub(crate) struct TcpSource<'a> {
 
 impl<'a> TcpSource<'a> {
     /// Listeners at these addresses, and calls of these peers, each at once and then when it is due; or the door whose address
-    /// can't be listened at.
-    pub fn listen(rt: &'a HostRuntime, listening: &Listening) -> Result<Self, Door> {
+    /// can't be listened at, and what the system said of it.
+    pub fn listen(rt: &'a HostRuntime, listening: &Listening) -> Result<Self, (Door, ErrorKind)> {
         let door = if listening.peers.is_some() {
             Door::Clients
         } else {
@@ -76,18 +76,18 @@ impl<'a> TcpSource<'a> {
         };
         let mut source = match TcpSource::calling(rt, &listening.callees) {
             Ok(source) => source,
-            Err(_) => return Err(door),
+            Err(error) => return Err((door, error.kind())),
         };
         match source.open(listening.clients, door) {
             Ok(()) => {}
-            Err(_) => return Err(door),
+            Err(error) => return Err((door, error.kind())),
         }
         let Some(address) = listening.peers else {
             return Ok(source);
         };
         match source.open(address, Door::Peers) {
             Ok(()) => Ok(source),
-            Err(_) => Err(Door::Peers),
+            Err(error) => Err((Door::Peers, error.kind())),
         }
     }
 

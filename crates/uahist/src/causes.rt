@@ -1,0 +1,152 @@
+//! Why something was refused, in words: a second line on standard error, behind the program's own. No clause speaks of it, as of
+//! all that the system says.
+
+use archive::StoreFault;
+use counted_io::{Counted, ServeFault};
+use std::io::{ErrorKind, Write};
+use ua_server::ProgramFault;
+use ua_settings::SettingsFault;
+
+/// What keys of the settings hold, for those whose value may be wrong.
+static WANTED: [(&str, &str); 18] = [
+    (
+        "[archive] id",
+        "want a UUID, as 3f2c8a10-5b1e-4c7d-9a60-2d8f4b6e7c90",
+    ),
+    ("id", "want a text of 1 to 256 bytes that is no other id"),
+    ("replica", "want a whole number from 1 to 64"),
+    ("anonymous", "want true or false"),
+    ("anonymous_access", "want \"read\" or \"write\""),
+    ("access", "want \"read\" or \"write\""),
+    ("connections", "want a whole number from 1 to 1000"),
+    ("waiting", "want a whole number of MiB from 1 to 65536"),
+    (
+        "name",
+        "want a text, of a user one of 1 to 256 bytes that is no other user's",
+    ),
+    ("password", "want a text, and no password_file beside it"),
+    (
+        "password_file",
+        "want the path of a file whose first line isn't empty",
+    ),
+    (
+        "type",
+        "want Boolean, SByte, Byte, Int16, UInt16, Int32, UInt32, Int64, UInt64, Float, Double, String, DateTime, Guid or ByteString",
+    ),
+    ("array", "want true or false"),
+    ("folder", "want the id of a [[folder]]"),
+    ("from", "want an array of texts, as [\"10.1.0.0/16\"]"),
+    ("replicas", "want an array of whole numbers from 1 to 64"),
+    ("ahead", "want a whole number of seconds from 1 to 31536000"),
+    ("every", "want a whole number of seconds from 1 to 86400"),
+];
+
+/// What the key at a place of the settings has to hold.
+fn wanted(place: &str) -> &'static str {
+    match WANTED.iter().find(|(key, _)| is_at(place, key)) {
+        Some((_, words)) => words,
+        None => "want a text, or a table of this name",
+    }
+}
+
+/// Whether a place is that of a key: its last word.
+fn is_at(place: &str, key: &str) -> bool {
+    match place.strip_suffix(key) {
+        Some(front) => front.is_empty() || front.ends_with(' '),
+        None => false,
+    }
+}
+
+/// Why settings are refused at a place.
+fn of_settings(fault: SettingsFault, place: &str) -> Option<&'static str> {
+    match fault {
+        SettingsFault::NotToml => Some("it isn't TOML there"),
+        SettingsFault::MissingKey => Some("this key has to be there"),
+        SettingsFault::UnknownKey => Some("there is no such key"),
+        SettingsFault::BadValue => Some(wanted(place)),
+        SettingsFault::Space(_) if place.ends_with("variables") => Some("want at most 1000"),
+        SettingsFault::Space(_) => Some(wanted(place)),
+        SettingsFault::OutOfMemory => None,
+    }
+}
+
+/// Why a file can't be read.
+pub(crate) fn of_file(kind: ErrorKind) -> Option<&'static str> {
+    match kind {
+        ErrorKind::NotFound => Some("no such file"),
+        ErrorKind::PermissionDenied => Some("not permitted"),
+        ErrorKind::IsADirectory => Some("it is a folder"),
+        ErrorKind::InvalidData => Some("it isn't UTF-8"),
+        _ => None,
+    }
+}
+
+/// Why a store's file can't be opened to be read and written.
+pub(crate) fn of_store(kind: ErrorKind) -> Option<&'static str> {
+    match kind {
+        ErrorKind::NotFound => Some("no such folder"),
+        ErrorKind::PermissionDenied => Some("not permitted"),
+        ErrorKind::IsADirectory => Some("it is a folder"),
+        ErrorKind::ReadOnlyFilesystem => Some("its disk can't be written"),
+        ErrorKind::StorageFull | ErrorKind::QuotaExceeded => Some("disk full"),
+        _ => None,
+    }
+}
+
+/// Why an address can't be listened at.
+pub(crate) fn of_listener(kind: ErrorKind) -> &'static str {
+    match kind {
+        ErrorKind::AddrInUse => "port in use",
+        ErrorKind::AddrNotAvailable => "not an address of this machine",
+        ErrorKind::PermissionDenied => "not permitted: ports below 1024 are root's",
+        _ => "it can't be listened at",
+    }
+}
+
+/// Why a peer can't be called.
+pub(crate) fn of_call(kind: ErrorKind) -> &'static str {
+    match kind {
+        ErrorKind::ConnectionRefused => "nobody listens there",
+        ErrorKind::TimedOut => "no answer from there",
+        ErrorKind::HostUnreachable | ErrorKind::NetworkUnreachable => "no way there",
+        _ => "it can't be reached",
+    }
+}
+
+/// Why a store is refused, by what was found of its file.
+fn of_refusal(fault: StoreFault, found: Option<&'static str>) -> Option<&'static str> {
+    match fault {
+        StoreFault::WrongArchive => Some("it is of another archive than the settings' id"),
+        StoreFault::WrongReplica => Some("it is of another replica than the settings'"),
+        StoreFault::Broken => Some("a read or a write of its disk failed"),
+        StoreFault::OutOfMemory => Some("out of memory"),
+        StoreFault::Refused => found,
+    }
+}
+
+/// What is told of an ending behind its own line, by what the system said last where the machine couldn't do something. An
+/// address of which it said nothing wasn't asked for: its text spells none.
+pub(crate) fn of_ending(
+    ending: &Result<(), ProgramFault>,
+    said: Option<&'static str>,
+) -> Option<&'static str> {
+    let Err(fault) = ending else {
+        return None;
+    };
+    match fault {
+        ProgramFault::File => said,
+        ProgramFault::Settings(fault, Some(place)) => of_settings(*fault, place.as_str()),
+        ProgramFault::Store(fault) => of_refusal(*fault, said),
+        ProgramFault::Address | ProgramFault::DoorAddress | ProgramFault::PeerAddress(_) => {
+            said.or(Some("not an address: want one as 127.0.0.1:4840"))
+        }
+        ProgramFault::DoorNetwork(_) => Some("not a network: want one as 10.1.0.0/16"),
+        _ => None,
+    }
+}
+
+/// Writes such a line.
+pub(crate) fn tell<W: Write>(words: &str, errors: &mut Counted<W>) -> Result<(), ServeFault> {
+    errors.send(b"uahist: ")?;
+    errors.send_line(words.as_bytes())
+}
