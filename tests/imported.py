@@ -1,0 +1,192 @@
+#!/usr/bin/env python3
+"""Compares what `uahist import` writes, tells and leaves with a plain model.
+
+    tests/imported.py PROGRAM [ROUNDS [DAYS]]
+
+Each round (20, unless told) makes a store and imports texts of random rows into it, to be inserted, replaced or updated: lawful ones,
+such as are there already, and wrong ones of each kind. What is told of them and the exit status have to be the model's, what
+`history --csv` prints then what the model holds, and `history --changes` has to name the user. Then so many days (7, unless told)
+of twelve variables, a value each hundred seconds, are imported, printed, and imported again: what is printed has to be what was
+imported, and the dump the same after the second time. Exit status 1 where one differs.
+"""
+import csv, io, os, random, sys, tempfile
+import running, usage
+from printed import moment, NOW
+
+DAY = 864_000_000_000
+HEAD = "node,time,value,status\n"
+SETTINGS = """[archive]
+id = '00000000-0000-0000-0000-000000000000'
+replica = 1
+store = '{store}'
+[server]
+listen = '127.0.0.1:4840'
+url = 'opc.tcp://localhost:4840'
+application = 'urn:uahist'
+namespace = 'urn:uahist:archive'
+anonymous = false
+[[user]]
+name = 'ann'
+password = 'pw'
+[[user]]
+name = 'eva'
+password = 'pw'
+access = 'read'
+"""
+VARIABLE = "[[variable]]\nid = '{0}'\nname = '{0}'\ntype = '{1}'\n"
+TYPES = {"number": "Double", "whole": "Int32", "flag": "Boolean", "text": "String"}
+VALUES = {
+    "number": ["0.0", "-1.5", "1e300", "0.1", "inf", "-inf", "5e-324"],
+    "whole": ["0", "-5", "2147483647"],
+    "flag": ["true", "false"],
+    "text": ["a", 'say "hi"', "a,b", "line\nend", "caf\u00e9"],
+}
+# A wrong row's fields, and what is said of it.
+WRONG = [
+    (["temperature", "@5", "1", ""], "node: expected a node id, as ns=1;s=Temperature or i=2258"),
+    (["ns=1;s=none", "@5", "1", ""], "80340000 Bad_NodeIdUnknown"),
+    (["ns=1;s=whole", "noon", "1", ""], "time: expected a time, as 2026-03-01T12:00:00.5Z or @134168400000000000"),
+    (["ns=1;s=whole", "@5", "five", ""], "value: expected a whole number of the type's range"),
+    (["ns=1;s=whole", "@5", "2147483648", ""], "value: expected a whole number of the type's range"),
+    (["ns=1;s=flag", "@5", "TRUE", ""], "value: expected true or false"),
+    (["ns=1;s=whole", "@5", "5", "bad"], "status: expected a status code: eight hex digits, or Good, or nothing"),
+    (["ns=1;s=whole", "@5", "5"], "expected four fields: node, time, value and status"),
+    (["ns=1;s=whole", "@0", "5", ""], "80230000 Bad_InvalidTimestamp"),
+]
+
+
+def rows_of(rows):
+    """Rows as a text of CSV."""
+    out = io.StringIO(newline="")
+    csv.writer(out, lineterminator="\n").writerows(rows)
+    return HEAD + out.getvalue()
+
+
+def summary(counts):
+    """The last line that is told."""
+    total = sum(counts.values())
+    parts = [f"{counts[word]} {word}" for word in ("inserted", "replaced", "exist", "refused") if counts[word]]
+    return f"{total} row{'' if total == 1 else 's'}" + (": " + ", ".join(parts) if parts else "") + "\n"
+
+
+def imported(program, settings, text, user="ann", perform=None, most=600):
+    words = [program, "import", "--settings", settings, "--user", user, *(["--perform", perform] if perform else [])]
+    return running.run(words, text.encode(), most)
+
+
+def values(program, settings, name, *options):
+    """What is printed of a variable, as rows without the header."""
+    done = running.run([program, "history", "--settings", settings, "--node", f"ns=1;s={name}", "--csv", *options])
+    return list(csv.reader(io.StringIO(done.out.decode(), newline=""), strict=True))[1:]
+
+
+def settings_in(folder, variables):
+    path, store = os.path.join(folder, "plant.toml"), os.path.join(folder, "plant.db")
+    running.forget(store)
+    open(path, "w").write(SETTINGS.format(store=store) + "".join(VARIABLE.format(name, kind) for name, kind in variables.items()))
+    return path
+
+
+def text_of(chance, held, perform):
+    """Random rows, what they come to, and the lines that are told of them."""
+    rows, counts, lines = [], dict.fromkeys(("inserted", "replaced", "exist", "refused"), 0), ""
+    for number in range(1, chance.randrange(1, 40)):
+        if chance.random() < 0.2:
+            fields, why = chance.choice(WRONG)
+            rows.append(fields)
+            counts["refused"] += 1
+            lines += f"row {number}: {why}\n"
+            continue
+        name = chance.choice(list(TYPES))
+        time, value = NOW - DAY + 10_000 * chance.randrange(8), chance.choice(VALUES[name])
+        status = chance.choice(["", "Good", "80320000", "40930000"])
+        rows.append([f"ns=1;s={name}", moment(time), value, status])
+        there = (name, time) in held
+        if there and perform in (None, "insert"):
+            counts["exist"] += 1
+        elif not there and perform == "replace":
+            counts["refused"] += 1
+            lines += f"row {number}: 80A00000 Bad_NoEntryExists\n"
+        else:
+            held[name, time] = (value, status or "Good")
+            counts["replaced" if there else "inserted"] += 1
+    return rows, counts, lines
+
+
+def is_value(name, said, value):
+    return float(said) == float(value) if name == "number" else said == value
+
+
+def differs(program, settings, chance, held):
+    """What differs of one import, if something does."""
+    perform = chance.choice([None, "insert", "replace", "update"])
+    rows, counts, lines = text_of(chance, held, perform)
+    done = imported(program, settings, rows_of(rows), perform=perform)
+    refused = counts["refused"]
+    said = f"uahist: rows refused ({refused})\n" if refused else ""
+    if (done.out.decode(), done.said, done.status) != (lines + summary(counts), said, 1 if refused else 0):
+        return f"{rows}: {done.out.decode()!r} {done.said!r} {done.status}, not {lines + summary(counts)!r}"
+    for name in TYPES:
+        want = sorted((time, *value) for (node, time), value in held.items() if node == name)
+        got = values(program, settings, name)
+        if len(want) != len(got) or any(r[1] != moment(t) or not is_value(name, r[2], v) or r[3] != s for r, (t, v, s) in zip(got, want)):
+            return f"{name}: {got}, not {want}"
+        if {row[6] for row in values(program, settings, name, "--changes")} - {"ann"}:
+            return f"{name}: changed by another"
+
+
+def refusals(program, settings):
+    """Whether an import that is refused as a whole is told so, and leaves nothing."""
+    row = rows_of([["ns=1;s=whole", "@5", "5", ""]])
+    nobody = "uahist: --user: want a user of the settings who may write\n"
+    asked = [(row, "eva", nobody), (row, "ben", nobody), (row, "anonymous", nobody), (row, "", nobody)]
+    asked += [(text, "ann", "uahist: rows refused: want the header node,time,value,status\n") for text in ("", "\n", "node,time,value\n", row[len(HEAD):], "a;b\n")]
+    wrong = []
+    for text, user, said in asked:
+        done = imported(program, settings, text, user)
+        if (done.out, done.said, done.status) != (b"", said, 2):
+            wrong.append(f"{user} {text!r}: {done.out!r} {done.said!r} {done.status}")
+    if values(program, settings, "whole"):
+        wrong.append("a row was written that was refused")
+    return wrong
+
+
+def week(program, folder, days):
+    """Whether days of twelve variables are printed as they were imported, and imported again without a change."""
+    names = [f"v{n}" for n in range(12)]
+    settings = settings_in(folder, dict.fromkeys(names, "Double"))
+    chance = random.Random(7)
+    rows = [[f"ns=1;s={name}", moment(NOW - 365 * DAY + k * (DAY // 864)), str(round(chance.uniform(-50, 150), 3)), "Good"] for name in names for k in range(864 * days)]
+    text = rows_of(rows)
+    first = running.weighed([program, "import", "--settings", settings, "--user", "ann"], text.encode(), 600)
+    dump = running.run([program, "dump", "--settings", settings]).out
+    same = all(all(r[:2] == w[:2] and float(r[2]) == float(w[2]) and r[3] == w[3] for r, w in zip(values(program, settings, name), [w for w in rows if w[0] == f"ns=1;s={name}"], strict=True)) for name in names)
+    second = running.weighed([program, "import", "--settings", settings, "--user", "ann"], text.encode(), 600)
+    good = first.out.decode() == f"{len(rows)} rows: {len(rows)} inserted\n" and second.out.decode() == f"{len(rows)} rows: {len(rows)} exist\n"
+    good = good and same and dump == running.run([program, "dump", "--settings", settings]).out
+    print(f"{len(rows)} rows: {'printed as they were imported' if good else 'OTHERWISE'}; {first.seconds:.1f} s and {first.kilobytes / 1000:.0f} MB, again {second.seconds:.1f} s and {second.kilobytes / 1000:.0f} MB")
+    return good
+
+
+def main():
+    usage.shown(__doc__, 1)
+    program = os.path.abspath(sys.argv[1])
+    rounds, days = (int(word) for word in (sys.argv[2:] + ["20", "7"][len(sys.argv) - 2:])[:2])
+    wrong, asked = [], 0
+    with tempfile.TemporaryDirectory() as folder:
+        wrong += refusals(program, settings_in(folder, TYPES))
+        for seed in range(rounds):
+            settings, held, chance = settings_in(folder, TYPES), {}, random.Random(seed)
+            for _ in range(4):
+                asked += 1
+                found = differs(program, settings, chance, held)
+                wrong += [f"round {seed}: {found}"] if found else []
+        good = week(program, folder, days)
+    for line in wrong[:5]:
+        print("OTHERWISE", line[:600])
+    print(f"{asked} imports, {len(wrong)} differ")
+    sys.exit(1 if wrong or not good else 0)
+
+
+if __name__ == "__main__":
+    main()
