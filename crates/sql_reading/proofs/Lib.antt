@@ -1,4 +1,3 @@
-pub mod FewLemmas
 pub mod StoryLemmas
 pub mod WalkLemmas
 pub mod PageLemmas

@@ -1,5 +1,4 @@
 pub mod Texts
-pub mod AnsweredLemmas
 pub mod WriteLemmas
 pub mod ApartLemmas
 pub mod DerivedLemmas
@@ -11,7 +10,6 @@ pub mod KeepLemmas
 pub mod KeptLemmas
 pub mod RenewLemmas
 pub mod AgreeLemmas
-pub mod WholeLemmas
 pub mod AgreedLemmas
 pub mod FreeLemmas
 pub mod QueryLemmas

@@ -22,6 +22,5 @@ returns g c =
           c.end_of.ensures.lacks);
       kept = λ clean ok. e.kept clean refl;
       met = tt;
-      refused = λ clean. tt;
       crash = e.crash;
     }

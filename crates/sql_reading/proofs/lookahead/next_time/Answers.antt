@@ -25,6 +25,5 @@ returns g c =
           (e.answer clean).0 (e.answer clean).1);
       kept = λ clean ok. e.kept clean refl;
       met = tt;
-      refused = λ clean. tt;
       crash = e.crash;
     }

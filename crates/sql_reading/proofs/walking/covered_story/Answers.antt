@@ -19,6 +19,5 @@ returns g c =
           );
       kept = λ clean ok. e.kept clean refl;
       met = tt;
-      refused = λ clean. tt;
       crash = e.crash;
     }
