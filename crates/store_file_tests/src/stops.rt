@@ -2,13 +2,14 @@
 //! crashes, and what is left is opened again: it holds what was learned, or one record more.
 
 use crate::format_one::first_of_five;
-use crate::store_files::{Closing, FIVE, empty, learn_five, open_one};
-use archive::{Archive, StoreFault};
+use crate::store_files::{FIVE, Opened, empty, learn_five, one, open};
+use archive::Archive;
 use history_rows::archives::learn;
 use sqlite::Files;
-use sqlite_disk::{Crash, Fuse, Memory};
+use sqlite_disk::{Crash, Disk, Fuse, Memory};
 use std::alloc::Global;
 use std::test::Fail;
+use uuid::Uuid;
 
 /// The file that is stopped.
 #[derive(Clone, Copy, Debug)]
@@ -52,6 +53,14 @@ fn fuse(files: Files<Memory>, fused: Fused, calls: u64) -> Files<Fuse<Memory>> {
     }
 }
 
+/// Opens the store of replica 1 in these files.
+fn open_one<D: Disk + Drop>(alloc: Global, files: Files<D>) -> Opened<D> {
+    match one() {
+        Ok(number) => open(alloc, files, Uuid::nil(), number),
+        Err(fault) => Err((fault, files)),
+    }
+}
+
 /// How many of the records are held: the first so many, to the last byte, where the others can then be learned.
 fn held<A: Archive>(alloc: Global, archive: &mut A) -> Option<usize> {
     let mut held: usize = 0;
@@ -68,53 +77,45 @@ fn held<A: Archive>(alloc: Global, archive: &mut A) -> Option<usize> {
 /// How many records were learned, whether all went well, and the files.
 type Ran = (usize, bool, Files<Fuse<Memory>>);
 
-/// Learns the five records, where they are wanted, and closes the store.
-fn ran<T: Archive + Closing<Left = Files<Fuse<Memory>>> + Drop>(
-    alloc: Global,
-    opened: Result<T, (StoreFault, Files<Fuse<Memory>>)>,
-    wanted: bool,
-) -> Ran {
-    let mut archive = match opened {
+/// Opens a store, learns the five records and closes it.
+fn learn_all(alloc: Global, files: Files<Fuse<Memory>>) -> Ran {
+    let mut archive = match open_one(alloc, files) {
         Ok(archive) => archive,
-        Err((_, left)) => return (if wanted { 0 } else { 5 }, false, left),
+        Err((_, left)) => return (0, false, left),
     };
-    let learned = if wanted {
-        learn_five(alloc, &mut archive)
-    } else {
-        5
-    };
-    match archive.close() {
+    let learned = learn_five(alloc, &mut archive);
+    match archive.close_files() {
         Ok(files) => (learned, learned == 5, files),
         Err(files) => (learned, false, files),
+    }
+}
+
+/// Opens a store of the five records and closes it.
+fn open_and_close(alloc: Global, files: Files<Fuse<Memory>>) -> Ran {
+    let archive = match open_one(alloc, files) {
+        Ok(archive) => archive,
+        Err((_, left)) => return (5, false, left),
+    };
+    match archive.close_files() {
+        Ok(files) => (5, true, files),
+        Err(files) => (5, false, files),
     }
 }
 
 /// A run that is stopped behind so many calls of a file.
 fn run_to_a_stop(alloc: Global, run: Run, fused: Fused, calls: u64) -> Option<Ran> {
     match run {
-        Run::Learning => Some(ran(
-            alloc,
-            open_one(alloc, fuse(empty(alloc), fused, calls)),
-            true,
-        )),
-        Run::Renewing => {
-            let files = fuse(first_of_five(alloc)?, fused, calls);
-            Some(ran(alloc, open_one(alloc, files), false))
-        }
+        Run::Learning => Some(learn_all(alloc, fuse(empty(alloc), fused, calls))),
+        Run::Renewing => Some(open_and_close(alloc, fuse(first_of_five(alloc)?, fused, calls))),
     }
-}
-
-/// How many records an archive holds, where it was opened.
-fn held_where_opened<T: Archive + Drop>(alloc: Global, opened: Option<T>) -> Option<usize> {
-    let mut archive = opened?;
-    held(alloc, &mut archive)
 }
 
 /// How many records are found once the machine crashed.
 fn found_behind_a_crash(alloc: Global, mut files: Files<Fuse<Memory>>) -> Option<usize> {
     files.log.crash();
     files.db.crash();
-    held_where_opened(alloc, open_one(alloc, files).ok())
+    let mut archive = open_one(alloc, files).ok()?;
+    held(alloc, &mut archive)
 }
 
 fn left_by(learned: usize, ended: bool, found: Option<usize>) -> Left {
