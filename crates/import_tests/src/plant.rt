@@ -1,5 +1,8 @@
 //! A plant, and imports into its archive.
 
+ghost use Rattle.std.specs.Prelude.{◌≤◌, length};
+ghost use Rattle.ua_session.specs.Users.{IsUserName};
+
 use archive::{Archive, ListArchive, StoreFault};
 use historian::Server;
 use history_import::{Import, Perform};
@@ -62,11 +65,21 @@ pub(crate) fn record_count<A: Archive>(server: &mut Server<A>) -> Result<usize, 
     Ok(held.len())
 }
 
-/// An import in ann's name, at noon.
-pub(crate) fn by_ann(perform: Perform) -> Import<'static> {
+/// An import in this name, at noon.
+fn in_name(user: &'static str, perform: Perform) -> Import<'static>
+    requires { length user.now ≤ 256 }
+    ensures { IsUserName result.user.now }
+{
     Import {
-        user: "ann",
+        user,
         perform,
         reading: Ticks(NOON),
     }
+}
+
+/// An import in ann's name, at noon.
+pub(crate) fn by_ann(perform: Perform) -> Import<'static>
+    ensures { IsUserName result.user.now }
+{
+    in_name("ann", perform)
 }
