@@ -311,7 +311,7 @@ fn reads_lines(rt: HostRuntime) {
 }
 
 /// Command lines, the input, the room of the output, what it has then, what is said, and the exit status.
-static RUNS: [(&[&str], &[u8], usize, &str, &str, u8); 66] = [
+static RUNS: [(&[&str], &[u8], usize, &str, &str, u8); 59] = [
     (&["uahist", "--version"], b"", 1000, "uahist 0.1.0\n", "", 0),
     (
         &["uahist", "--version"],
@@ -513,97 +513,6 @@ static RUNS: [(&[&str], &[u8], usize, &str, &str, u8); 66] = [
         1000,
         "",
         "uahist: --from: want a time, as 2026-03-01T12:00:00Z\n",
-        2,
-    ),
-    (
-        &[
-            "uahist",
-            "import",
-            "--settings",
-            "kept",
-            "--user",
-            "anonymous",
-        ],
-        b"node,time,value,status\n",
-        1000,
-        "0 rows\n",
-        "",
-        0,
-    ),
-    (
-        &[
-            "uahist",
-            "import",
-            "--settings",
-            "kept",
-            "--user",
-            "anonymous",
-        ],
-        b"node,time,value,status\nns=1;s=T,@5,5,\n",
-        1000,
-        "row 1: 80340000 Bad_NodeIdUnknown\n1 row: 1 refused\n",
-        "uahist: rows refused (1)\n",
-        1,
-    ),
-    (
-        &[
-            "uahist",
-            "import",
-            "--settings",
-            "kept",
-            "--user",
-            "anonymous",
-        ],
-        b"ns=1;s=T,@5,5,\n",
-        1000,
-        "",
-        "uahist: rows refused: want the header node,time,value,status\n",
-        2,
-    ),
-    (
-        &[
-            "uahist",
-            "import",
-            "--settings",
-            "kept",
-            "--user",
-            "anonymous",
-        ],
-        b"node,time,value,status\n",
-        3,
-        "0 r",
-        "uahist: connection ended (2)\n",
-        1,
-    ),
-    (
-        &["uahist", "import", "--settings", "kept", "--user", "ann"],
-        b"node,time,value,status\n",
-        1000,
-        "",
-        "uahist: --user: want a user of the settings who may write\n",
-        2,
-    ),
-    (
-        &[
-            "uahist",
-            "import",
-            "--settings",
-            "good",
-            "--user",
-            "anonymous",
-        ],
-        b"node,time,value,status\n",
-        1000,
-        "",
-        "uahist: import refused: the settings name no store\n",
-        2,
-    ),
-    (
-        &["uahist", "import", "--settings", "none", "--user", "ann"],
-        b"node,time,value,status\n",
-        1000,
-        "",
-        "uahist: settings file can't be read\n",
         2,
     ),
     (
@@ -943,6 +852,101 @@ static RUNS: [(&[&str], &[u8], usize, &str, &str, u8); 66] = [
     ),
 ];
 
+/// The same of imports.
+static IMPORTS: [(&[&str], &[u8], usize, &str, &str, u8); 7] = [
+    (
+        &[
+            "uahist",
+            "import",
+            "--settings",
+            "kept",
+            "--user",
+            "anonymous",
+        ],
+        b"node,time,value,status\n",
+        1000,
+        "0 rows\n",
+        "",
+        0,
+    ),
+    (
+        &[
+            "uahist",
+            "import",
+            "--settings",
+            "kept",
+            "--user",
+            "anonymous",
+        ],
+        b"node,time,value,status\nns=1;s=T,@5,5,\n",
+        1000,
+        "row 1: 80340000 Bad_NodeIdUnknown\n1 row: 1 refused\n",
+        "uahist: rows refused (1)\n",
+        1,
+    ),
+    (
+        &[
+            "uahist",
+            "import",
+            "--settings",
+            "kept",
+            "--user",
+            "anonymous",
+        ],
+        b"ns=1;s=T,@5,5,\n",
+        1000,
+        "",
+        "uahist: rows refused: want the header node,time,value,status\n",
+        2,
+    ),
+    (
+        &[
+            "uahist",
+            "import",
+            "--settings",
+            "kept",
+            "--user",
+            "anonymous",
+        ],
+        b"node,time,value,status\n",
+        3,
+        "0 r",
+        "uahist: connection ended (2)\n",
+        1,
+    ),
+    (
+        &["uahist", "import", "--settings", "kept", "--user", "ann"],
+        b"node,time,value,status\n",
+        1000,
+        "",
+        "uahist: --user: want a user of the settings who may write\n",
+        2,
+    ),
+    (
+        &[
+            "uahist",
+            "import",
+            "--settings",
+            "good",
+            "--user",
+            "anonymous",
+        ],
+        b"node,time,value,status\n",
+        1000,
+        "",
+        "uahist: import refused: the settings name no store\n",
+        2,
+    ),
+    (
+        &["uahist", "import", "--settings", "none", "--user", "ann"],
+        b"node,time,value,status\n",
+        1000,
+        "",
+        "uahist: settings file can't be read\n",
+        2,
+    ),
+];
+
 /// Settings files that are kept in memory: their names, and their texts.
 static FILES: [(&str, &str); 25] = [
     (
@@ -1197,6 +1201,16 @@ fn is_run(
 #[test]
 fn runs_and_reports(rt: HostRuntime) {
     for (words, input, room, printed, said, status) in RUNS {
+        assert!(rt;
+            is_run(rt.alloc(), words, input, room, printed, said, status),
+            "{said}"
+        );
+    }
+}
+
+#[test]
+fn imports_and_reports(rt: HostRuntime) {
+    for (words, input, room, printed, said, status) in IMPORTS {
         assert!(rt;
             is_run(rt.alloc(), words, input, room, printed, said, status),
             "{said}"
