@@ -79,15 +79,15 @@ fn is_locked(rt: &HostRuntime, file: &File) -> io::Result<bool> {
 
 /// Why a store that was refused can't be opened, as far as its file tells.
 pub fn why_refused(rt: &HostRuntime, path: &str) -> Option<&'static str> {
+    if matches!(length(rt, path), Ok(0)) && matches!(has_log(rt, path), Ok(true)) {
+        return Some("it is gone or empty, and its log has records");
+    }
     let file = match OpenOptions::new().read(true).write(true).open(rt, path) {
         Ok(file) => file,
         Err(error) => return causes::of_store(error.kind()),
     };
     if matches!(is_locked(rt, &file), Ok(true)) {
         return Some("in use by another program");
-    }
-    if matches!(length(rt, path), Ok(0)) && matches!(has_log(rt, path), Ok(true)) {
-        return Some("it is gone or empty, and its log has records");
     }
     Some("no store of this program, or a damaged one, or its disk is full")
 }
