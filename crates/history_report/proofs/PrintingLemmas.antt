@@ -1,5 +1,5 @@
 -- A history, printed one page after the other behind a header.
-use Rattle.std.proofs.Common.{◌≡◌, ◌⊎◌, ℕ, zero, suc, Bool, true, false, List, [], ◌∷◌, ◌++◌, take, drop, length, slice_get, append-nil, append_assoc, Option, Some, None, Result, Ok, Err, refl, sym, ap, ◌∙◌, subst, inl, inr}
+use Rattle.std.proofs.Common.{◌≡◌, ℕ, zero, suc, Bool, true, false, List, [], ◌∷◌, ◌++◌, take, drop, length, slice_get, append-nil, append_assoc, Option, Some, None, Result, Ok, Err, refl, sym, ap, ◌∙◌, subst, inl, inr}
 use Rattle.std.specs.Io.KnownBytes.{Appends}
 use Rattle.std.proofs.KnownBytes.{Appends-nil, Appends-trans}
 use Rattle.std.specs.Prelude.{◌==◌}
@@ -20,8 +20,8 @@ use Rattle.history_report.specs.declared.pages.Pages.{Pages}
 use Rattle.history_report.specs.declared.report.Report.{Report}
 use Rattle.history_report.specs.declared.fault.ReportFault.{ReportFault}
 use Rattle.history_report.specs.declared.fault.ReportFault.TheVariants as fault
-use Rattle.history_report.specs.Reports.{AreLines, StopsShort, PrintsLines, ReadsFor, PrintsReport, Prints, report_faults, header_of, IsValueLine, IsChangeLine, values_asked, changes_asked}
-use Rattle.history_report.specs.Paging.{values_left, changes_left, IsPageOf, GivesPage, Fails, SendsLines, IsSoFar, Printing}
+use Rattle.history_report.specs.Reports.{AreLines, StopsShort, PrintsWhole, PrintsBehind, ReadsFor, PrintsReport, Prints, report_faults, IsHeader, footer_of, IsValueLine, IsChangeLine, values_asked, changes_asked}
+use Rattle.history_report.specs.Paging.{values_left, changes_left, IsPageOf, GivesPage, Fails, SendsLines, IsSoFar, Printing, PrintsLines, PrintsRows, SendsHeader, SendsFooter}
 use Rattle.history_report.proofs.LineLemmas.{lines-append}
 use Rattle.history_report.proofs.PageLemmas.{IsSpanOf, values-all, changes-all}
 
@@ -224,30 +224,63 @@ module _ {X : Type 0} (IsLine : X → List ℕ → Type 0) (HasNoText : X → Ty
     λ e. absurd (other e),
   )
 
+  -- ---- before a footer
+
+  -- it breaks off above the footer
+  pub unfooted : (header footer : List ℕ) (xs : List X) (before now after : Option (List ℕ))
+      (why : ReportFault) → Appends before now header
+      → PrintsLines IsLine HasNoText [] xs now after (Err why)
+      → PrintsWhole IsLine HasNoText header footer xs before after (Err why)
+  unfooted header footer xs before now after why first rows =
+      inl (behind-header header xs before now after (Err why) first rows)
+
+  -- the footer is sent behind all lines, or a first part of it
+  pub footed : (header footer : List ℕ) (xs : List X) (before now middle after : Option (List ℕ))
+      (result : Result (Unit {0}) ReportFault) → Appends before now header
+      → PrintsLines IsLine HasNoText [] xs now middle (Ok tt)
+      → SendsFooter footer middle after result
+      → PrintsWhole IsLine HasNoText header footer xs before after result
+  footed header footer xs before now middle after (Ok done) first rows sent =
+      let (lines, are, appended) =
+      behind-header header xs before now middle (Ok tt) first rows in
+      (lines, are, Appends-trans before middle after (header ++ lines) footer appended sent)
+  footed header footer xs before now middle after (Err why) first rows (is, part) =
+      let (lines, are, appended) =
+      behind-header header xs before now middle (Ok tt) first rows in
+      inr (is, (lines, are, part-second before middle after (header ++ lines) footer appended part))
+
 -- ---- a report
 
--- of modifications, or of live values
-abbrev PrintsBy : Bool → Report → Content → (before after : Option (List ℕ))
+-- the rows of modifications, or of live values
+abbrev pub RowsBy : Bool → Report → Pages → Content → (before after : Option (List ℕ))
     → Result (Unit {0}) ReportFault → Type 0
-PrintsBy changes report R before after result =
+RowsBy changes report pages R before after result =
     elim changes [
-      | true ↦ PrintsLines (IsChangeLine report) (λ e. ShowsTextless e.value) (header_of report)
-          (changes_asked R report) before after result
-      | false ↦ PrintsLines (IsValueLine report) (λ h. IsTextless h.value.value) (header_of report)
-          (values_asked R report) before after result
+      | true ↦ PrintsLines (IsChangeLine report) (λ e. ShowsTextless e.value) []
+          (changes_left report.node pages R) before after result
+      | false ↦ PrintsLines (IsValueLine report) (λ h. IsTextless h.value.value) []
+          (values_left report.node pages R) before after result
     ]
 
--- a report of which at most a part of the header was printed
-pub report-breaks : (report : Report) (R : Content) (before after : Option (List ℕ))
-    (why : ReportFault) → (why ≡ fault.NoText → ⊥) → AppendsPart before after (header_of report)
-    → PrintsReport report R before after (Err why)
-report-breaks report R before after why other part = go report.changes
-  where
-    go : (changes : Bool) → PrintsBy changes report R before after (Err why)
-    go true = header-breaks (IsChangeLine report) (λ e. ShowsTextless e.value) (header_of report)
-        (changes_asked R report) before after why other part
-    go false = header-breaks (IsValueLine report) (λ h. IsTextless h.value.value)
-        (header_of report) (values_asked R report) before after why other part
+-- what is printed of these behind a header
+abbrev BehindBy : Bool → Report → (header : List ℕ) → Content
+    → (before after : Option (List ℕ)) → Result (Unit {0}) ReportFault → Type 0
+BehindBy changes report header R before after result =
+    elim changes [
+      | true ↦ PrintsWhole (IsChangeLine report) (λ e. ShowsTextless e.value) header
+          (footer_of report) (changes_asked R report) before after result
+      | false ↦ PrintsWhole (IsValueLine report) (λ h. IsTextless h.value.value) header
+          (footer_of report) (values_asked R report) before after result
+    ]
+
+-- rows of modifications, or of live values, were read
+pub rows-by : (report : Report) (pages : Pages) (t u : Store) (before after : Option (List ℕ))
+    (result : Result (Unit {0}) ReportFault) (changes : Bool) → report.changes ≡ changes
+    → ReadsFor t u result (λ R. RowsBy changes report pages R before after result)
+    → ReadsFor t u result (λ R. PrintsRows report pages R before after result)
+rows-by report pages t u before after result changes is =
+    subst (λ (b : Bool). ReadsFor t u result (λ R. RowsBy b report pages R before after result))
+    (sym is)
 
 -- the store met a fault before anything was printed
 pub not-asked : (report : Report) (t u : Store) (before : Option (List ℕ)) (why : StoreFault)
@@ -262,8 +295,7 @@ not-asked report t u before why fails = (
         e,
         (
           refl,
-          report-breaks report R before before (fault.Store why)
-              (λ k. absurd cc) ([], header_of report, refl, Appends-nil before),
+          inr (fault.Store why, refl, λ k. absurd cc, Appends-nil before),
         ),
       )) fails,
 )
@@ -275,79 +307,141 @@ AreShown t u numbers =
     × ((o : ℕ) → number_of numbers o ≡ vec R o))
 
 module _ (report : Report) (t u w : Store) (numbers : List ℕ) (shown : AreShown t u numbers)
-    (before now after : Option (List ℕ)) where
-  pub unheaded : (why : ReportFault) → (why ≡ fault.Write) ⊎ (why ≡ fault.OutOfMemory)
-      → AppendsPart before now (header_of report) → Prints report t u before now (Err why)
-  unheaded why because part = (
+    (before now : Option (List ℕ)) where
+  -- at most a part of the header was printed
+  broken : (R : Content) (why : ReportFault) → SendsHeader report before now (Err why)
+      → (report_faults (Err why) ≡ []) × PrintsReport report R before now (Err why)
+  broken R why (inl (memory, none)) = (
+    ap (λ w. report_faults (Err w)) memory,
+    inr (
+      why,
+      refl,
+      λ k. absurd (let e : fault.OutOfMemory ≡ fault.NoText = sym memory ∙ k in cc),
+      none,
+    ),
+  )
+  broken R why (inr (write, (header, is, part))) = (
+    ap (λ w. report_faults (Err w)) write,
+    inl (header, is, go report.changes),
+  )
+    where
+      other : why ≡ fault.NoText → ⊥
+      other k = let e : fault.Write ≡ fault.NoText = sym write ∙ k in absurd cc
+
+      go : (changes : Bool) → BehindBy changes report header R before now (Err why)
+      go true = inl (header-breaks (IsChangeLine report) (λ e. ShowsTextless e.value) header
+          (changes_asked R report) before now why other part)
+      go false = inl (header-breaks (IsValueLine report) (λ h. IsTextless h.value.value) header
+          (values_asked R report) before now why other part)
+
+  pub unheaded : (why : ReportFault) → SendsHeader report before now (Err why)
+      → Prints report t u before now (Err why)
+  unheaded why sends = (
     [],
     moves-as t u [] (λ marks R S. (S ≡ R) × IsLawfulContent R
         × ((o : ℕ) → number_of numbers o ≡ vec R o))
         (λ marks R S. (S ≡ R) × (([] ≡ report_faults (Err why))
         × PrintsReport report R before now (Err why)))
-        (λ ms R S p. (
-          p.0,
-          (
-            quiet because,
-            report-breaks report R before now why (other because)
-                part,
-          ),
-        )) shown,
+        (λ ms R S p. let b = broken R why sends in (p.0, (sym b.0, b.1))) shown,
   )
-    where
-      quiet : (why ≡ fault.Write) ⊎ (why ≡ fault.OutOfMemory) → [] ≡ report_faults (Err why)
-      quiet (inl e) = ap (λ w. report_faults (Err w)) (sym e)
-      quiet (inr e) = ap (λ w. report_faults (Err w)) (sym e)
-
-      other : (why ≡ fault.Write) ⊎ (why ≡ fault.OutOfMemory) → why ≡ fault.NoText → ⊥
-      other (inl e) k = absurd cc
-      other (inr e) k = absurd cc
 
   -- what was printed behind the header is of what was held before
-  module _ (result : Result (Unit {0}) ReportFault)
-      (head : Appends before now (header_of report)) where
-    joined : (Printed : Content → Type 0) → ReadsFor u w result Printed
+  module _ (pages : Pages) (within : pages.within ≡ numbers) (first : pages.after ≡ None)
+      (span : IsSpanOf report pages.span.from pages.span.to) (header : List ℕ)
+      (is_header : IsHeader report header) (head : Appends before now header)
+      (middle after : Option (List ℕ)) where
+    joined : (rows result : Result (Unit {0}) ReportFault)
+        → report_faults rows ≡ report_faults result
         → ((R : Content) → IsLawfulContent R → ((o : ℕ) → number_of numbers o ≡ vec R o)
-        → Printed R → PrintsReport report R before after result)
+        → PrintsRows report pages R now middle rows
+        → PrintsBehind report header R before after result)
+        → ReadsFor u w rows (λ R. PrintsRows report pages R now middle rows)
         → Prints report t w before after result
-    joined Printed (used, reads) f = (
+    joined rows result same f (used, reads) = (
       used,
       moves-then t u w [] used (λ marks R S. (S ≡ R) × IsLawfulContent R
           × ((o : ℕ) → number_of numbers o ≡ vec R o))
-          (λ marks R S. (S ≡ R) × ((faults_of used ≡ report_faults result) × Printed R))
+          (λ marks R S. (S ≡ R) × ((faults_of used ≡ report_faults rows)
+          × PrintsRows report pages R now middle rows))
           (λ marks R S. (S ≡ R) × ((faults_of used ≡ report_faults result)
           × PrintsReport report R before after result))
-          (λ ms ns R S T p q. (q.0 ∙ p.0, (q.1.0, f R p.1 p.2 (subst Printed p.0 q.1.1)))) shown
-          reads,
+          (λ ms ns R S T p q. (
+            q.0 ∙ p.0,
+            (
+              q.1.0 ∙ same,
+              inl (
+                header,
+                is_header,
+                f R p.1 p.2 (subst (λ C. PrintsRows report pages C now middle rows) p.0 q.1.1),
+              ),
+            ),
+          )) shown reads,
     )
 
-    pub values-reported : (pages : Pages) → pages.within ≡ numbers
-        → IsSpanOf report pages.span.from pages.span.to → report.changes ≡ false
-        → ReadsFor u w result (λ R. PrintsLines (IsValueLine report) (λ h. IsTextless h.value.value)
-        [] (values_left report.node pages R) now after result)
-        → Prints report t w before after result
-    values-reported pages within span values reads =
-        joined (λ R. PrintsLines (IsValueLine report) (λ h. IsTextless h.value.value)
-        [] (values_left report.node pages R) now after result) reads (λ R lawful is printed.
-        subst (λ (b : Bool). PrintsBy b report R before after result) (sym values)
-        (behind-header (IsValueLine report) (λ h. IsTextless h.value.value) (header_of report)
-        (values_asked R report) before now after result head
-        (subst (λ (l : List Held). PrintsLines (IsValueLine report)
-        (λ h. IsTextless h.value.value) [] l now after result)
-        (values-all R report pages lawful (λ o. ap (λ (v : List ℕ). number_of v o) within ∙ is o)
-        span) printed)))
+    -- what is left is what is asked for
+    module _ (R : Content) (lawful : IsLawfulContent R)
+        (is : (o : ℕ) → number_of numbers o ≡ vec R o) where
+      shows : (o : ℕ) → number_of pages.within o ≡ vec R o
+      shows o = ap (λ (v : List ℕ). number_of v o) within ∙ is o
 
-    pub changes-reported : (pages : Pages) → pages.within ≡ numbers → pages.after ≡ None
-        → IsSpanOf report pages.span.from pages.span.to → report.changes ≡ true
-        → ReadsFor u w result (λ R. PrintsLines (IsChangeLine report) (λ e. ShowsTextless e.value)
-        [] (changes_left report.node pages R) now after result)
+      all_values : (rows : Result (Unit {0}) ReportFault)
+          → RowsBy false report pages R now middle rows
+          → PrintsLines (IsValueLine report) (λ h. IsTextless h.value.value) []
+          (values_asked R report) now middle rows
+      all_values rows = subst (λ (l : List Held). PrintsLines (IsValueLine report)
+          (λ h. IsTextless h.value.value) [] l now middle rows)
+          (values-all R report pages lawful shows span)
+
+      all_changes : (rows : Result (Unit {0}) ReportFault)
+          → RowsBy true report pages R now middle rows
+          → PrintsLines (IsChangeLine report) (λ e. ShowsTextless e.value) []
+          (changes_asked R report) now middle rows
+      all_changes rows = subst (λ (l : List Entry). PrintsLines (IsChangeLine report)
+          (λ e. ShowsTextless e.value) [] l now middle rows)
+          (changes-all R report pages lawful shows span first)
+
+      break-by : (changes : Bool) (why : ReportFault)
+          → RowsBy changes report pages R now middle (Err why)
+          → BehindBy changes report header R before middle (Err why)
+      break-by true why printed = unfooted (IsChangeLine report) (λ e. ShowsTextless e.value)
+          header (footer_of report) (changes_asked R report) before now middle why head
+          (all_changes (Err why) printed)
+      break-by false why printed = unfooted (IsValueLine report) (λ h. IsTextless h.value.value)
+          header (footer_of report) (values_asked R report) before now middle why head
+          (all_values (Err why) printed)
+
+      end-by : (changes : Bool) (result : Result (Unit {0}) ReportFault)
+          → SendsFooter (footer_of report) middle after result
+          → RowsBy changes report pages R now middle (Ok tt)
+          → BehindBy changes report header R before after result
+      end-by true result sent printed = footed (IsChangeLine report) (λ e. ShowsTextless e.value)
+          header (footer_of report) (changes_asked R report) before now middle after result head
+          (all_changes (Ok tt) printed) sent
+      end-by false result sent printed = footed (IsValueLine report) (λ h. IsTextless h.value.value)
+          header (footer_of report) (values_asked R report) before now middle after result head
+          (all_values (Ok tt) printed) sent
+
+    quiet : (result : Result (Unit {0}) ReportFault)
+        → SendsFooter (footer_of report) middle after result → [] ≡ report_faults result
+    quiet (Ok done) sent = refl
+    quiet (Err why) (is, part) = ap (λ w. report_faults (Err w)) (sym is)
+
+    -- all was printed, or the footer broke off
+    pub rows-end : (result : Result (Unit {0}) ReportFault)
+        → SendsFooter (footer_of report) middle after result
+        → ReadsFor u w (Ok tt) (λ R. PrintsRows report pages R now middle (Ok tt))
         → Prints report t w before after result
-    changes-reported pages within first span changes reads =
-        joined (λ R. PrintsLines (IsChangeLine report) (λ e. ShowsTextless e.value)
-        [] (changes_left report.node pages R) now after result) reads (λ R lawful is printed.
-        subst (λ (b : Bool). PrintsBy b report R before after result) (sym changes)
-        (behind-header (IsChangeLine report) (λ e. ShowsTextless e.value) (header_of report)
-        (changes_asked R report) before now after result head
-        (subst (λ (l : List Entry). PrintsLines (IsChangeLine report)
-        (λ e. ShowsTextless e.value) [] l now after result)
-        (changes-all R report pages lawful (λ o. ap (λ (v : List ℕ). number_of v o) within ∙ is o)
-        span first) printed)))
+    rows-end result sent = joined (Ok tt) result (quiet result sent)
+        (λ R lawful is. end-by R lawful is report.changes result sent)
+
+  -- the rows broke off
+  pub rows-break : (pages : Pages) → pages.within ≡ numbers → pages.after ≡ None
+      → IsSpanOf report pages.span.from pages.span.to → (header : List ℕ)
+      → IsHeader report header → Appends before now header → (after : Option (List ℕ))
+      → (why : ReportFault)
+      → ReadsFor u w (Err why) (λ R. PrintsRows report pages R now after (Err why))
+      → Prints report t w before after (Err why)
+  rows-break pages within first span header is_header head after why =
+      joined pages within first span header is_header head after after (Err why) (Err why) refl
+      (λ R lawful is.
+      break-by pages within first span header is_header head after after R lawful is report.changes why)

@@ -1,3 +1,4 @@
 pub mod Tables
+pub mod Html
 pub mod Reports
 pub mod Paging

@@ -1,5 +1,5 @@
 -- A list in pages, and what was printed of it so far.
-use Rattle.std.specs.Prelude.{◌≡◌, ◌⊎◌, ℕ, ℤ, pos, ◌≤ℤ◌, ◌-◌, ◌^◌, List, [], ◌∷◌, ◌++◌, take, int_lt, ◌&&◌, Option, Some, None, Result, Err, MatchResult}
+use Rattle.std.specs.Prelude.{◌≡◌, ◌⊎◌, ℕ, ℤ, pos, ◌≤ℤ◌, ◌-◌, ◌^◌, List, [], ◌∷◌, ◌++◌, take, int_lt, true, false, ◌&&◌, Option, Some, None, Result, Err, MatchResult}
 use Rattle.std.specs.Io.KnownBytes.{Appends}
 use Rattle.counted_io.specs.Bytes.{AppendsPart}
 use Rattle.stamp.specs.Numbers.{number_of}
@@ -17,10 +17,12 @@ use Rattle.archive.specs.Steps.{Transitions}
 use Rattle.archive.specs.declared.fault.StoreFault.{StoreFault}
 use Rattle.history_text.specs.declared.fault.TextFault.{TextFault}
 use Rattle.history_text.specs.declared.fault.TextFault.TheVariants as Why
+use Rattle.history_csv.specs.Rows.{IsTextless, ShowsTextless}
 use Rattle.history_report.specs.declared.fault.ReportFault.{ReportFault}
 use Rattle.history_report.specs.declared.fault.ReportFault.TheVariants as fault
 use Rattle.history_report.specs.declared.pages.Pages.{Pages}
-use Rattle.history_report.specs.Reports.{AreLines, IsAt, report_faults}
+use Rattle.history_report.specs.declared.report.Report.{Report}
+use Rattle.history_report.specs.Reports.{AreLines, IsAt, report_faults, IsHeader, StopsShort, IsValueLine, IsChangeLine}
 
 -- ---- the times of records
 
@@ -119,3 +121,41 @@ abbrev pub Printing : {X : Type 0} → (X → List ℕ → Type 0) → Store →
     → (all rest : Content → List X) → (before now : Option (List ℕ)) → Type 0
 Printing IsLine old new all rest before now =
     Transitions old new [] (λ marks R S. (S ≡ R) × IsSoFar IsLine (all R) (rest R) before now)
+
+-- ---- the parts of a report
+
+-- behind a header the lines of all of these were printed, or a first part of them
+abbrev pub PrintsLines : {X : Type 0} → (X → List ℕ → Type 0) → (X → Type 0) → (header : List ℕ)
+    → List X → (before after : Option (List ℕ)) → Result (Unit {0}) ReportFault → Type 0
+PrintsLines IsLine HasNoText header xs before after result =
+    MatchResult result
+    (λ done. (lines : List ℕ) × AreLines IsLine xs lines × Appends before after (header ++ lines))
+    (λ why. StopsShort IsLine HasNoText header xs before after why)
+
+-- the lines of what was still to come were printed, or a first part of them
+abbrev pub PrintsRows : Report → Pages → Content → (before after : Option (List ℕ))
+    → Result (Unit {0}) ReportFault → Type 0
+PrintsRows report pages R before after result =
+    elim report.changes [
+      | true ↦ PrintsLines (IsChangeLine report) (λ e. ShowsTextless e.value) []
+          (changes_left report.node pages R) before after result
+      | false ↦ PrintsLines (IsValueLine report) (λ h. IsTextless h.value.value) []
+          (values_left report.node pages R) before after result
+    ]
+
+-- the header was sent, or a first part of it; nothing where memory for it was wanting
+abbrev pub SendsHeader : Report → (before after : Option (List ℕ))
+    → Result (Unit {0}) ReportFault → Type 0
+SendsHeader report before after result =
+    MatchResult result
+    (λ done. (header : List ℕ) × IsHeader report header × Appends before after header)
+    (λ why. ((why ≡ fault.OutOfMemory) × Appends before after [])
+    ⊎ ((why ≡ fault.Write) × ((header : List ℕ) × IsHeader report header
+    × AppendsPart before after header)))
+
+-- the footer was sent, or a first part of it
+abbrev pub SendsFooter : (footer : List ℕ) → (before after : Option (List ℕ))
+    → Result (Unit {0}) ReportFault → Type 0
+SendsFooter footer before after result =
+    MatchResult result (λ done. Appends before after footer)
+    (λ why. (why ≡ fault.Write) × AppendsPart before after footer)

@@ -1,5 +1,5 @@
 -- What is printed of a node's history.
-use Rattle.std.specs.Prelude.{◌≡◌, ℕ, ℤ, int_lt, int_le, Bool, true, false, ◌&&◌, List, [], ◌∷◌, ◌++◌, filter, take, slice_get, Option, Some, Result, Err, MatchResult, if◌then◌else◌}
+use Rattle.std.specs.Prelude.{◌≡◌, ◌⊎◌, ℕ, ℤ, int_lt, int_le, Bool, true, false, ◌&&◌, List, [], ◌∷◌, ◌++◌, filter, take, slice_get, Option, Some, Result, Err, MatchResult, if◌then◌else◌}
 use Rattle.std.specs.Option.{option_map_or}
 use Rattle.std.specs.Io.KnownBytes.{Appends}
 use Rattle.csv.specs.Writing.{default_writer, row_text}
@@ -12,10 +12,13 @@ use Rattle.archive.specs.Store.{Store, StepResult, faults_of}
 use Rattle.archive.specs.Steps.{Transitions}
 use Rattle.archive.specs.declared.fault.StoreFault.{StoreFault}
 use Rattle.history_csv.specs.Rows.{value_names, change_names, AreReadFields, AreChangeFields, IsTextless, ShowsTextless}
+use Rattle.history_report.specs.declared.report.Form.{Form}
+use Rattle.history_report.specs.declared.report.Form.TheVariants.{Table, Csv, Page}
 use Rattle.history_report.specs.declared.report.Report.{Report}
 use Rattle.history_report.specs.declared.fault.ReportFault.{ReportFault}
 use Rattle.history_report.specs.declared.fault.ReportFault.TheVariants as fault
 use Rattle.history_report.specs.Tables.{table_line}
+use Rattle.history_report.specs.Html.{page_row, IsPageHeader, page_footer}
 
 -- ---- what is asked for
 
@@ -35,24 +38,42 @@ changes_asked R report = filter (λ e. is_in_stretch report e.time) (log R repor
 
 -- ---- lines
 
--- fields as a line: as a row of CSV, or as a line of the table, which leaves out the node
-abbrev pub fields_line : (csv : Bool) → List (List ℕ) → List ℕ
-fields_line csv fields = if csv then row_text default_writer fields else table_line fields
+-- fields as a line: of the table, which leaves out the node, as a row of CSV, or of the page
+abbrev pub fields_line : Form → List (List ℕ) → List ℕ
+fields_line form fields =
+    elim form [
+      | Table ↦ table_line fields
+      | Csv ↦ row_text default_writer fields
+      | Page ↦ page_row fields
+    ]
 
--- the line above all others, of the names of the fields
-abbrev pub header_of : Report → List ℕ
-header_of report = fields_line report.csv (if report.changes then change_names else value_names)
+-- the names of the fields
+abbrev pub names_of : Report → List (List ℕ)
+names_of report = if report.changes then change_names else value_names
+
+-- what stands above all lines: the names of the fields as a line, or the upper part of a page
+abbrev pub IsHeader : Report → List ℕ → Type 0
+IsHeader report header =
+    elim report.form [
+      | Table ↦ header ≡ table_line (names_of report)
+      | Csv ↦ header ≡ row_text default_writer (names_of report)
+      | Page ↦ IsPageHeader report header
+    ]
+
+-- what stands below all lines: nothing, or the lower part of a page
+abbrev pub footer_of : Report → List ℕ
+footer_of report = elim report.form [ Table ↦ [] | Csv ↦ [] | Page ↦ page_footer ]
 
 -- a line of a live value, whose fields are read again as that value
 abbrev pub IsValueLine : Report → Held → List ℕ → Type 0
 IsValueLine report held line =
-    (fields : List (List ℕ)) × (line ≡ fields_line report.csv fields)
+    (fields : List (List ℕ)) × (line ≡ fields_line report.form fields)
     × AreReadFields report.node held fields
 
 -- a line of a modification
 abbrev pub IsChangeLine : Report → Entry → List ℕ → Type 0
 IsChangeLine report entry line =
-    (fields : List (List ℕ)) × (line ≡ fields_line report.csv fields)
+    (fields : List (List ℕ)) × (line ≡ fields_line report.form fields)
     × AreChangeFields report.node entry fields
 
 -- the text is a line of each of these, one after the other
@@ -77,24 +98,43 @@ StopsShort IsLine HasNoText header xs before after why =
     × AppendsPart before after (header ++ lines)
     × (why ≡ fault.NoText → Appends before after (header ++ lines) × IsAt HasNoText xs n)
 
--- behind a header the lines of all of these were printed, or a first part of them
-abbrev pub PrintsLines : {X : Type 0} → (X → List ℕ → Type 0) → (X → Type 0) → (header : List ℕ)
-    → List X → (before after : Option (List ℕ)) → Result (Unit {0}) ReportFault → Type 0
-PrintsLines IsLine HasNoText header xs before after result =
-    MatchResult result
-    (λ done. (lines : List ℕ) × AreLines IsLine xs lines × Appends before after (header ++ lines))
-    (λ why. StopsShort IsLine HasNoText header xs before after why)
+-- this holds of the whole: a header, a line of each of these, and a footer
+abbrev pub OfWhole : {X : Type 0} → (X → List ℕ → Type 0) → (header footer : List ℕ) → List X
+    → (List ℕ → Type 0) → Type 0
+OfWhole IsLine header footer xs Holds =
+    (lines : List ℕ) × AreLines IsLine xs lines × Holds (header ++ lines ++ footer)
+
+-- the whole was printed, or a first part of it
+abbrev pub PrintsWhole : {X : Type 0} → (X → List ℕ → Type 0) → (X → Type 0)
+    → (header footer : List ℕ) → List X → (before after : Option (List ℕ))
+    → Result (Unit {0}) ReportFault → Type 0
+PrintsWhole IsLine HasNoText header footer xs before after result =
+    MatchResult result (λ done. OfWhole IsLine header footer xs (Appends before after))
+    (λ why. StopsShort IsLine HasNoText header xs before after why
+    ⊎ ((why ≡ fault.Write) × OfWhole IsLine header footer xs (AppendsPart before after)))
+
+-- behind this header a report of what a content shows was printed, or a first part of it
+abbrev pub PrintsBehind : Report → (header : List ℕ) → Content → (before after : Option (List ℕ))
+    → Result (Unit {0}) ReportFault → Type 0
+PrintsBehind report header R before after result =
+    elim report.changes [
+      | true ↦ PrintsWhole (IsChangeLine report) (λ e. ShowsTextless e.value) header
+          (footer_of report) (changes_asked R report) before after result
+      | false ↦ PrintsWhole (IsValueLine report) (λ h. IsTextless h.value.value) header
+          (footer_of report) (values_asked R report) before after result
+    ]
+
+-- it ended before anything was printed, and not for a value without a text
+abbrev pub EndsAtOnce : (before after : Option (List ℕ)) → Result (Unit {0}) ReportFault → Type 0
+EndsAtOnce before after result = (why : ReportFault) × (result ≡ Err why)
+    × (why ≡ fault.NoText → ⊥) × Appends before after []
 
 -- a report of what a content shows was printed, or a first part of it
 abbrev pub PrintsReport : Report → Content → (before after : Option (List ℕ))
     → Result (Unit {0}) ReportFault → Type 0
 PrintsReport report R before after result =
-    elim report.changes [
-      | true ↦ PrintsLines (IsChangeLine report) (λ e. ShowsTextless e.value) (header_of report)
-          (changes_asked R report) before after result
-      | false ↦ PrintsLines (IsValueLine report) (λ h. IsTextless h.value.value) (header_of report)
-          (values_asked R report) before after result
-    ]
+    ((header : List ℕ) × IsHeader report header × PrintsBehind report header R before after result)
+    ⊎ EndsAtOnce before after result
 
 -- the fault of the store that a report ended by, if it is one of the store's
 abbrev pub report_faults : Result (Unit {0}) ReportFault → List StoreFault

@@ -2,6 +2,8 @@
 #![tactic(auto)]
 
 mod fault;
+mod html;
+mod laws;
 mod lines;
 mod pages;
 mod printing;
@@ -11,5 +13,9 @@ mod span;
 mod table;
 
 pub use fault::ReportFault;
+pub use laws::{
+    a_pages_text_holds_no_markup, a_pages_text_is_read_again, a_rows_texts_are_its_fields,
+};
 pub use printing::print_report;
-pub use report::Report;
+pub use report::{Form, Report};
+pub use table::put_legible;

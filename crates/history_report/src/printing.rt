@@ -1,15 +1,14 @@
 //! A node's history is printed.
 
-ghost use Rattle.std.specs.Prelude.{◌≡◌, ◌⊎◌, [], IsErrOf, MatchResult};
-ghost use Rattle.std.specs.Io.KnownBytes.{Appends};
+ghost use Rattle.std.specs.Prelude.{◌≡◌, [], IsErrOf};
 ghost use Rattle.archive.specs.Store.{IsAskedWithin};
-ghost use Rattle.counted_io.specs.Bytes.{AppendsPart, counted};
+ghost use Rattle.counted_io.specs.Bytes.{counted};
 ghost use Rattle.history_csv.specs.Rows.{IsTextless, ShowsTextless};
-ghost use Rattle.history_report.specs.Reports.{Prints, PrintsLines, ReadsFor, IsValueLine, IsChangeLine, header_of};
-ghost use Rattle.history_report.specs.Paging.{Printing, values_left, changes_left};
+ghost use Rattle.history_report.specs.Reports.{Prints, ReadsFor, IsValueLine, IsChangeLine, footer_of};
+ghost use Rattle.history_report.specs.Paging.{Printing, PrintsLines, PrintsRows, SendsHeader, SendsFooter, values_left, changes_left};
 
 use crate::fault::ReportFault;
-use crate::lines::put_header;
+use crate::lines::{footer, put_header};
 use crate::pages::{Pages, next_changes, next_values};
 use crate::report::Report;
 use crate::rows::send_rows;
@@ -25,12 +24,8 @@ fn send_header<W: Write>(
     report: &Report,
     output: &mut Counted<W>,
 ) -> Result<(), ReportFault>
-    ensures sends { MatchResult result
-        (λ done. Appends (W.contents output.old.inner) (W.contents output.new.inner)
-        (header_of report.now))
-        (λ why. ((why ≡ ReportFault.Write) ⊎ (why ≡ ReportFault.OutOfMemory))
-        × AppendsPart (W.contents output.old.inner) (W.contents output.new.inner)
-        (header_of report.now)) }
+    ensures sends { SendsHeader report.now (W.contents output.old.inner)
+        (W.contents output.new.inner) result }
     ensures write { IsErrOf result ReportFault.Write
         → output.new.faults ≡ counted output.old.faults }
     ensures kept { (IsErrOf result ReportFault.Write → ⊥) → output.new.faults ≡ output.old.faults }
@@ -116,16 +111,52 @@ fn print_changes<A: Archive, W: Write>(
     Err(ReportFault::OutOfMemory)
 }
 
-/// Prints a node's history: a header, and a line for each live value, or for each modification,
-/// whose source time is at `from` or later and before `to`, in the order of time, of one time the
-/// newest modification first. With `csv` a line is a row of CSV, as `history_csv` writes it. Else
-/// it is a line of a table without the node: each field but the last is padded with blanks to its
-/// column's width, and two more, and a byte that controls a terminal is a question mark. The
-/// archive stays as it is. At most a hundred values are in memory at a time.
+/// Prints the live values or the modifications of these pages.
+fn print_rows<A: Archive, W: Write>(
+    alloc: Global,
+    archive: &mut A,
+    report: &Report,
+    pages: Pages,
+    output: &mut Counted<W>,
+) -> Result<(), ReportFault>
+    ensures prints { ReadsFor (A.state archive.old) (A.state archive.new) result
+        (λ R. PrintsRows report.now pages R (W.contents output.old.inner)
+        (W.contents output.new.inner) result) }
+    ensures asked { IsAskedWithin 100 (A.asked archive.old) (A.asked archive.new) }
+    ensures write { IsErrOf result ReportFault.Write
+        → output.new.faults ≡ counted output.old.faults }
+    ensures kept { (IsErrOf result ReportFault.Write → ⊥) → output.new.faults ≡ output.old.faults }
+{
+    if report.changes {
+        print_changes(alloc, archive, report, pages, output)
+    } else {
+        print_values(alloc, archive, report, pages, output)
+    }
+}
+
+/// Prints the footer.
+fn send_footer<W: Write>(report: &Report, output: &mut Counted<W>) -> Result<(), ReportFault>
+    ensures sends { SendsFooter (footer_of report.now) (W.contents output.old.inner)
+        (W.contents output.new.inner) result }
+    ensures write { IsErrOf result ReportFault.Write
+        → output.new.faults ≡ counted output.old.faults }
+    ensures kept { (IsErrOf result ReportFault.Write → ⊥) → output.new.faults ≡ output.old.faults }
+{
+    match output.send(footer(report)) {
+        Ok(()) => Ok(()),
+        Err(_) => Err(ReportFault::Write),
+    }
+}
+
+/// Prints a node's history: a header, a line for each live value, or for each modification, whose
+/// source time is at `from` or later and before `to`, in the order of time, of one time the newest
+/// modification first, and a footer. `form` says what these are: `Form` has them. The archive stays
+/// as it is. At most a hundred values are in memory at a time.
 ///
 /// Errors: `Store` where the archive met a fault of its store, `NoText` where the next value has no
 /// text (all lines before it stand), `Write` where a write failed (the writer's `faults` rose),
-/// `OutOfMemory` where memory was wanting. What was printed stands, a first part of the whole.
+/// `OutOfMemory` where memory was wanting. What was printed stands, a first part of the whole;
+/// after any of them a page has no end, and a browser shows what there is of it.
 pub fn print_report<A: Archive, W: Write>(
     alloc: Global,
     archive: &mut A,
@@ -152,9 +183,8 @@ pub fn print_report<A: Archive, W: Write>(
         span: span_of(report),
         after: None,
     };
-    if report.changes {
-        print_changes(alloc, archive, report, pages, output)
-    } else {
-        print_values(alloc, archive, report, pages, output)
+    match print_rows(alloc, archive, report, pages, output) {
+        Ok(()) => send_footer(report, output),
+        Err(fault) => Err(fault),
     }
 }

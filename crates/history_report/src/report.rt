@@ -3,6 +3,20 @@
 use records::Moment;
 use ua_binary::NodeId;
 
+/// In which form a history is printed.
+#[derive(Clone, Copy, Debug, PartialEq, Eq)]
+pub enum Form {
+    /// A table for people at a terminal: each field but the last is padded with blanks to its
+    /// column's width, and two more. It has no node, and no byte that controls a terminal.
+    Table,
+    /// Rows of CSV for programs, as `history_csv` writes them.
+    Csv,
+    /// A page of HTML for people at a browser, which needs nothing beside it: its title is the
+    /// node, and it has a table with a row for each value or modification. It has no script, and
+    /// no text in it is read as markup.
+    Page,
+}
+
 /// What is to be printed of a node's history.
 #[derive(Debug, Drop)]
 pub struct Report {
@@ -14,6 +28,6 @@ pub struct Report {
     pub to: Option<Moment>,
     /// Modifications are printed, in place of live values.
     pub changes: bool,
-    /// Rows of CSV are printed, in place of a table.
-    pub csv: bool,
+    /// In which form.
+    pub form: Form,
 }

@@ -45,16 +45,25 @@ fn legible_byte(before: u8, byte: u8) -> u8
     }
 }
 
+/// Appends a text as it is shown, without what controls a terminal: a byte below 32 and 127 as `?`,
+/// and U+0080 to U+009F as `¿`. The one error is want of memory; then a first part is appended.
+pub fn put_legible(out: &mut Vec<u8>, text: &[u8]) -> Result<(), AllocError>
+    ensures { OnOk result (out.new.items ≡ out.old.items ++ legible text.now) }
+{
+    let mut before = 0;
+    for byte in text {
+        out.push(legible_byte(before, *byte))?;
+        before = *byte;
+    }
+    Ok(())
+}
+
 /// A text as it is shown, without what controls a terminal.
 fn shown_text(alloc: Global, text: &[u8]) -> Result<Vec<u8>, AllocError>
     ensures { IfOk result (λ put. put.items ≡ legible text.now) }
 {
     let mut put = Vec::new(alloc);
-    let mut before = 0;
-    for byte in text {
-        put.push(legible_byte(before, *byte))?;
-        before = *byte;
-    }
+    put_legible(&mut put, text)?;
     Ok(put)
 }
 

@@ -6,7 +6,7 @@ use counted_io::Counted;
 use historian::Server;
 use history_csv::read_node;
 use history_import::{Counts, ImportFault, Perform, import_rows};
-use history_report::{Report, print_report};
+use history_report::{Form, Report, print_report};
 use std::alloc::Global;
 use ua_settings::SettingsFault;
 
@@ -28,7 +28,7 @@ fn printed<A: Archive>(server: &mut Server<A>, node: &str) -> Option<Vec<u8>> {
         from: None,
         to: None,
         changes: false,
-        csv: true,
+        form: Form::Csv,
     };
     let mut output = Counted::new(Vec::new(server.alloc));
     let archive = &mut server.replica.archive;

@@ -1,13 +1,14 @@
 //! A node's history, printed.
 
+use Form::{Csv, Page, Table};
 use HistoryUpdateType::{Delete, Insert, Replace};
 use archive::{Archive, LearnFault, ListArchive, StoreFault};
 use counted_io::Counted;
 use history_csv::read_node;
-use history_report::{Report, ReportFault, print_report};
+use history_report::{Form, Report, ReportFault, print_report};
 use records::{Moment, Record};
 use stamp::ReplicaNo;
-use std::alloc::Global;
+use std::alloc::{AllocError, Global};
 use ua_binary::{NodeId, Text};
 use ua_variant::{DataValue, HistoryUpdateType, Scalar, Variant};
 use uuid::Uuid;
@@ -29,8 +30,11 @@ enum Written {
 /// An update: its node, seconds behind noon, what was asked, and what is written.
 type Row = (&'static str, i64, HistoryUpdateType, Written);
 
+/// A node whose name would be markup.
+const MARKED: &str = "ns=1;s=<a href=\"x\">&";
+
 /// Updates, one after the other.
-static ROWS: [Row; 7] = [
+static ROWS: [Row; 9] = [
     ("ns=1;s=T", 1, Insert, Written::Text("one")),
     ("ns=1;s=T", 3, Insert, Written::Text("a,b\x1b[31m\u{9b}m")),
     ("ns=1;s=T", 2, Insert, Written::Text("\u{fc}ber")),
@@ -38,6 +42,18 @@ static ROWS: [Row; 7] = [
     ("ns=1;s=T", 3, Delete, Written::Nothing),
     ("i=5", 1, Insert, Written::Text("one")),
     ("i=5", 2, Insert, Written::Objects),
+    (
+        MARKED,
+        1,
+        Insert,
+        Written::Text("<script>alert('1')</script>"),
+    ),
+    (
+        MARKED,
+        2,
+        Insert,
+        Written::Text("a\tb\r\nc\x07\x0c\x7f\u{85}\u{e9}&amp;"),
+    ),
 ];
 
 /// A node by its text.
@@ -121,26 +137,26 @@ fn learn_all<A: Archive>(alloc: Global, archive: &mut A) -> Result<(), LearnFaul
     Ok(())
 }
 
-/// A report: its node, its first second and its last, whether of modifications, whether as CSV; how
+/// A report: its node, its first second and its last, whether of modifications, in which form; how
 /// it ends, and what is printed.
-type Case = (
+type Case<'a> = (
     &'static str,
     Option<i64>,
     Option<i64>,
     bool,
-    bool,
+    Form,
     Result<(), ReportFault>,
-    &'static [u8],
+    &'a [u8],
 );
 
 /// Reports.
-static CASES: [Case; 9] = [
+static CASES: [Case<'static>; 9] = [
     (
         "ns=1;s=T",
         None,
         None,
         false,
-        true,
+        Csv,
         Ok(()),
         b"node,time,value,status\n\
           ns=1;s=T,2026-03-01T12:00:01.0000000Z,uno,Good\n\
@@ -151,7 +167,7 @@ static CASES: [Case; 9] = [
         Some(1),
         Some(2),
         false,
-        true,
+        Csv,
         Ok(()),
         b"node,time,value,status\n\
           ns=1;s=T,2026-03-01T12:00:01.0000000Z,uno,Good\n",
@@ -161,7 +177,7 @@ static CASES: [Case; 9] = [
         Some(2),
         Some(2),
         false,
-        true,
+        Csv,
         Ok(()),
         b"node,time,value,status\n",
     ),
@@ -170,7 +186,7 @@ static CASES: [Case; 9] = [
         None,
         None,
         false,
-        false,
+        Table,
         Ok(()),
         b"time                          value                     status\n\
           2026-03-01T12:00:01.0000000Z  uno                       Good\n\
@@ -181,7 +197,7 @@ static CASES: [Case; 9] = [
         None,
         Some(3),
         true,
-        true,
+        Csv,
         Ok(()),
         b"node,time,value,status,change,changed,user\n\
           ns=1;s=T,2026-03-01T12:00:01.0000000Z,one,Good,replace,2026-03-01T12:01:04.0000000Z,ann\n\
@@ -193,7 +209,7 @@ static CASES: [Case; 9] = [
         Some(3),
         None,
         true,
-        false,
+        Table,
         Ok(()),
         b"time                          value                     status    \
           change    changed                       user\n\
@@ -207,7 +223,7 @@ static CASES: [Case; 9] = [
         None,
         None,
         false,
-        true,
+        Csv,
         Err(ReportFault::NoText),
         b"node,time,value,status\n\
           i=5,2026-03-01T12:00:01.0000000Z,one,Good\n",
@@ -217,7 +233,7 @@ static CASES: [Case; 9] = [
         Some(2),
         None,
         true,
-        false,
+        Table,
         Err(ReportFault::NoText),
         b"time                          value                     status    \
           change    changed                       user\n",
@@ -227,9 +243,121 @@ static CASES: [Case; 9] = [
         None,
         None,
         false,
-        false,
+        Table,
         Ok(()),
         b"time                          value                     status\n",
+    ),
+];
+
+/// What a page begins by, up to its title.
+static BEGIN: &[u8] = b"<!DOCTYPE html>\n\
+    <html lang=\"en\">\n\
+    <head>\n\
+    <meta charset=\"utf-8\">\n\
+    <meta http-equiv=\"Content-Security-Policy\" \
+    content=\"default-src 'none'; style-src 'unsafe-inline'\">\n\
+    <meta name=\"viewport\" content=\"width=device-width, initial-scale=1\">\n\
+    <title>";
+
+/// What stands between its title and its heading.
+static MIDDLE: &[u8] = b"</title>\n\
+    <style>\n\
+    :root{color-scheme:light dark}\n\
+    body{margin:2rem;font-family:system-ui,sans-serif}\n\
+    table{border-collapse:collapse;font-variant-numeric:tabular-nums}\n\
+    th,td{padding:.25rem .75rem;text-align:left;vertical-align:top}\n\
+    th{position:sticky;top:0;background:Canvas;box-shadow:0 1px}\n\
+    h1,td{white-space:pre-wrap;overflow-wrap:anywhere}\n\
+    tr{break-inside:avoid}\n\
+    tr:nth-child(even) td{background:#8882}\n\
+    @media print{th{position:static}}\n\
+    td:first-child,td:nth-child(5){white-space:nowrap}\n\
+    .insert td:first-child{box-shadow:inset .25rem 0 #2a7}\n\
+    .replace td:first-child,.update td:first-child{box-shadow:inset .25rem 0 #d90}\n\
+    .delete td:first-child{box-shadow:inset .25rem 0 #c33}\n\
+    .delete td:nth-child(2){text-decoration:line-through}\n\
+    </style>\n\
+    </head>\n\
+    <body>\n\
+    <h1>";
+
+/// A page: its node, its first second and its last, whether of modifications; how it ends, its title,
+/// and what stands behind its heading.
+type PageCase = (
+    &'static str,
+    Option<i64>,
+    Option<i64>,
+    bool,
+    Result<(), ReportFault>,
+    &'static [u8],
+    &'static [u8],
+);
+
+/// Pages.
+static PAGES: [PageCase; 4] = [
+    (
+        MARKED,
+        None,
+        None,
+        false,
+        Ok(()),
+        b"ns=1;s=&lt;a href=&quot;x&quot;&gt;&amp;",
+        b"</h1>\n<p>Values</p>\n<table>\n<thead>\n\
+          <tr><th scope=\"col\">time</th><th scope=\"col\">value</th>\
+          <th scope=\"col\">status</th></tr>\n</thead>\n<tbody>\n\
+          <tr><td>2026-03-01T12:00:01.0000000Z</td>\
+          <td>&lt;script&gt;alert(&#39;1&#39;)&lt;/script&gt;</td><td>Good</td></tr>\n\
+          <tr><td>2026-03-01T12:00:02.0000000Z</td>\
+          <td>a\tb?\nc???\xc2\xbf\xc3\xa9&amp;amp;</td><td>Good</td></tr>\n\
+          </tbody>\n</table>\n\
+          <p>Here the page ends. Without this line it isn't whole.</p>\n\
+          </body>\n</html>\n",
+    ),
+    (
+        "ns=1;s=T",
+        Some(1),
+        Some(2),
+        true,
+        Ok(()),
+        b"ns=1;s=T",
+        b"</h1>\n<p>Modifications from 2026-03-01T12:00:01.0000000Z \
+          before 2026-03-01T12:00:02.0000000Z</p>\n<table>\n<thead>\n\
+          <tr><th scope=\"col\">time</th><th scope=\"col\">value</th>\
+          <th scope=\"col\">status</th><th scope=\"col\">change</th>\
+          <th scope=\"col\">changed</th><th scope=\"col\">user</th></tr>\n</thead>\n<tbody>\n\
+          <tr class=\"replace\"><td>2026-03-01T12:00:01.0000000Z</td><td>one</td><td>Good</td>\
+          <td>replace</td><td>2026-03-01T12:01:04.0000000Z</td><td>ann</td></tr>\n\
+          <tr class=\"insert\"><td>2026-03-01T12:00:01.0000000Z</td><td>one</td><td>Good</td>\
+          <td>insert</td><td>2026-03-01T12:01:01.0000000Z</td><td>ann</td></tr>\n\
+          </tbody>\n</table>\n\
+          <p>Here the page ends. Without this line it isn't whole.</p>\n\
+          </body>\n</html>\n",
+    ),
+    (
+        "i=5",
+        Some(1),
+        None,
+        false,
+        Err(ReportFault::NoText),
+        b"i=5",
+        b"</h1>\n<p>Values from 2026-03-01T12:00:01.0000000Z</p>\n<table>\n<thead>\n\
+          <tr><th scope=\"col\">time</th><th scope=\"col\">value</th>\
+          <th scope=\"col\">status</th></tr>\n</thead>\n<tbody>\n\
+          <tr><td>2026-03-01T12:00:01.0000000Z</td><td>one</td><td>Good</td></tr>\n",
+    ),
+    (
+        "i=6",
+        None,
+        Some(1),
+        false,
+        Ok(()),
+        b"i=6",
+        b"</h1>\n<p>Values before 2026-03-01T12:00:01.0000000Z</p>\n<table>\n<thead>\n\
+          <tr><th scope=\"col\">time</th><th scope=\"col\">value</th>\
+          <th scope=\"col\">status</th></tr>\n</thead>\n<tbody>\n\
+          </tbody>\n</table>\n\
+          <p>Here the page ends. Without this line it isn't whole.</p>\n\
+          </body>\n</html>\n",
     ),
 ];
 
@@ -239,8 +367,8 @@ fn moment_of(second: i64) -> Moment {
 }
 
 /// Whether a report of the archive ends so, and prints this.
-fn is_printed<A: Archive>(alloc: Global, archive: &mut A, case: &Case) -> bool {
-    let (node, from, to, changes, csv, end, text) = *case;
+fn is_printed<A: Archive>(alloc: Global, archive: &mut A, case: &Case<'_>) -> bool {
+    let (node, from, to, changes, form, end, text) = *case;
     let Ok(node) = node_of(alloc, node) else {
         return false;
     };
@@ -249,12 +377,33 @@ fn is_printed<A: Archive>(alloc: Global, archive: &mut A, case: &Case) -> bool {
         from: from.map(moment_of),
         to: to.map(moment_of),
         changes,
-        csv,
+        form,
     };
     let mut output = Counted::new(Vec::new(alloc));
     let ended = print_report(alloc, archive, &report, &mut output);
     let printed = output.into_inner();
     ended == end && printed.as_slice() == text
+}
+
+/// A page, whose title stands twice.
+fn page_of(alloc: Global, title: &[u8], rest: &[u8]) -> Result<Vec<u8>, AllocError> {
+    let mut page = Vec::new(alloc);
+    for part in [BEGIN, title, MIDDLE, title, rest] {
+        page.extend_from_slice(part)?;
+    }
+    Ok(page)
+}
+
+/// Whether a page of the archive ends so, and is printed so.
+fn is_page<A: Archive>(alloc: Global, archive: &mut A, case: &PageCase) -> bool {
+    let (node, from, to, changes, end, title, rest) = *case;
+    match page_of(alloc, title, rest) {
+        Ok(page) => {
+            let whole = (node, from, to, changes, Page, end, page.as_slice());
+            is_printed(alloc, archive, &whole)
+        }
+        Err(_) => false,
+    }
 }
 
 /// Whether the archive's reports are as they should be; else the first that isn't.
@@ -269,6 +418,18 @@ fn wrong_case<A: Archive>(alloc: Global, archive: &mut A) -> Option<usize> {
     None
 }
 
+/// Whether the archive's pages are as they should be; else the first that isn't.
+fn wrong_page<A: Archive>(alloc: Global, archive: &mut A) -> Option<usize> {
+    let mut place = 0;
+    for case in &PAGES {
+        if !is_page(alloc, archive, case) {
+            return Some(place);
+        }
+        place = place.saturating_add(1usize);
+    }
+    None
+}
+
 /// Which report of the updates is wrong, if one is.
 fn wrong_report(alloc: Global) -> Result<Option<usize>, LearnFault> {
     let mut archive = empty_archive(alloc)?;
@@ -276,9 +437,22 @@ fn wrong_report(alloc: Global) -> Result<Option<usize>, LearnFault> {
     Ok(wrong_case(alloc, &mut archive))
 }
 
+/// Which page of the updates is wrong, if one is.
+fn wrong_page_of_all(alloc: Global) -> Result<Option<usize>, LearnFault> {
+    let mut archive = empty_archive(alloc)?;
+    learn_all(alloc, &mut archive)?;
+    Ok(wrong_page(alloc, &mut archive))
+}
+
 #[test]
 fn reports_are_printed(rt: HostRuntime) {
     let wrong = wrong_report(rt.alloc());
+    assert!(rt; wrong == Ok(None), "{wrong:?}");
+}
+
+#[test]
+fn pages_are_printed(rt: HostRuntime) {
+    let wrong = wrong_page_of_all(rt.alloc());
     assert!(rt; wrong == Ok(None), "{wrong:?}");
 }
 
@@ -303,7 +477,7 @@ fn line_count<A: Archive>(alloc: Global, archive: &mut A, changes: bool) -> Opti
         from: None,
         to: None,
         changes,
-        csv: false,
+        form: Table,
     };
     let mut output = Counted::new(Vec::new(alloc));
     if print_report(alloc, archive, &report, &mut output).is_err() {

@@ -1,0 +1,185 @@
+-- How a history is written as a page of HTML.
+use Rattle.std.specs.Prelude.{◌≡◌, ℕ, ℤ, ◌==◌, ◌||◌, ◌&&◌, not, nat_lt, Bool, false, List, [], ◌∷◌, ◌++◌, codes, drop, Option, Some, None, if◌then◌else◌}
+use Rattle.std.specs.List.{flat_map}
+use Rattle.std.specs.Str.{bytes_eq}
+use Rattle.history_csv.specs.Nodes.{node_text}
+use Rattle.history_csv.specs.Rows.{value_names, change_names, time_of}
+use Rattle.history_text.specs.Times.{IsTimeText}
+use Rattle.history_report.specs.declared.report.Report.{Report}
+
+-- ---- a text in a page
+
+-- a byte behind this one is of a control that HTML forbids, or reads as another: one below 32 but
+-- for tabs and line feeds, 127, or the second byte of U+0080 to U+009F
+abbrev pub is_forbidden : (before b : ℕ) → Bool
+is_forbidden before b =
+    before == 194 && nat_lt b 160 || b == 127
+    || nat_lt b 32 && not (b == 9 || b == 10)
+
+-- a byte behind this one as a page has it: in place of a forbidden one a question mark, or an
+-- inverted one, whose first byte stands before
+abbrev pub printable_byte : (before b : ℕ) → ℕ
+printable_byte before b =
+    if is_forbidden before b then (if before == 194 then 191 else 63) else b
+
+-- the bytes behind this one as a page has them
+abbrev pub printable_after : (before : ℕ) → List ℕ → List ℕ
+printable_after before [] = []
+printable_after before (b ∷ text) = printable_byte before b ∷ printable_after b text
+
+-- a byte as HTML writes it: as an entity, where it might end a text
+abbrev pub entity : ℕ → List ℕ
+entity b =
+    if b == 38 then codes "&amp;"
+    else if b == 60 then codes "&lt;"
+    else if b == 62 then codes "&gt;"
+    else if b == 34 then codes "&quot;"
+    else if b == 39 then codes "&#39;"
+    else b ∷ []
+
+-- a text in a page
+abbrev pub escaped : List ℕ → List ℕ
+escaped text = flat_map entity (printable_after 0 text)
+
+-- ---- rows
+
+-- a field as a cell
+abbrev pub data_cell : List ℕ → List ℕ
+data_cell text = codes "<td>" ++ escaped text ++ codes "</td>"
+
+-- the fields of a row, but for the node, as a row of the page; a modification's is of the class of
+-- what was done
+abbrev pub page_row : List (List ℕ) → List ℕ
+page_row (node ∷ time ∷ value ∷ status ∷ []) =
+    codes "<tr>" ++ data_cell time ++ data_cell value ++ data_cell status ++ codes "</tr>\n"
+page_row (node ∷ time ∷ value ∷ status ∷ change ∷ changed ∷ user ∷ []) =
+    codes "<tr class=\"" ++ escaped change ++ codes "\">"
+    ++ data_cell time ++ data_cell value ++ data_cell status
+    ++ data_cell change ++ data_cell changed ++ data_cell user ++ codes "</tr>\n"
+page_row _ = []
+
+-- the name of a column
+abbrev pub head_cell : List ℕ → List ℕ
+head_cell name = codes "<th scope=\"col\">" ++ name ++ codes "</th>"
+
+-- the names of the columns, but for the node
+abbrev pub head_row : List (List ℕ) → List ℕ
+head_row names = codes "<tr>" ++ flat_map head_cell (drop 1 names) ++ codes "</tr>\n"
+
+-- ---- above and below the rows
+
+-- up to the title: the page is of UTF-8, runs nothing, and loads nothing
+unfoldable pub page_begin : List ℕ
+page_begin =
+    codes "<!DOCTYPE html>\n<html lang=\"en\">\n<head>\n<meta charset=\"utf-8\">\n"
+    ++ codes "<meta http-equiv=\"Content-Security-Policy\""
+    ++ codes " content=\"default-src 'none'; style-src 'unsafe-inline'\">\n"
+    ++ codes "<meta name=\"viewport\" content=\"width=device-width, initial-scale=1\">\n"
+    ++ codes "<title>"
+
+-- how the page looks: its texts, its table, and on paper
+unfoldable pub page_style : List ℕ
+page_style =
+    codes ":root{color-scheme:light dark}\nbody{margin:2rem;font-family:system-ui,sans-serif}\n"
+    ++ codes "table{border-collapse:collapse;font-variant-numeric:tabular-nums}\n"
+    ++ codes "th,td{padding:.25rem .75rem;text-align:left;vertical-align:top}\n"
+    ++ codes "th{position:sticky;top:0;background:Canvas;box-shadow:0 1px}\n"
+    ++ codes "h1,td{white-space:pre-wrap;overflow-wrap:anywhere}\ntr{break-inside:avoid}\n"
+    ++ codes "tr:nth-child(even) td{background:#8882}\n@media print{th{position:static}}\n"
+
+-- how cells look: times stand on one line, and modifications behind a bar, whose color says what was
+-- done
+unfoldable pub cell_style : List ℕ
+cell_style =
+    codes "td:first-child,td:nth-child(5){white-space:nowrap}\n"
+    ++ codes ".insert td:first-child{box-shadow:inset .25rem 0 #2a7}\n"
+    ++ codes ".replace td:first-child,.update td:first-child{box-shadow:inset .25rem 0 #d90}\n"
+    ++ codes ".delete td:first-child{box-shadow:inset .25rem 0 #c33}\n"
+    ++ codes ".delete td:nth-child(2){text-decoration:line-through}\n"
+
+-- from the title to the heading
+abbrev pub page_middle : List ℕ
+page_middle =
+    codes "</title>\n<style>\n" ++ page_style ++ cell_style
+    ++ codes "</style>\n</head>\n<body>\n<h1>"
+
+-- a moment that is asked for behind a word, nothing where none is
+abbrev pub IsBound : (word : List ℕ) → Option ℤ → List ℕ → Type 0
+IsBound word bound text =
+    elim bound [
+      | None ↦ text ≡ []
+      | Some time ↦
+          (moment : List ℕ) × (text ≡ word ++ escaped moment) × IsTimeText (time_of time) moment
+    ]
+
+-- what is shown, and of which stretch
+abbrev pub IsStretch : Report → List ℕ → Type 0
+IsStretch report text =
+    (from : List ℕ) × (to : List ℕ)
+    × (text ≡ (if report.changes then codes "Modifications" else codes "Values") ++ from ++ to)
+    × IsBound (codes " from ") report.from from × IsBound (codes " before ") report.to to
+
+-- the part of a page above its rows: the node as title and heading, the stretch, the columns' names
+abbrev pub IsPageHeader : Report → List ℕ → Type 0
+IsPageHeader report header =
+    (stretch : List ℕ) × IsStretch report stretch
+    × (header ≡ page_begin ++ escaped (node_text report.node) ++ page_middle
+    ++ escaped (node_text report.node) ++ codes "</h1>\n<p>" ++ stretch
+    ++ codes "</p>\n<table>\n<thead>\n"
+    ++ head_row (if report.changes then change_names else value_names)
+    ++ codes "</thead>\n<tbody>\n")
+
+-- the part of a page below its rows: by it a reader sees that the page is whole
+abbrev pub page_footer : List ℕ
+page_footer =
+    codes "</tbody>\n</table>\n<p>Here the page ends. Without this line it isn't whole.</p>\n"
+    ++ codes "</body>\n</html>\n"
+
+-- ---- what a page's text says
+
+-- the byte might end a text: it begins or ends a tag, or an attribute's value
+abbrev pub is_markup : ℕ → Bool
+is_markup b = b == 60 || b == 62 || b == 34 || b == 39
+
+-- the text behind this byte has a control that HTML forbids
+abbrev pub has_forbidden : (before : ℕ) → List ℕ → Bool
+has_forbidden before [] = false
+has_forbidden before (b ∷ text) = is_forbidden before b || has_forbidden b text
+
+-- the byte that an entity names
+abbrev pub named : List ℕ → List ℕ
+named name =
+    if bytes_eq name (codes "amp") then 38 ∷ []
+    else if bytes_eq name (codes "lt") then 60 ∷ []
+    else if bytes_eq name (codes "gt") then 62 ∷ []
+    else if bytes_eq name (codes "quot") then 34 ∷ []
+    else if bytes_eq name (codes "#39") then 39 ∷ []
+    else []
+
+-- the text that HTML says: an entity, from its ampersand to its semicolon, says the byte that it
+-- names; within one, its name so far is known
+abbrev pub said_within : (name : Option (List ℕ)) → List ℕ → List ℕ
+said_within _ [] = []
+said_within None (b ∷ html) =
+    if b == 38 then said_within (Some []) html else b ∷ said_within None html
+said_within (Some name) (b ∷ html) =
+    if b == 59 then named name ++ said_within None html
+    else said_within (Some (name ++ b ∷ [])) html
+
+-- the text that HTML without tags says
+abbrev pub said : List ℕ → List ℕ
+said html = said_within None html
+
+-- the texts of HTML between its tags, each from a `>` to the next `<`; within one, its bytes so far
+-- are known
+abbrev pub texts_within : (text : Option (List ℕ)) → List ℕ → List (List ℕ)
+texts_within _ [] = []
+texts_within None (b ∷ html) =
+    if b == 62 then texts_within (Some []) html else texts_within None html
+texts_within (Some text) (b ∷ html) =
+    if b == 60 then text ∷ texts_within None html
+    else texts_within (Some (text ++ b ∷ [])) html
+
+-- the texts of HTML between its tags
+abbrev pub texts_in : List ℕ → List (List ℕ)
+texts_in html = texts_within None html
