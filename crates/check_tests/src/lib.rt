@@ -1,0 +1,5 @@
+//! Tests: what settings say, told to people, in rows.
+#![tactic(auto)]
+
+#[cfg(test)]
+mod settings;

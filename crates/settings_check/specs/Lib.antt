@@ -1,0 +1,5 @@
+pub mod Texts
+pub mod Nodes
+pub mod Facts
+pub mod Warnings
+pub mod Checks
