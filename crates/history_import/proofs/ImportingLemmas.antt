@@ -13,7 +13,7 @@ use Rattle.history_import.specs.declared.fault.ImportFault.{ImportFault}
 use Rattle.history_import.specs.declared.fault.ImportFault.TheVariants.{Header, Read, Write, OutOfMemory}
 use Rattle.history_import.specs.declared.row_end.RowEnd.{RowEnd}
 use Rattle.history_import.specs.Telling.{end_line, lines_from, counts_of, summary_of, fate_of, no_rows, with_one}
-use Rattle.history_import.specs.Imports.{DoesRows, HasFirstRecords, Imports, StopsAfter, TellsBefore, TellsPart}
+use Rattle.history_import.specs.Imports.{DoesRows, HasFirstRecords, HasRecords, Imports, StopsAfter, TellsBefore, TellsPart}
 use Rattle.history_import.specs.Reading.{StandsBehind, ReadsHeader, DoesRow, DoesOne, TellsText}
 use Rattle.history_import.proofs.DoingLemmas.{done-none, done-more, done-still}
 use Rattle.history_import.proofs.StandingLemmas.{stands-first}
@@ -30,56 +30,59 @@ take-first [] [] = refl
 take-first [] (y ∷ ys) = refl
 take-first (x ∷ xs) ys = ap (λ l. x ∷ l) (take-first xs ys)
 
--- all lines were told, and nothing of the summary
-lines-told : (before after : Option (List ℕ)) (ends : List RowEnd)
-    → Appends before after (lines_from 1 ends) → TellsPart before after ends
-lines-told before after ends told =
-    let all : take (length ends) ends ≡ ends = take-all ends in (
+-- all lines were told, and no more
+lines-told : (known : Option (List ℕ)) (rows : List (List (List ℕ)))
+    (before after : Option (List ℕ)) (ends : List RowEnd)
+    → Appends before after (lines_from 1 ends) → TellsPart known rows ends before after
+lines-told known rows before after ends told =
+    let all : take (length ends) ends ≡ ends = take-all ends in
+    let lines : lines_from 1 (take (length ends) ends) ++ [] ≡ lines_from 1 ends =
+    ap (λ l. lines_from 1 l ++ []) all ∙ append-nil (lines_from 1 ends) in (
       length ends,
       omega arith,
       [],
-      summary_of (counts_of ends),
-      sym (ap (λ l. lines_from 1 l ++ [] ++ summary_of (counts_of ends)) all
-          ∙ ap (λ l. l ++ summary_of (counts_of ends)) (append-nil (lines_from 1 ends))),
-      subst (Appends before after) (sym (ap (λ l. lines_from 1 l ++ []) all
-          ∙ append-nil (lines_from 1 ends))) told,
+      [],
+      inl lines,
+      subst (Appends before after) (sym lines) told,
     )
 
 -- all lines were told, and a first part of the summary
-summary-told : (a b c : Option (List ℕ)) (ends : List RowEnd) → Appends a b (lines_from 1 ends)
-    → AppendsPart b c (summary_of (counts_of ends)) → TellsPart a c ends
-summary-told a b c ends told (sent, unsent, split, sends) =
+summary-told : (known : Option (List ℕ)) (rows : List (List (List ℕ)))
+    (a b c : Option (List ℕ)) (ends : List RowEnd) → HasRecords known (value_names ∷ rows)
+    → Appends a b (lines_from 1 ends) → AppendsPart b c (summary_of (counts_of ends))
+    → TellsPart known rows ends a c
+summary-told known rows a b c ends has told (sent, unsent, split, sends) =
     let all : take (length ends) ends ≡ ends = take-all ends in (
       length ends,
       omega arith,
       sent,
       unsent,
-      ap (λ l. lines_from 1 ends ++ l) split ∙ sym (append_assoc (lines_from 1 ends) sent unsent)
-          ∙ sym (ap (λ l. lines_from 1 l ++ sent ++ unsent) all),
+      inr (has, ap (λ l. lines_from 1 l ++ sent ++ unsent) all
+          ∙ append_assoc (lines_from 1 ends) sent unsent
+          ∙ sym (ap (λ l. lines_from 1 ends ++ l) split)),
       subst (Appends a c) (sym (ap (λ l. lines_from 1 l ++ sent) all))
           (Appends-trans a b c (lines_from 1 ends) sent told sends),
     )
 
 -- all lines but the last were told, and a first part of that
-line-told : (a b c : Option (List ℕ)) (ends : List RowEnd) (end : RowEnd)
+line-told : (known : Option (List ℕ)) (rows : List (List (List ℕ)))
+    (a b c : Option (List ℕ)) (ends : List RowEnd) (end : RowEnd)
     → Appends a b (lines_from 1 ends) → AppendsPart b c (end_line (length ends + 1) end)
-    → TellsPart a c (ends ++ end ∷ [])
-line-told a b c ends end told (sent, unsent, split, sends) =
+    → TellsPart known rows (ends ++ end ∷ []) a c
+line-told known rows a b c ends end told (sent, unsent, split, sends) =
     let all : take (length ends) (ends ++ end ∷ []) ≡ ends = take-first ends (end ∷ []) in
     let lines = lines_from 1 ends in
-    let summary = summary_of (counts_of (ends ++ end ∷ [])) in
-    let long : length (ends ++ end ∷ []) ≤ length ends + 1 = omega (arith, length-append ends (end ∷ [])) in
+    let long : length (ends ++ end ∷ []) ≤ length ends + 1 =
+    omega (arith, length-append ends (end ∷ [])) in
     let place : 1 + length ends ≡ length ends + 1 = omega arith in
     let more : lines_from 1 (ends ++ end ∷ []) ≡ lines ++ end_line (length ends + 1) end =
     lines-more 1 ends end ∙ ap (λ n. lines ++ end_line n end) place in (
       length ends,
       long,
       sent,
-      unsent ++ summary,
-      ap (λ l. l ++ summary) (more ∙ ap (λ l. lines ++ l) split
-          ∙ sym (append_assoc lines sent unsent))
-          ∙ append_assoc (lines ++ sent) unsent summary
-          ∙ sym (ap (λ l. lines_from 1 l ++ sent ++ (unsent ++ summary)) all),
+      unsent,
+      inl (ap (λ l. lines_from 1 l ++ sent ++ unsent) all ∙ append_assoc lines sent unsent
+          ∙ sym (more ∙ ap (λ l. lines ++ l) split)),
       subst (Appends a c) (sym (ap (λ l. lines_from 1 l ++ sent) all))
           (Appends-trans a b c lines sent told sends),
     )
@@ -88,29 +91,29 @@ line-told a b c ends end told (sent, unsent, split, sends) =
 
 -- a write that failed, or no memory
 either-stops : (why : ImportFault) (known : Option (List ℕ)) (rows : List (List (List ℕ)))
-    (before after : Option (List ℕ)) (ends : List RowEnd)
+    (ends : List RowEnd) (before after : Option (List ℕ))
     → (why ≡ Write) ⊎ (why ≡ OutOfMemory) → HasFirstRecords known (value_names ∷ rows)
-    → TellsPart before after ends
-    → StopsAfter why known rows × TellsBefore why before after ends
-either-stops why known rows before after ends (inl is) there told =
-    subst (λ w. StopsAfter w known rows × TellsBefore w before after ends) (sym is)
+    → TellsPart known rows ends before after
+    → StopsAfter why known rows × TellsBefore why known rows ends before after
+either-stops why known rows ends before after (inl is) there told =
+    subst (λ w. StopsAfter w known rows × TellsBefore w known rows ends before after) (sym is)
     (inl there, told)
-either-stops why known rows before after ends (inr is) there told =
-    subst (λ w. StopsAfter w known rows × TellsBefore w before after ends) (sym is)
+either-stops why known rows ends before after (inr is) there told =
+    subst (λ w. StopsAfter w known rows × TellsBefore w known rows ends before after) (sym is)
     (inl there, told)
 
 -- a read that failed, or no memory
 unread-stops : (why : ImportFault) (known : Option (List ℕ)) (rows : List (List (List ℕ)))
-    (before after : Option (List ℕ)) (ends : List RowEnd)
+    (ends : List RowEnd) (before after : Option (List ℕ))
     → (why ≡ Read) ⊎ (why ≡ OutOfMemory) → HasFirstRecords known (value_names ∷ rows)
     → Appends before after (lines_from 1 ends)
-    → StopsAfter why known rows × TellsBefore why before after ends
-unread-stops why known rows before after ends (inl is) there told =
-    subst (λ w. StopsAfter w known rows × TellsBefore w before after ends) (sym is)
+    → StopsAfter why known rows × TellsBefore why known rows ends before after
+unread-stops why known rows ends before after (inl is) there told =
+    subst (λ w. StopsAfter w known rows × TellsBefore w known rows ends before after) (sym is)
     (inl there, told)
-unread-stops why known rows before after ends (inr is) there told =
-    subst (λ w. StopsAfter w known rows × TellsBefore w before after ends) (sym is)
-    (inl there, lines-told before after ends told)
+unread-stops why known rows ends before after (inr is) there told =
+    subst (λ w. StopsAfter w known rows × TellsBefore w known rows ends before after) (sym is)
+    (inl there, lines-told known rows before after ends told)
 
 -- ---- what was done
 
@@ -180,12 +183,13 @@ module _ {R : Type 0} (rem : R → Option (List ℕ)) (known : Option (List ℕ)
         → Imports settings asked a c known first last (Err why)
     row-stops end why d (is, part) =
         let there = stands-first rem r2 known (value_names ∷ (s.rows ++ d.0 ∷ [])) d.2 in
-        let told = line-told first mid last s.ends end s.told
+        let told = line-told known (s.rows ++ d.0 ∷ []) first mid last s.ends end s.told
         (subst (λ n. AppendsPart mid last (end_line n end)) s.place part) in (
           s.rows ++ d.0 ∷ [],
           s.ends ++ end ∷ [],
           row-does end d,
-          either-stops why known (s.rows ++ d.0 ∷ []) first last (s.ends ++ end ∷ []) is there told,
+          either-stops why known (s.rows ++ d.0 ∷ []) (s.ends ++ end ∷ []) first last is there
+              told,
         )
 
     -- the text ended, and all was told
@@ -215,9 +219,9 @@ module _ {R : Type 0} (rem : R → Option (List ℕ)) (known : Option (List ℕ)
       s.ends,
       done-still settings asked a b c s.rows s.ends s.does
           (subst (λ x. DoesRows x asked b c [] []) same d.1),
-      either-stops why known s.rows first last s.ends is
+      either-stops why known s.rows s.ends first last is
           (stands-first rem r1 known (value_names ∷ s.rows) s.stands)
-          (summary-told first mid last s.ends s.told
+          (summary-told known s.rows first mid last s.ends d.0 s.told
           (subst (λ n. AppendsPart mid last (summary_of n)) s.tally part)),
     )
 
@@ -230,7 +234,7 @@ module _ {R : Type 0} (rem : R → Option (List ℕ)) (known : Option (List ℕ)
       s.ends,
       done-still settings asked a b c s.rows s.ends s.does
           (subst (λ x. DoesRows x asked b c [] []) same d.0),
-      unread-stops why known s.rows first mid s.ends d.1
+      unread-stops why known s.rows s.ends first mid d.1
           (stands-first rem r1 known (value_names ∷ s.rows) s.stands) s.told,
     )
 
@@ -245,7 +249,7 @@ module _ {R : Type 0} (rem : R → Option (List ℕ)) (known : Option (List ℕ)
     s.does,
     (
       inl (stands-first rem reader known (value_names ∷ s.rows) s.stands),
-      lines-told first last s.ends s.told,
+      lines-told known s.rows first last s.ends s.told,
     ),
   )
 
@@ -261,11 +265,19 @@ module _ {R : Type 0} (rem : R → Option (List ℕ)) (known : Option (List ℕ)
     [],
     [],
     done-none settings asked s,
-    (inr refl, lines-told before before [] (Appends-nil before)),
+    (inr refl, lines-told known [] before before [] (Appends-nil before)),
   )
   header-stops reader s before OutOfMemory read = (
     [],
     [],
     done-none settings asked s,
-    (inr refl, lines-told before before [] (Appends-nil before)),
+    (inr refl, lines-told known [] before before [] (Appends-nil before)),
   )
+
+-- a read that failed, where no call did, is want of memory
+pub starved-read : (known : Option (List ℕ)) (settings : SettingsValues) (asked : Import)
+    (old new : Store) (before after : Option (List ℕ))
+    → Imports settings asked old new known before after (Err Read)
+    → Imports settings asked old new known before after (Err OutOfMemory)
+starved-read known settings asked old new before after (rows, ends, done, stops, told) =
+    (rows, ends, done, stops, lines-told known rows before after ends told)

@@ -48,20 +48,30 @@ DoesRows settings asked old new rows ends =
 abbrev pub import_text : List RowEnd → List ℕ
 import_text ends = lines_from 1 ends ++ summary_of (counts_of ends)
 
+-- what is told of rows as far as an import came: their lines, and where the text has no more rows
+-- the summary too
+abbrev pub IsToldSoFar : (input : Option (List ℕ)) → List (List (List ℕ)) → List RowEnd → List ℕ
+    → Type 0
+IsToldSoFar input rows ends text =
+    (text ≡ lines_from 1 ends)
+    ⊎ (HasRecords input (value_names ∷ rows) × (text ≡ import_text ends))
+
 -- the lines of all rows but the last were told, and a first part of what is told behind them
-abbrev pub TellsPart : (before after : Option (List ℕ)) → List RowEnd → Type 0
-TellsPart before after ends =
+abbrev pub TellsPart : (input : Option (List ℕ)) → List (List (List ℕ)) → List RowEnd
+    → (before after : Option (List ℕ)) → Type 0
+TellsPart input rows ends before after =
     (n : ℕ) × (length ends ≤ n + 1) × (sent : List ℕ) × (unsent : List ℕ)
-    × (import_text ends ≡ lines_from 1 (take n ends) ++ sent ++ unsent)
+    × IsToldSoFar input rows ends (lines_from 1 (take n ends) ++ sent ++ unsent)
     × Appends before after (lines_from 1 (take n ends) ++ sent)
 
 -- what was told where this fault ended an import: before a read that failed, all lines
-abbrev pub TellsBefore : ImportFault → (before after : Option (List ℕ)) → List RowEnd → Type 0
-TellsBefore why before after ends =
+abbrev pub TellsBefore : ImportFault → (input : Option (List ℕ)) → List (List (List ℕ))
+    → List RowEnd → (before after : Option (List ℕ)) → Type 0
+TellsBefore why input rows ends before after =
     elim why [
       | Header ↦ Appends before after []
       | Read ↦ Appends before after (lines_from 1 ends)
-      | _ ↦ TellsPart before after ends
+      | _ ↦ TellsPart input rows ends before after
     ]
 
 -- which rows were done where this fault ended an import: the first ones, or none where it ended
@@ -82,5 +92,5 @@ Imports settings asked old new input before after result =
     × DoesRows settings asked old new rows ends × elim result [
       | Ok counts ↦ HasRecords input (value_names ∷ rows) × (counts ≡ counts_of ends)
           × Appends before after (import_text ends)
-      | Err why ↦ StopsAfter why input rows × TellsBefore why before after ends
+      | Err why ↦ StopsAfter why input rows × TellsBefore why input rows ends before after
     ]

@@ -1,5 +1,5 @@
 -- Where the reader of a text stands, and what one turn of an import does.
-use Rattle.std.specs.Prelude.{◌≡◌, ◌⊎◌, ℕ, true, false, List, [], ◌∷◌, ◌++◌, Option, Some, None, IfSome, Result, Ok, Err, ⊤, MatchResult}
+use Rattle.std.specs.Prelude.{◌≡◌, ◌⊎◌, ℕ, true, false, List, [], ◌∷◌, ◌++◌, Option, Some, None, IfSome, Result, Ok, Err, MatchResult}
 use Rattle.std.specs.Io.KnownBytes.{Appends}
 use Rattle.csv.specs.Reading.{Ready, default_config, strip_bom, source_of, has_failed, reader_config, reader_trim, reader_state, is_flexible, Reached}
 use Rattle.csv.specs.Records.{Row, fields_of}
@@ -19,8 +19,8 @@ use Rattle.history_import.specs.declared.row_end.RowEnd.{RowEnd}
 use Rattle.history_import.specs.Rows.{row_done}
 use Rattle.history_import.specs.Imports.{HasRecords, HasNoHeader, DoesRows}
 
--- a reader of an import, whose next read gives one record: it takes records of any length, and
--- trims none
+-- a reader of an import, whose next read gives one record: it takes records of any number of
+-- fields, and trims none
 abbrev pub IsOurs : {R : Type 0} → Reader R → Type 0
 IsOurs reader = Ready reader × (has_failed reader ≡ false) × (is_flexible reader ≡ true)
     × (reader_trim reader ≡ trim.None) × (reader_config reader ≡ default_config)
@@ -49,7 +49,7 @@ ReadsHeader rem reader known result =
     elim result [
       | Ok done ↦ StandsBehind rem reader known (value_names ∷ [])
       | Err Header ↦ HasNoHeader known
-      | Err _ ↦ ⊤
+      | Err why ↦ (why ≡ Read) ⊎ (why ≡ OutOfMemory)
     ]
 
 -- a row was done over what is held, and came to this

@@ -1,6 +1,6 @@
 //! The rows of a text are written, one after the other.
 
-ghost use Rattle.std.specs.Prelude.{◌≡◌, ◌∷◌, [], ℕ, List, Option, IsErrOf};
+ghost use Rattle.std.specs.Prelude.{◌≡◌, ◌≢◌, ◌⊎◌, ◌∷◌, [], ℕ, List, Option, IsErrOf};
 ghost use Rattle.counted_io.specs.Bytes.{counted};
 ghost use Rattle.ua_session.specs.Users.{IsUserName};
 ghost use Rattle.history_csv.specs.Rows.{value_names};
@@ -85,17 +85,20 @@ fn do_rows<A: Archive, R: Read, W: Write>(
     Err(ImportFault::OutOfMemory)
 }
 
-/// Writes the rows of a text of CSV into a server's archive, in a user's name: behind the header
-/// `node,time,value,status`, each row is one update of one value, judged as a HistoryUpdate of that
-/// user would be at this moment, and done before the next is read. A row that was refused is told by
-/// a line, with its number, from 1, and why, but not one at whose place a value was live; at the end
-/// of the text a last line tells how many rows there were, and what became of them. One row is in
-/// memory at a time.
-///
-/// Errors: `Header` where the text doesn't begin by the header, `Read` where a read failed, `Write`
-/// where a write failed (the writer's `faults` rose), `OutOfMemory` where memory was wanting to read
-/// a row or to tell of it. The rows before it stand, and their lines, but for the last one's.
-pub fn import_rows<A: Archive, R: Read, W: Write>(
+/// Why rows couldn't be read: for a call of the reader that failed, where there were so many before.
+fn fault_behind<R>(faults: u64, input: &Counted<R>) -> ImportFault
+    ensures fault { (result ≡ ImportFault.Read) ⊎ (result ≡ ImportFault.OutOfMemory) }
+    ensures read { result ≡ ImportFault.Read → input.now.faults ≢ faults }
+{
+    if input.faults() == faults {
+        ImportFault::OutOfMemory
+    } else {
+        ImportFault::Read
+    }
+}
+
+/// Reads the header, and does what the rows behind it ask for.
+fn import_all<A: Archive, R: Read, W: Write>(
     server: &mut Server<A>,
     asked: &Import<'_>,
     input: &mut Counted<R>,
@@ -120,4 +123,38 @@ pub fn import_rows<A: Archive, R: Read, W: Write>(
     }
     let mut text = String::new(server.alloc);
     do_rows(server, asked, &mut reader, &mut text, output)
+}
+
+/// Writes the rows of a text of CSV into a server's archive, in a user's name: behind the header
+/// `node,time,value,status`, each row is one update of one value, judged as a HistoryUpdate of that
+/// user would be at this moment, and done before the next is read. A row that was refused is told by
+/// a line, with its number, from 1, and why, but not one at whose place a value was live; at the end
+/// of the text a last line tells how many rows there were, and what became of them. One row is in
+/// memory at a time.
+///
+/// Errors: `Header` where the text doesn't begin by the header, `Read` where a read failed (the
+/// reader's `faults` rose), `Write` where a write failed (the writer's `faults` rose), `OutOfMemory`
+/// where memory was wanting to read a row or to tell of it. The rows before it stand, and their
+/// lines, but for the last one's.
+pub fn import_rows<A: Archive, R: Read, W: Write>(
+    server: &mut Server<A>,
+    asked: &Import<'_>,
+    input: &mut Counted<R>,
+    output: &mut Counted<W>,
+) -> Result<Counts, ImportFault>
+    requires user { IsUserName asked.now.user.now }
+    ensures imports { Imports server.old.settings asked.now (A.state server.old.replica.archive)
+        (A.state server.new.replica.archive) (R.remaining input.old.inner)
+        (W.contents output.old.inner) (W.contents output.new.inner) result }
+    ensures settings { server.new.settings ≡ server.old.settings }
+    ensures read { IsErrOf result ImportFault.Read → input.new.faults ≢ input.old.faults }
+    ensures write { IsErrOf result ImportFault.Write
+        → output.new.faults ≡ counted output.old.faults }
+    ensures kept { (IsErrOf result ImportFault.Write → ⊥) → output.new.faults ≡ output.old.faults }
+{
+    let faults = input.faults();
+    match import_all(server, asked, input, output) {
+        Err(ImportFault::Read) => Err(fault_behind(faults, input)),
+        ended => ended,
+    }
 }

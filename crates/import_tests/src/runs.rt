@@ -27,7 +27,7 @@ const THREE: &[u8] = b"node,time,value,status\n\
     ns=1;s=S,2026-03-01T12:00:01Z,\"a,b\",80320000\n\
     ns=1;s=T,2026-03-01T12:00:02.5Z,-6,Good\n";
 
-/// Rows none of which is written.
+/// Rows of each wrong kind, and one that is written.
 const WRONG: &[u8] = b"node,time,value,status\n\
     temperature,@5,5,\n\
     ns=1;s=X,@5,5,\n\

@@ -3,7 +3,7 @@ use Rattle.history_import.specs.declared.input.Lent.{Lent}
 use Rattle.csv.specs.Reading.{builder_config, builder_names_headers, builder_is_flexible, builder_trim, with_flexible, with_names_headers}
 use Rattle.history_import.proofs.ImportingLemmas.{header-stops}
 use Rattle.history_import.proofs.StandingLemmas.{stands-before}
-use Rattle.history_import.proofs.importing.import_rows.Goals as goal
+use Rattle.history_import.proofs.importing.import_all.Goals as goal
 
 pub returns-in-Err-clause-imports : goal.returns-in-Err-clause-imports
 returns-in-Err-clause-imports g c =
