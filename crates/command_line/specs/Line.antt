@@ -11,7 +11,7 @@ use Rattle.clap.specs.declared.error.ErrorKind.TheVariants.{DisplayHelp, Display
 use Rattle.clap.specs.declared.builder.action.ArgAction.TheVariants.{Set, SetTrue}
 use Rattle.clap.specs.declared.builder.value_parser.ValueParser.TheVariants.{Unsigned}
 use Rattle.command_line.specs.declared.line.Line.{Line}
-use Rattle.command_line.specs.declared.line.Line.TheVariants.{Answer, Serve, Dump, Sync, History, Import}
+use Rattle.command_line.specs.declared.line.Line.TheVariants.{Answer, Serve, Dump, Sync, History, Import, Check}
 use Rattle.command_line.specs.declared.line.HistoryWords.{HistoryWords}
 use Rattle.command_line.specs.declared.line.ImportWords.{ImportWords}
 use Rattle.command_line.specs.declared.line.PerformWord.{PerformWord}
@@ -70,16 +70,21 @@ node_command = command (codes "history") (needed (codes "settings") ∷ needed (
 abbrev pub span_command : App
 span_command = with_rule (with_rule node_command (option (codes "from"))) (option (codes "to"))
 
--- the same with `[--changes] [--csv]`: `history` with its options
+-- the same with `[--changes] [--csv] [--html]`: `history` with its options
 abbrev pub history_command : App
 history_command =
-    with_rule (with_rule span_command (flag (codes "changes"))) (flag (codes "csv"))
+    fold with_rule span_command (flag (codes "changes") ∷ flag (codes "csv")
+    ∷ flag (codes "html") ∷ [])
 
 -- `import --settings FILE --user NAME [--perform WORD]`
 abbrev pub import_command : App
 import_command =
     command (codes "import")
     (needed (codes "settings") ∷ needed (codes "user") ∷ option (codes "perform") ∷ [])
+
+-- `check --settings FILE`
+abbrev pub check_command : App
+check_command = command (codes "check") (needed (codes "settings") ∷ [])
 
 -- the program with no commands yet: it has a version, which its commands have too
 abbrev pub program : App
@@ -95,12 +100,16 @@ servers = with_subcommand (with_subcommand program answer_command.top) serve_com
 abbrev pub movers : App
 movers = with_subcommand (with_subcommand servers dump_command.top) sync_command.top
 
+-- these and the commands that print a node's history, and bring values
+abbrev pub histories : App
+histories = with_subcommand (with_subcommand movers history_command.top) import_command.top
+
 -- the program with its commands
 abbrev pub uahist : App
 uahist =
     fold (λ all one. with_subcommand all one.top) program
     (answer_command ∷ serve_command ∷ dump_command ∷ sync_command ∷ history_command
-    ∷ import_command ∷ [])
+    ∷ import_command ∷ check_command ∷ [])
 
 -- where the first fault that clap finds may be that help, or the version, is asked for
 abbrev pub MayAskForText : Kinds → Type 0
@@ -154,14 +163,14 @@ IsSync rows line =
       | _ ↦ ⊥
     ]
 
--- what rows ask of a node's history: the node, from when, to when, changes or values, CSV or a
--- table
+-- what rows ask of a node's history: the node, from when, to when, changes or values, and as what
 pub record AreHistoryWords (rows : List Row) (asked : HistoryWords) : Type 0 where
   pub node : first_of (codes "node") rows ≡ Some asked.node.now
   pub from : option_copied asked.from ≡ first_of (codes "from") rows
   pub to : option_copied asked.to ≡ first_of (codes "to") rows
   pub changes : IsFlag (one_of (codes "changes") rows) asked.changes
   pub csv : IsFlag (one_of (codes "csv") rows) asked.csv
+  pub html : IsFlag (one_of (codes "html") rows) asked.html
 
 -- what the rows of `history` give
 abbrev pub IsHistoryCommand : List Row → Line → Type 0
@@ -183,7 +192,7 @@ perform_named word =
 abbrev pub perform_in : Option Text → Option PerformWord
 perform_in given = elim given [ None ↦ Some Insert | Some word ↦ perform_named word ]
 
--- what rows ask of an import: in whose name, and what the rows are to do
+-- what rows ask of an import: in whose name, and what is done with the values that it brings
 pub record AreImportWords (rows : List Row) (asked : ImportWords) : Type 0 where
   pub user : first_of (codes "user") rows ≡ Some asked.user.now
   pub perform : perform_in (first_of (codes "perform") rows) ≡ Some asked.perform
@@ -196,6 +205,11 @@ IsImportCommand rows line =
           × AreImportWords rows asked
       | _ ↦ ⊥
     ]
+
+-- what the rows of `check` give
+abbrev pub IsCheck : List Row → Line → Type 0
+IsCheck rows line =
+    elim line [ Check path ↦ first_of (codes "settings") rows ≡ Some path.now | _ ↦ ⊥ ]
 
 -- the matches name this command, and its rows give this line
 abbrev pub NamesCommand : Option (Text × List Row) → Text → (List Row → Line → Type 0) → Line
@@ -213,6 +227,7 @@ IsLine m (Dump path) = NamesCommand m (codes "dump") IsDump (Dump path)
 IsLine m (Sync path peer) = NamesCommand m (codes "sync") IsSync (Sync path peer)
 IsLine m (History path it) = NamesCommand m (codes "history") IsHistoryCommand (History path it)
 IsLine m (Import path it) = NamesCommand m (codes "import") IsImportCommand (Import path it)
+IsLine m (Check path) = NamesCommand m (codes "check") IsCheck (Check path)
 
 -- no line is so
 abbrev pub NoLine : (Line → Type 0) → Type 0
@@ -227,7 +242,7 @@ Asks faults matches (Shown text) = MayAskForText faults
 -- the usage of the program, in one line
 abbrev pub usage : List ℕ
 usage =
-    codes "usage: uahist answer [--settings FILE] [--hex] [--now N] | serve --settings FILE [--connections N] | dump --settings FILE | sync --settings FILE --peer ADDRESS | history --settings FILE --node ID [--from T] [--to T] [--changes] [--csv] | import --settings FILE --user NAME [--perform insert|replace|update]"
+    codes "usage: uahist answer [--settings FILE] [--hex] [--now N] | serve --settings FILE [--connections N] | dump --settings FILE | sync --settings FILE --peer ADDRESS | history --settings FILE --node ID [--from T] [--to T] [--changes] [--csv] [--html] | import --settings FILE --user NAME [--perform insert|replace|update] | check --settings FILE"
 
 -- the text that tells a refused command line
 abbrev pub line_text_of : LineFault → List ℕ

@@ -6,8 +6,8 @@ ghost use Rattle.clap.specs.declared.builder.command.Command.TheViews.{out-Comma
 ghost use Rattle.clap.specs.declared.error.ErrorKind.TheVariants as clap;
 ghost use Rattle.clap.specs.Takes.{takes};
 ghost use Rattle.clap.specs.Faults.{fault_of as fault_kinds};
-ghost use Rattle.command_line.specs.Line.{Asks, AsksForText, AreHistoryWords, IsLine, option, uahist, IsAnswer, IsServe, IsDump, IsHistoryCommand, IsImportCommand, IsMistake, IsSync, IsText, IsTextOf, NoLine, movers, node_command, perform_in, perform_named, servers, span_command};
-ghost use Rattle.command_line.specs.Line.{answer_command, connections, dump_command, flag, history_command, import_command, now, serve_command, sync_command};
+ghost use Rattle.command_line.specs.Line.{Asks, AsksForText, AreHistoryWords, IsLine, option, uahist, IsAnswer, IsCheck, IsServe, IsDump, IsHistoryCommand, IsImportCommand, IsMistake, IsSync, IsText, IsTextOf, NoLine, movers, node_command, perform_in, perform_named, servers, span_command};
+ghost use Rattle.command_line.specs.Line.{answer_command, check_command, connections, dump_command, flag, histories, history_command, import_command, now, serve_command, sync_command};
 
 use clap::builder::ValueParser;
 use clap::error::{Error as Refusal, ErrorKind};
@@ -61,6 +61,10 @@ pub enum Line<'a> {
         settings: &'a str,
         asked: ImportWords<'a>,
     },
+    /// Tell what the file at `settings` says.
+    Check {
+        settings: &'a str,
+    },
 }
 
 /// What rows are to do with the values that they name.
@@ -96,6 +100,8 @@ pub struct HistoryWords<'a> {
     pub changes: bool,
     /// Whether it is to be printed as CSV, in place of a table.
     pub csv: bool,
+    /// Whether it is to be printed as a page of HTML, in place of either.
+    pub html: bool,
 }
 
 /// What a command line asks for.
@@ -125,7 +131,7 @@ impl LineFault {
     {
         match self {
             LineFault::Words =>
-                "usage: uahist answer [--settings FILE] [--hex] [--now N] | serve --settings FILE [--connections N] | dump --settings FILE | sync --settings FILE --peer ADDRESS | history --settings FILE --node ID [--from T] [--to T] [--changes] [--csv] | import --settings FILE --user NAME [--perform insert|replace|update]",
+                "usage: uahist answer [--settings FILE] [--hex] [--now N] | serve --settings FILE [--connections N] | dump --settings FILE | sync --settings FILE --peer ADDRESS | history --settings FILE --node ID [--from T] [--to T] [--changes] [--csv] [--html] | import --settings FILE --user NAME [--perform insert|replace|update] | check --settings FILE",
             LineFault::OutOfMemory => "memory ran out before the command began",
         }
     }
@@ -313,6 +319,17 @@ fn csv_option<'a>(alloc: Global) -> Arg<'a>
         .action(ArgAction::SetTrue)
 }
 
+/// The option `--html`.
+fn html_option<'a>(alloc: Global) -> Arg<'a>
+    ensures rule { rule_of result ≡ flag (codes "html") }
+    ensures local { result.global ≡ false }
+{
+    Arg::new(alloc, "html")
+        .long("html")
+        .help("Prints a page for a browser in place of a table")
+        .action(ArgAction::SetTrue)
+}
+
 /// The command `history` with the options that have to be given.
 fn node_command<'a>(alloc: Global) -> Result<Command<'a>, AllocError>
     ensures app { IfOk result (λ command. app_of command ≡ node_command) }
@@ -344,8 +361,9 @@ fn history_command<'a>(alloc: Global) -> Result<Command<'a>, AllocError>
 {
     let changes = changes_option(alloc);
     let csv = csv_option(alloc);
+    let html = html_option(alloc);
     let command = span_command(alloc)?;
-    let command = command.arg(changes)?.arg(csv)?;
+    let command = command.arg(changes)?.arg(csv)?.arg(html)?;
     Ok(command)
 }
 
@@ -388,6 +406,19 @@ fn import_command<'a>(alloc: Global) -> Result<Command<'a>, AllocError>
     Ok(command)
 }
 
+/// The command `check` and its option.
+fn check_command<'a>(alloc: Global) -> Result<Command<'a>, AllocError>
+    ensures app { IfOk result (λ command. app_of command ≡ check_command) }
+    ensures local { IfOk result (λ command. (out-Command command).has_globals ≡ false) }
+{
+    let settings = settings_option(alloc).required(true);
+    let command = Command::new(alloc, "check").about(
+        "Tells what the settings say, and warns of what is unwise",
+    );
+    let command = command.arg(settings)?;
+    Ok(command)
+}
+
 /// The program with its commands that answer clients.
 fn servers<'a>(alloc: Global) -> Result<Command<'a>, AllocError>
     ensures { IfOk result (λ command. app_of command ≡ servers) }
@@ -413,14 +444,24 @@ fn movers<'a>(alloc: Global) -> Result<Command<'a>, AllocError>
     Ok(whole)
 }
 
-/// The program's commands and their options.
-fn command<'a>(alloc: Global) -> Result<Command<'a>, AllocError>
-    ensures { IfOk result (λ command. app_of command ≡ uahist) }
+/// The program with these and its commands that print a node's history, and bring values.
+fn histories<'a>(alloc: Global) -> Result<Command<'a>, AllocError>
+    ensures { IfOk result (λ command. app_of command ≡ histories) }
 {
     let history = history_command(alloc)?;
     let import = import_command(alloc)?;
     let whole = movers(alloc)?;
     let whole = whole.subcommand(history)?.subcommand(import)?;
+    Ok(whole)
+}
+
+/// The program's commands and their options.
+fn command<'a>(alloc: Global) -> Result<Command<'a>, AllocError>
+    ensures { IfOk result (λ command. app_of command ≡ uahist) }
+{
+    let check = check_command(alloc)?;
+    let whole = histories(alloc)?;
+    let whole = whole.subcommand(check)?;
     Ok(whole)
 }
 
@@ -513,12 +554,14 @@ fn read_words<'a>(history: &ArgMatches<'a>, node: &'a str) -> HistoryWords<'a>
     let to = history.get_str("to");
     let changes = history.get_flag("changes");
     let csv = history.get_flag("csv");
+    let html = history.get_flag("html");
     HistoryWords {
         node,
         from,
         to,
         changes,
         csv,
+        html,
     }
 }
 
@@ -584,6 +627,17 @@ fn read_import<'a>(import: &ArgMatches<'a>) -> Result<Line<'a>, LineFault>
     }
 }
 
+/// Reads the option of `check`.
+fn read_check<'a>(check: &ArgMatches<'a>) -> Result<Line<'a>, LineFault>
+    ensures ok { IfOk result (IsCheck (rows_of (found_of check.now))) }
+    ensures words { OnErr result (NoLine (IsCheck (rows_of (found_of check.now)))) }
+{
+    match check.get_str("settings") {
+        Some(settings) => Ok(Line::Check { settings }),
+        None => Err(LineFault::Words),
+    }
+}
+
 /// Reads the command that the matches name.
 fn read_matches<'a>(matches: &ArgMatches<'a>) -> Result<Line<'a>, LineFault>
     ensures ok { IfOk result (IsLine (subcommand_rows_of matches.now)) }
@@ -604,9 +658,12 @@ fn read_matches<'a>(matches: &ArgMatches<'a>) -> Result<Line<'a>, LineFault>
     if let Some(history) = matches.subcommand_matches("history") {
         return read_history(history);
     }
-    match matches.subcommand_matches("import") {
+    if let Some(import) = matches.subcommand_matches("import") {
+        return read_import(import);
+    }
+    match matches.subcommand_matches("check") {
         None => Err(LineFault::Words),
-        Some(import) => read_import(import),
+        Some(check) => read_check(check),
     }
 }
 

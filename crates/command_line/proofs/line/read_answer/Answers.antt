@@ -9,7 +9,7 @@ use Rattle.clap.specs.Words.{Row, Text, found_of, one_of, one_text, rows_of}
 use Rattle.clap.proofs.WalkLemmas.{first_value-rows, one_text-rows}
 use Rattle.command_line.specs.Line.{IsFlag, IsAnswer, NoLine}
 use Rattle.command_line.proofs.Lines.{of-value}
-use Rattle.command_line.specs.declared.line.Line.TheVariants.{Answer, Serve, Dump, Sync, History, Import}
+use Rattle.command_line.specs.declared.line.Line.TheVariants.{Answer}
 use Rattle.command_line.proofs.line.read_answer.Goals as goal
 
 -- what the text of the moment says of it
@@ -35,11 +35,7 @@ not_answer rows text is spells_none (Answer path flag moment) h =
     let P : Option Text → Type 0 =
     λ given. elim given [ None ↦ moment ≡ None | Some text ↦ IsMoment text moment ] in
     spells_none (subst P is h.2).2.0
-not_answer rows text is spells_none (Serve path count) h = h
-not_answer rows text is spells_none (Dump path) h = h
-not_answer rows text is spells_none (Sync path address) h = h
-not_answer rows text is spells_none (History path asked) h = h
-not_answer rows text is spells_none (Import path asked) h = h
+not_answer rows text is spells_none _ h = absurd h
 
 no_number : {E : Type 0} (gives : Text → Result ℤ E → Type 0)
     → ((text : Text) (r : Result ℤ E) → gives text r → ParsesSigned w64 10 text r)

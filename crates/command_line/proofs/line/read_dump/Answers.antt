@@ -3,18 +3,14 @@ use Rattle.std.specs.Prelude.{Option, option_map}
 use Rattle.clap.specs.Matches.{first_value}
 use Rattle.clap.specs.Words.{Row, first_of, found_of, rows_of}
 use Rattle.command_line.specs.Line.{IsDump, NoLine}
-use Rattle.command_line.specs.declared.line.Line.TheVariants.{Answer, Serve, Dump, Sync, History, Import}
+use Rattle.command_line.specs.declared.line.Line.TheVariants.{Dump}
 use Rattle.clap.proofs.WalkLemmas.{first_value-rows}
 use Rattle.command_line.proofs.Lines.{mapped}
 use Rattle.command_line.proofs.line.read_dump.Goals as goal
 
 not_set : (rows : List Row) → first_of (codes "settings") rows ≡ None → NoLine (IsDump rows)
 not_set rows none (Dump path) h = let wrong = sym none ∙ h in cc
-not_set rows none (Answer path flag reading) h = h
-not_set rows none (Serve path count) h = h
-not_set rows none (Sync path address) h = h
-not_set rows none (History path asked) h = h
-not_set rows none (Import path asked) h = h
+not_set rows none _ h = absurd h
 
 pub returns-in-Some-clause-ok : goal.returns-in-Some-clause-ok
 returns-in-Some-clause-ok c =

@@ -1,6 +1,6 @@
 use Rattle.std.proofs.Common.{rules}
 use Rattle.clap.specs.Words.{rows_of, found_of, subcommand_rows_of}
-use Rattle.command_line.proofs.Lines.{refused-so, no-answer, no-serve, no-dump, no-sync, no-history, no-import}
+use Rattle.command_line.proofs.Lines.{refused-so, no-answer, no-serve, no-dump, no-sync, no-history, no-import, no-check}
 use Rattle.command_line.proofs.line.read_matches.Goals as goal
 
 pub returns-in-Some-clause-words : goal.returns-in-Some-clause-words
@@ -42,3 +42,10 @@ returns-in-Some-subcommand_matches-5-clause-words c =
     refused-so c.read_import.result (no-import (subcommand_rows_of c.args.matches.now)
     (rows_of (found_of c.in-Some-subcommand_matches-5.import.now)) (search rules))
     c.read_import.ensures.words
+
+pub returns-in-Some-subcommand_matches-6-clause-words :
+    goal.returns-in-Some-subcommand_matches-6-clause-words
+returns-in-Some-subcommand_matches-6-clause-words c =
+    refused-so c.read_check.result (no-check (subcommand_rows_of c.args.matches.now)
+    (rows_of (found_of c.in-Some-subcommand_matches-6.check.now)) (search rules))
+    c.read_check.ensures.words

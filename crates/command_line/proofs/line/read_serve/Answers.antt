@@ -8,7 +8,7 @@ use Rattle.clap.specs.Words.{Row, Text, first_of, found_of, one_of, one_text, ro
 use Rattle.clap.proofs.WalkLemmas.{first_value-rows, one_text-rows}
 use Rattle.command_line.specs.Line.{IsServe, NoLine}
 use Rattle.command_line.proofs.Lines.{mapped, of-value}
-use Rattle.command_line.specs.declared.line.Line.TheVariants.{Answer, Serve, Dump, Sync, History, Import}
+use Rattle.command_line.specs.declared.line.Line.TheVariants.{Serve}
 use Rattle.command_line.proofs.line.read_serve.Goals as goal
 
 -- what a 32-bit number is read by
@@ -37,19 +37,11 @@ not_counted rows text is spells_none (Serve path count) h =
           ParsesUnsigned {E = ParseIntError} 32 10 text (Ok count)
     ] in
     spells_none (subst P is h.1).0
-not_counted rows text is spells_none (Answer path flag reading) h = h
-not_counted rows text is spells_none (Dump path) h = h
-not_counted rows text is spells_none (Sync path address) h = h
-not_counted rows text is spells_none (History path asked) h = h
-not_counted rows text is spells_none (Import path asked) h = h
+not_counted rows text is spells_none _ h = absurd h
 
 not_set : (rows : List Row) → first_of (codes "settings") rows ≡ None → NoLine (IsServe rows)
 not_set rows none (Serve path count) h = let wrong = sym none ∙ h.0 in cc
-not_set rows none (Answer path flag reading) h = h
-not_set rows none (Dump path) h = h
-not_set rows none (Sync path address) h = h
-not_set rows none (History path asked) h = h
-not_set rows none (Import path asked) h = h
+not_set rows none _ h = absurd h
 
 no_count : (rows : List Row) (one : Option Text) (result : Result (Option ℕ) ParseIntError)
     (fault : ParseIntError) → one_of (codes "connections") rows ≡ one

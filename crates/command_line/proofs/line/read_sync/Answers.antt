@@ -3,26 +3,18 @@ use Rattle.std.specs.Prelude.{Option, option_map}
 use Rattle.clap.specs.Matches.{first_value}
 use Rattle.clap.specs.Words.{Row, first_of, found_of, rows_of}
 use Rattle.command_line.specs.Line.{IsSync, NoLine}
-use Rattle.command_line.specs.declared.line.Line.TheVariants.{Answer, Serve, Dump, Sync, History, Import}
+use Rattle.command_line.specs.declared.line.Line.TheVariants.{Sync}
 use Rattle.clap.proofs.WalkLemmas.{first_value-rows}
 use Rattle.command_line.proofs.Lines.{mapped}
 use Rattle.command_line.proofs.line.read_sync.Goals as goal
 
 not_set : (rows : List Row) → first_of (codes "settings") rows ≡ None → NoLine (IsSync rows)
 not_set rows none (Sync path address) h = let wrong = sym none ∙ h.0 in cc
-not_set rows none (Answer path flag reading) h = h
-not_set rows none (Serve path count) h = h
-not_set rows none (Dump path) h = h
-not_set rows none (History path asked) h = h
-not_set rows none (Import path asked) h = h
+not_set rows none _ h = absurd h
 
 not_told : (rows : List Row) → first_of (codes "peer") rows ≡ None → NoLine (IsSync rows)
 not_told rows none (Sync path address) h = let wrong = sym none ∙ h.1 in cc
-not_told rows none (Answer path flag reading) h = h
-not_told rows none (Serve path count) h = h
-not_told rows none (Dump path) h = h
-not_told rows none (History path asked) h = h
-not_told rows none (Import path asked) h = h
+not_told rows none _ h = absurd h
 
 pub returns-in_default-clause-words : goal.returns-in_default-clause-words
 returns-in_default-clause-words c =

@@ -17,10 +17,16 @@ returns c is =
       λ e. c.get_flag-csv.ensures.other (one_text-rows found (codes "csv") ∙ e),
       λ e. c.get_flag-csv.ensures.none (one_text-rows found (codes "csv") ∙ e),
     ) in
+    let html : IsFlag (one_of (codes "html") (rows_of found)) c.get_flag-html.result = (
+      λ e. c.get_flag-html.ensures.value (one_text-rows found (codes "html") ∙ e),
+      λ e. c.get_flag-html.ensures.other (one_text-rows found (codes "html") ∙ e),
+      λ e. c.get_flag-html.ensures.none (one_text-rows found (codes "html") ∙ e),
+    ) in
     record {
       node = is;
       from = c.get_str-from.ensures ∙ first_value-rows found (codes "from");
       to = c.get_str-to.ensures ∙ first_value-rows found (codes "to");
       changes = changes;
       csv = csv;
+      html = html;
     }
