@@ -15,7 +15,7 @@ use ua_server::{
 use uuid::Uuid;
 
 /// Command lines, and what they are.
-static LINES: [(&[&str], Result<Line<'static>, LineFault>); 46] = [
+static LINES: [(&[&str], Result<Line<'static>, LineFault>); 49] = [
     (
         &[
             "uahist",
@@ -60,6 +60,7 @@ static LINES: [(&[&str], Result<Line<'static>, LineFault>); 46] = [
                 to: None,
                 changes: false,
                 csv: false,
+                html: false,
             },
         }),
     ),
@@ -84,9 +85,29 @@ static LINES: [(&[&str], Result<Line<'static>, LineFault>); 46] = [
                 to: Some("then"),
                 changes: true,
                 csv: true,
+                html: false,
             },
         }),
     ),
+    (
+        &["uahist", "history", "--html", "--node=i=1", "--settings=a"],
+        Ok(Line::History {
+            settings: "a",
+            asked: HistoryWords {
+                node: "i=1",
+                from: None,
+                to: None,
+                changes: false,
+                csv: false,
+                html: true,
+            },
+        }),
+    ),
+    (
+        &["uahist", "check", "--settings", "a"],
+        Ok(Line::Check { settings: "a" }),
+    ),
+    (&["uahist", "check"], Err(LineFault::Words)),
     (
         &["uahist", "history", "--settings", "a"],
         Err(LineFault::Words),
@@ -609,7 +630,7 @@ static RUNS: [(&[&str], &[u8], usize, &str, &str, u8); 59] = [
         b"",
         1000,
         "",
-        "uahist: usage: uahist answer [--settings FILE] [--hex] [--now N] | serve --settings FILE [--connections N] | dump --settings FILE | sync --settings FILE --peer ADDRESS | history --settings FILE --node ID [--from T] [--to T] [--changes] [--csv] | import --settings FILE --user NAME [--perform insert|replace|update]\n",
+        "uahist: usage: uahist answer [--settings FILE] [--hex] [--now N] | serve --settings FILE [--connections N] | dump --settings FILE | sync --settings FILE --peer ADDRESS | history --settings FILE --node ID [--from T] [--to T] [--changes] [--csv] [--html] | import --settings FILE --user NAME [--perform insert|replace|update] | check --settings FILE\n",
         2,
     ),
     (
@@ -853,7 +874,7 @@ static RUNS: [(&[&str], &[u8], usize, &str, &str, u8); 59] = [
 ];
 
 /// The same of imports.
-static IMPORTS: [(&[&str], &[u8], usize, &str, &str, u8); 7] = [
+static IMPORTS: [(&[&str], &[u8], usize, &str, &str, u8); 8] = [
     (
         &[
             "uahist",
@@ -923,6 +944,14 @@ static IMPORTS: [(&[&str], &[u8], usize, &str, &str, u8); 7] = [
         2,
     ),
     (
+        &["uahist", "import", "--settings", "others", "--user", "ann"],
+        b"node,time,value,status\n",
+        1000,
+        "",
+        "uahist: --user: want a user of the settings who may write\n",
+        2,
+    ),
+    (
         &[
             "uahist",
             "import",
@@ -944,6 +973,76 @@ static IMPORTS: [(&[&str], &[u8], usize, &str, &str, u8); 7] = [
         "",
         "uahist: settings file can't be read\n",
         2,
+    ),
+];
+
+/// What is told of settings that name a store.
+const TOLD: &str = "archive 00000000-0000-0000-0000-000000000000, replica 1\n\
+    store own.db\n\
+    listens at ; clients are told \n\
+    there are no users with a name; without a name: allowed, may write\n\
+    0 variables, 0 folders\n\
+    0 peers are called; peers come to the clients' address\n\
+    warning: url doesn't begin with opc.tcp://, so clients can't use what they are told\n\
+    warning: who gives no name may write\n\
+    warning: there is no [door], so whoever reaches the clients' address can exchange records\n\
+    warning: the store's path is relative: from another folder it makes a new, empty archive\n";
+
+/// The same of checks, and of a page.
+static CHECKS: [(&[&str], &[u8], usize, &str, &str, u8); 6] = [
+    (
+        &["uahist", "check", "--settings", "kept"],
+        b"",
+        1000,
+        TOLD,
+        "",
+        0,
+    ),
+    (
+        &["uahist", "check", "--settings", "others"],
+        b"",
+        1000,
+        "archive 00000000-0000-0000-0000-000000000000, replica 1\nstore other.db\n",
+        "",
+        0,
+    ),
+    (
+        &["uahist", "check", "--settings", "unmade"],
+        b"",
+        1000,
+        "archive 00000000-0000-0000-0000-000000000000, replica 1\nstore none.db\n",
+        "",
+        0,
+    ),
+    (
+        &["uahist", "check", "--settings", "good"],
+        b"",
+        9,
+        "archive 0",
+        "uahist: connection ended (2)\n",
+        1,
+    ),
+    (
+        &["uahist", "check", "--settings", "none"],
+        b"",
+        1000,
+        "",
+        "uahist: settings file can't be read\n",
+        2,
+    ),
+    (
+        &[
+            "uahist",
+            "history",
+            "--settings=good",
+            "--node=i=1",
+            "--html",
+        ],
+        b"",
+        5000,
+        "<!DOCTYPE html>\n<html lang=\"en\">\n<head>\n<meta charset=\"utf-8\">\n",
+        "",
+        0,
     ),
 ];
 
@@ -1211,6 +1310,16 @@ fn runs_and_reports(rt: HostRuntime) {
 #[test]
 fn imports_and_reports(rt: HostRuntime) {
     for (words, input, room, printed, said, status) in IMPORTS {
+        assert!(rt;
+            is_run(rt.alloc(), words, input, room, printed, said, status),
+            "{said}"
+        );
+    }
+}
+
+#[test]
+fn checks_and_reports(rt: HostRuntime) {
+    for (words, input, room, printed, said, status) in CHECKS {
         assert!(rt;
             is_run(rt.alloc(), words, input, room, printed, said, status),
             "{said}"

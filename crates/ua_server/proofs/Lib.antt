@@ -14,4 +14,3 @@ pub mod Hexing
 pub mod SingleParts
 pub mod FromWhere
 pub mod Passwords
-pub mod ImportLemmas

@@ -21,15 +21,17 @@ use Rattle.history_report.specs.declared.fault.ReportFault.{ReportFault}
 use Rattle.history_report.specs.declared.fault.ReportFault.TheVariants as report
 use Rattle.ua_server.specs.declared.histories.OptionFault.{OptionFault}
 use Rattle.ua_server.specs.declared.histories.OptionFault.TheVariants.{Node, From, To}
-use Rattle.ua_server.specs.Histories.{moment_asked, report_asked, PrintsHistory}
-use Rattle.command_line.specs.declared.line.Line.TheVariants.{Answer, Serve, Dump, Sync, History, Import}
+use Rattle.ua_server.specs.Histories.{form_asked, moment_asked, report_asked, PrintsHistory}
+use Rattle.command_line.specs.declared.line.Line.TheVariants.{Answer, Serve, Dump, Sync, History, Import, Check}
 use Rattle.command_line.specs.declared.line.HistoryWords.{HistoryWords}
-use Rattle.command_line.specs.declared.line.ImportWords.{ImportWords}
 use Rattle.history_import.specs.declared.counts.Counts.{Counts}
 use Rattle.history_import.specs.declared.fault.ImportFault.{ImportFault}
 use Rattle.history_import.specs.declared.fault.ImportFault.TheVariants as rows
 use Rattle.history_import.specs.Rows.{may_write}
-use Rattle.ua_server.specs.Importing.{Importing, ImportsFor, WritesRows, import_refusal, import_told}
+use Rattle.ua_server.specs.Importing.{import_refusal, import_told}
+use Rattle.settings_check.specs.declared.fault.CheckFault.{CheckFault}
+use Rattle.settings_check.specs.declared.fault.CheckFault.TheVariants as check
+use Rattle.ua_server.specs.Checking.{check_fault}
 use Rattle.command_line.specs.declared.line.Line.{Line as CommandLine}
 use Rattle.command_line.specs.declared.line.LineFault.{LineFault}
 use Rattle.command_line.specs.declared.line.LineFault.TheVariants.{Words, OutOfMemory as NoMemory}
@@ -39,7 +41,8 @@ use Rattle.archive.specs.Store.{Store}
 use Rattle.ua_server.specs.Host.{Machine, KnownMachine}
 use Rattle.conversation.specs.declared.door.Door.TheVariants.{Both, Clients, Peers}
 use Rattle.ua_server.specs.Network.{Readings, Serving}
-use Rattle.ua_server.specs.Program.{SettingsAt, FindsNoPlace, OpensBy, CallsPeer, Calling, Scene, PrintsSynced, Shows, Findings, IsMistaken, DoesCommand, DoesLine, Runs, importing_in, makes_store, settings_path}
+use Rattle.ua_server.specs.Program.{SettingsAt, FindsNoPlace, OpensBy, CallsPeer, Calling, Scene, PrintsSynced, Shows, Findings, IsMistaken, DoesCommand, DoesLine, Runs, OpensUnless, line_refusal, settings_path, store_use}
+use Rattle.ua_server.specs.declared.program.StoreUse.{StoreUse}
 use Rattle.ua_server.specs.Telling.{Known, dump_fault, fault_of, report_fault}
 use Rattle.ua_server.proofs.ProgramParts.{IsUnbegun}
 
@@ -75,15 +78,32 @@ unset machine (Some path) fault old new (Some text, between, read, inr (Ok None,
 unset machine (Some path) fault old new (Some text, between, read, inr (Err e, reads, same)) =
     absurd cc
 
+-- a command is refused by its settings, or its archive can't be opened, not as such a line
+unopened-with : {H A L R W : Type 0} (machine : Machine H A L R W) (held : A → Store)
+    (uses : StoreUse) (refusal : Option ProgramFault) (settings : SettingsValues)
+    (fault : LineFault) (old new : H)
+    → ((why : ProgramFault) → refusal ≡ Some why → why ≡ Line fault → ⊥)
+    → OpensUnless machine held uses refusal settings (Err (Line fault)) old new → ⊥
+unopened-with machine held uses (Some why) settings fault old new never (is, stays) =
+    let same : why ≡ Line fault = cc in never why refl same
+unopened-with machine held uses None settings fault old new never (Ok archive, opens, is) =
+    absurd cc
+unopened-with machine held uses None settings fault old new never (Err cause, opens, is) =
+    absurd cc
+
 -- and then nothing was opened
 unopened : {H A L R W : Type 0} (machine : Machine H A L R W) (held : A → Store)
-    (makes : Bool) (path : Option (List ℕ)) (fault : LineFault) (old new : H)
-    → OpensBy machine held makes path (Err (Line fault)) old new → IsUnbegun fault × (new ≡ old)
-unopened machine held makes path fault old new
-    (Ok known, between, set, (Ok archive, opens, same)) = absurd cc
-unopened machine held makes path fault old new
-    (Ok known, between, set, (Err cause, opens, same)) = absurd cc
-unopened machine held makes path fault old new (Err cause, between, set, (same, stays)) =
+    (uses : StoreUse) (refused_by : SettingsValues → Option ProgramFault)
+    (path : Option (List ℕ)) (fault : LineFault) (old new : H)
+    → ((settings : SettingsValues) (why : ProgramFault) → refused_by settings ≡ Some why
+    → why ≡ Line fault → ⊥)
+    → OpensBy machine held uses refused_by path (Err (Line fault)) old new
+    → IsUnbegun fault × (new ≡ old)
+unopened machine held uses refused_by path fault old new never (Ok known, between, set, opens) =
+    absurd (unopened-with machine held uses (refused_by known) known fault between new (never known)
+    opens)
+unopened machine held uses refused_by path fault old new never
+    (Err cause, between, set, (same, stays)) =
     let is : cause ≡ Line fault = cc in
     let u =
     unset machine path fault old between
@@ -129,7 +149,13 @@ answer_of node from to words = do
   n ← ok_or node (BadOption Node)
   f ← from
   t ← to
-  Ok (record { node = n; from = f; to = t; changes = words.changes; csv = words.csv })
+  Ok (record {
+    node = n;
+    from = f;
+    to = t;
+    changes = words.changes;
+    form = form_asked words;
+  })
 
 words-line : (node : Option NodeId) (from to : Result (Option ℤ) ProgramFault)
     (words : HistoryWords) (line : LineFault) → (from ≡ Err (Line line) → ⊥)
@@ -171,7 +197,7 @@ imported-line (Err rows.Read) line same = cc
 imported-line (Err rows.Write) line same = cc
 imported-line (Err rows.OutOfMemory) line same = cc
 
--- nor is one that is refused as a whole
+-- nor is an import that is refused as a whole
 stored-line : (store : Option (List ℕ)) (fault : ProgramFault) (line : LineFault)
     → (elim store [ None ↦ Some NoStore | Some path ↦ None ]) ≡ Some fault → fault ≡ Line line → ⊥
 stored-line None fault line is same = let both : Some NoStore ≡ Some (Line line) =
@@ -190,25 +216,19 @@ whole-line : (settings : SettingsValues) (user : List ℕ) (fault : ProgramFault
 whole-line settings user fault line is same =
     judged-line (may_write settings.users user) settings.store fault line is same
 
-refused-import : {A C : Type 0} (held : A → Store) (gave : Readings C) (settings : SettingsValues)
-    (words : ImportWords) (old new : Importing A C) (line : LineFault) (refusal : Option ProgramFault)
-    → ((fault : ProgramFault) → refusal ≡ Some fault → fault ≡ Line line → ⊥)
-    → elim refusal as (λ _. Type 0) [
-      | Some fault ↦ ◌≡◌ {A = Result (Unit {0}) ProgramFault} (Err (Line line)) (Err fault)
-          × (new ≡ old)
-      | None ↦ WritesRows held gave settings words old new (Err (Line line))
-    ] → ⊥
-refused-import held gave settings words old new line (Some fault) never (is, stays) =
-    let same : fault ≡ Line line = cc in never fault refl same
-refused-import held gave settings words old new line None never (reading, given, ended, imports, is) =
-    imported-line ended line is
+-- a command that its settings refuse isn't told so
+refused-line : (line : CommandLine) (settings : SettingsValues) (why : ProgramFault)
+    (fault : LineFault) → line_refusal line settings ≡ Some why → why ≡ Line fault → ⊥
+refused-line (Import path words) settings why fault is same =
+    whole-line settings words.user.now why fault is same
+refused-line _ settings why fault is same = absurd cc
 
-import-line : {A C : Type 0} (held : A → Store) (gave : Readings C) (settings : SettingsValues)
-    (words : ImportWords) (old new : Importing A C) (line : LineFault)
-    → ImportsFor held gave settings words old new (Err (Line line)) → ⊥
-import-line {A} {C} held gave settings words old new line =
-    refused-import held gave settings words old new line (import_refusal settings words.user.now)
-    (λ fault is. whole-line settings words.user.now fault line is)
+-- nor is a check
+checked-line : (told : Result (Unit {0}) CheckFault) (line : LineFault)
+    → Err (Line line) ≡ result_map_both (λ done. done) check_fault told → ⊥
+checked-line (Ok done) line same = cc
+checked-line (Err check.Write) line same = cc
+checked-line (Err check.OutOfMemory) line same = cc
 
 synced-line : (old written : Option (List ℕ)) (synced : Result Synced SyncFault) (line : LineFault)
     → PrintsSynced old written synced (Err (Line line)) → ⊥
@@ -254,9 +274,10 @@ never-line known gave told (Sync path peer) settings first last old new fault (s
     (record { host = new.host; archive = last; written = new.written }) fault so
 never-line known gave told (History path words) settings first last old new fault (same, so) =
     history-line known.held words first last old.written new.written fault so
-never-line known gave told (Import path words) settings first last old new fault (same, so) =
-    import-line known.held gave settings words (importing_in first old) (importing_in last new)
-    fault so
+never-line known gave told (Import path words) settings first last old new fault
+    (same, (reading, given, ended, imports, is)) = imported-line ended fault is
+never-line known gave told (Check path) settings first last old new fault
+    (stays, same, (checked, prints, is)) = checked-line checked fault is
 
 -- a line that ends as a refused one: its settings were refused so, and nothing was done
 by-line : {C E : Type 0} (known : KnownMachine) (gave : Readings C) (told : Known E)
@@ -269,11 +290,11 @@ by-line known gave told line old new fault
 by-line {C} {E} known gave told line old new fault (Err cause, opened, opens, (same, stays)) =
     let is : cause ≡ Line fault = cc in
     let P : ProgramFault → Type 0 = λ f.
-    OpensBy known.machine known.held (makes_store line) (settings_path line) (Err f) old.host
-    opened in
+    OpensBy known.machine known.held (store_use line) (line_refusal line) (settings_path line)
+    (Err f) old.host opened in
     let u =
-    unopened known.machine known.held (makes_store line) (settings_path line) fault old.host opened
-    (subst P is opens) in
+    unopened known.machine known.held (store_use line) (line_refusal line) (settings_path line) fault
+    old.host opened (λ settings why. refused-line line settings why fault) (subst P is opens) in
     let at : known.Host → Scene known.Host C E = λ host. record old { host = host } in
     (u.0, stays ∙ ap at u.1)
 
@@ -292,44 +313,7 @@ line-done found known gave told line old new (Ok done) free is so = inl (free, (
 line-done found known gave told line old new (Err (Line fault)) free is so =
     let b = by-line known gave told line old new fault so in
     (only-memory found fault b.0, b.1)
-line-done found known gave told line old new (Err File) free is so =
-    inl (free, (line, is, so))
-line-done found known gave told line old new (Err (Settings fault place)) free is so =
-    inl (free, (line, is, so))
-line-done found known gave told line old new (Err (program.Store fault)) free is so =
-    inl (free, (line, is, so))
-line-done found known gave told line old new (Err BadHex) free is so =
-    inl (free, (line, is, so))
-line-done found known gave told line old new (Err Address) free is so =
-    inl (free, (line, is, so))
-line-done found known gave told line old new (Err DoorAddress) free is so =
-    inl (free, (line, is, so))
-line-done found known gave told line old new (Err (DoorNetwork number)) free is so =
-    inl (free, (line, is, so))
-line-done found known gave told line old new (Err (PeerAddress number)) free is so =
-    inl (free, (line, is, so))
-line-done found known gave told line old new (Err (Connection fault)) free is so =
-    inl (free, (line, is, so))
-line-done found known gave told line old new (Err (program.Call fault)) free is so =
-    inl (free, (line, is, so))
-line-done found known gave told line old new (Err (program.Exchange fault)) free is so =
-    inl (free, (line, is, so))
-line-done found known gave told line old new (Err (program.Peer number)) free is so =
-    inl (free, (line, is, so))
-line-done found known gave told line old new (Err (BadOption fault)) free is so =
-    inl (free, (line, is, so))
-line-done found known gave told line old new (Err NoText) free is so =
-    inl (free, (line, is, so))
-line-done found known gave told line old new (Err BadUser) free is so =
-    inl (free, (line, is, so))
-line-done found known gave told line old new (Err NoStore) free is so =
-    inl (free, (line, is, so))
-line-done found known gave told line old new (Err NoHeader) free is so =
-    inl (free, (line, is, so))
-line-done found known gave told line old new (Err UnreadRows) free is so =
-    inl (free, (line, is, so))
-line-done found known gave told line old new (Err (RowsRefused number)) free is so =
-    inl (free, (line, is, so))
+line-done found known gave told line old new (Err _) free is so = inl (free, (line, is, so))
 
 -- a text that was asked for was printed, and nothing else was done
 pub text-shown : {C E : Type 0} (found : Findings) (known : KnownMachine) (gave : Readings C)
@@ -338,33 +322,7 @@ pub text-shown : {C E : Type 0} (found : Findings) (known : KnownMachine) (gave 
 text-shown found known gave told old new (Ok done) may so = inr (may, so)
 text-shown found known gave told old new (Err (Line fault)) may so =
     let is = so.1.0 in absurd cc
-text-shown found known gave told old new (Err File) may so = let is = so.1.0 in absurd cc
-text-shown found known gave told old new (Err (Settings fault place)) may so = let is = so.1.0 in
-    absurd cc
-text-shown found known gave told old new (Err (program.Store fault)) may so = let is = so.1.0 in
-    absurd cc
-text-shown found known gave told old new (Err BadHex) may so = let is = so.1.0 in absurd cc
-text-shown found known gave told old new (Err Address) may so = let is = so.1.0 in absurd cc
-text-shown found known gave told old new (Err DoorAddress) may so = let is = so.1.0 in absurd cc
-text-shown found known gave told old new (Err (DoorNetwork number)) may so =
-    let is = so.1.0 in absurd cc
-text-shown found known gave told old new (Err (PeerAddress number)) may so =
-    let is = so.1.0 in absurd cc
 text-shown found known gave told old new (Err (Connection fault)) may so = inr (may, so)
-text-shown found known gave told old new (Err (program.Call fault)) may so = let is = so.1.0 in
-    absurd cc
-text-shown found known gave told old new (Err (program.Exchange fault)) may so = let is = so.1.0 in
-    absurd cc
-text-shown found known gave told old new (Err (program.Peer number)) may so = let is = so.1.0 in
-    absurd cc
-text-shown found known gave told old new (Err (BadOption fault)) may so = let is = so.1.0 in
-    absurd cc
-text-shown found known gave told old new (Err NoText) may so = let is = so.1.0 in absurd cc
-text-shown found known gave told old new (Err BadUser) may so = let is = so.1.0 in absurd cc
-text-shown found known gave told old new (Err NoStore) may so = let is = so.1.0 in absurd cc
-text-shown found known gave told old new (Err NoHeader) may so = let is = so.1.0 in absurd cc
-text-shown found known gave told old new (Err UnreadRows) may so = let is = so.1.0 in absurd cc
-text-shown found known gave told old new (Err (RowsRefused number)) may so = let is = so.1.0 in
-    absurd cc
+text-shown found known gave told old new (Err _) may so = let is = so.1.0 in absurd cc
 
 pub ruleset lines = (line-done, text-shown)

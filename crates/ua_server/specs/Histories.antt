@@ -1,5 +1,5 @@
 -- What the command `history` prints.
-use Rattle.std.specs.Prelude.{◌≡◌, ◌⊎◌, ℤ, List, ℕ, Option, None, Some, option_copied, ok_or, Result, Ok, Err}
+use Rattle.std.specs.Prelude.{◌≡◌, ◌⊎◌, ℤ, List, ℕ, Option, None, Some, option_copied, ok_or, if◌then◌else◌, Result, Ok, Err}
 use Rattle.std.specs.Result.{result_map_both}
 use Rattle.ua_binary.specs.Format.{◌>>=◌}
 use Rattle.counted_io.specs.declared.fault.ServeFault.TheVariants.{OutOfMemory}
@@ -8,6 +8,8 @@ use Rattle.history_csv.specs.Nodes.{node_in}
 use Rattle.history_csv.specs.Rows.{moment_in}
 use Rattle.history_report.specs.Reports.{Prints}
 use Rattle.history_report.specs.declared.report.Report.{Report}
+use Rattle.history_report.specs.declared.report.Form.{Form}
+use Rattle.history_report.specs.declared.report.Form.TheVariants.{Table, Csv, Page}
 use Rattle.history_report.specs.declared.fault.ReportFault.{ReportFault}
 use Rattle.command_line.specs.declared.line.HistoryWords.{HistoryWords}
 use Rattle.ua_server.specs.declared.program.ProgramFault.{ProgramFault}
@@ -22,6 +24,10 @@ abbrev pub moment_asked : OptionFault → Option (List ℕ) → Result (Option �
 moment_asked fault None = Ok None
 moment_asked fault (Some text) = ok_or (moment_in text) (BadOption fault) >>= λ time. Ok (Some time)
 
+-- the form that the words of a line ask for: a page where they ask for CSV too
+abbrev pub form_asked : HistoryWords → Form
+form_asked asked = if asked.html then Page else if asked.csv then Csv else Table
+
 -- The report that the words of a line ask for. Of its node, its first time and its last one the
 -- first is told whose text says none.
 abbrev pub report_asked : HistoryWords → Result Report ProgramFault
@@ -29,7 +35,13 @@ report_asked asked = do
   node ← ok_or (node_in asked.node.now) (BadOption Node)
   from ← moment_asked From (option_copied asked.from)
   to ← moment_asked To (option_copied asked.to)
-  Ok (record { node = node; from = from; to = to; changes = asked.changes; csv = asked.csv })
+  Ok (record {
+    node = node;
+    from = from;
+    to = to;
+    changes = asked.changes;
+    form = form_asked asked;
+  })
 
 -- this was answered, unless memory for it was wanting
 abbrev pub IsAskedOrStarved : Result Report ProgramFault → Result Report ProgramFault → Type 0

@@ -51,8 +51,8 @@ import_told (Ok counts) =
     if counts.refused == 0 then Ok tt else Err (RowsRefused counts.refused)
 import_told (Err why) = Err (import_fault why)
 
--- what rows are written over: the archive, what is unread of the input and written to the output, as
--- far as that is known, and the clock
+-- what rows are written over: the archive, what is unread of the input and written to the output,
+-- as far as that is known, and the clock
 abbrev pub Importing : (A C : Type 0) → Type 0
 Importing A C =
     record { archive : A; unread : Option (List ℕ); written : Option (List ℕ); clock : C }
@@ -72,12 +72,3 @@ abbrev pub import_refusal : SettingsValues → List ℕ → Option ProgramFault
 import_refusal settings user =
     if may_write settings.users user
     then (elim settings.store [ None ↦ Some NoStore | Some path ↦ None ]) else Some BadUser
-
--- the rows of the input were written; or an import is refused as a whole, and nothing was done
-abbrev pub ImportsFor : {A C : Type 0} → (A → Store) → Readings C → SettingsValues → ImportWords
-    → (old new : Importing A C) → Result (Unit {0}) ProgramFault → Type 0
-ImportsFor held gave settings words old new result =
-    elim (import_refusal settings words.user.now) [
-      | Some fault ↦ (result ≡ Err fault) × (new ≡ old)
-      | None ↦ WritesRows held gave settings words old new result
-    ]

@@ -3,6 +3,7 @@ pub mod Either
 pub mod Hexed
 pub mod Histories
 pub mod Importing
+pub mod Checking
 pub mod Single
 pub mod Listening
 pub mod Host

@@ -44,11 +44,15 @@ use Rattle.clap.specs.Takes.{takes}
 use Rattle.clap.specs.Faults.{fault_of as fault_kinds}
 use Rattle.clap.specs.declared.error.ErrorKind.{ErrorKind}
 use Rattle.command_line.specs.declared.line.Line.{Line as CommandLine}
-use Rattle.command_line.specs.declared.line.Line.TheVariants.{Answer, Serve, Dump, Sync, History, Import}
+use Rattle.command_line.specs.declared.line.Line.TheVariants.{Answer, Serve, Dump, Sync, History, Import, Check}
 use Rattle.command_line.specs.declared.line.HistoryWords.{HistoryWords}
 use Rattle.command_line.specs.declared.line.ImportWords.{ImportWords}
 use Rattle.ua_server.specs.Histories.{PrintsHistory}
-use Rattle.ua_server.specs.Importing.{Importing, ImportsFor}
+use Rattle.ua_server.specs.Importing.{Importing, WritesRows, import_refusal}
+use Rattle.ua_server.specs.Checking.{TellsSettings}
+use Rattle.ua_server.specs.declared.program.StoreUse.{StoreUse}
+use Rattle.ua_server.specs.declared.program.StoreUse.TheVariants.{Leaves, Opens, Makes}
+use Rattle.ua_session.specs.Users.{IsUserName}
 use Rattle.command_line.specs.declared.line.LineFault.TheVariants.{Words, OutOfMemory as NoMemory}
 use Rattle.command_line.specs.Line.{AsksForText, IsLine, MayAskForText, uahist}
 
@@ -115,36 +119,52 @@ OpensNothing held settings opening old new =
     IfOk opening (λ first. HoldsNothing settings.archive settings.replica (held first))
     × (new ≡ old)
 
--- the archive of the store at a path; or, for a command that makes no store, one in memory that
--- holds nothing, where none stands there
-abbrev pub OpensStore : {H A L R W : Type 0} → Machine H A L R W → (A → Store) → (makes : Bool)
+-- the archive of the store at a path; for a command that leaves it alone, or that makes none where
+-- none stands there, one in memory that holds nothing
+abbrev pub OpensStore : {H A L R W : Type 0} → Machine H A L R W → (A → Store) → StoreUse
     → SettingsValues → (path : List ℕ) → Result A StoreFault → (old new : H) → Type 0
-OpensStore machine held makes settings path opening old new =
-    ((makes ≡ false → machine.stands old path true)
-    × machine.opens old path settings.archive settings.replica opening new)
-    ⊎ ((makes ≡ false) × machine.stands old path false
-    × OpensNothing held settings opening old new)
+OpensStore machine held uses settings path opening old new =
+    let opens = machine.opens old path settings.archive settings.replica opening new in
+    let opens_nothing = OpensNothing held settings opening old new in
+    elim uses [
+      | Leaves ↦ opens_nothing
+      | Opens ↦ (machine.stands old path true × opens)
+          ⊎ (machine.stands old path false × opens_nothing)
+      | Makes ↦ opens
+    ]
 
 -- the archive of the settings, or why it can't be opened: that of their store, or one in memory
 -- that holds nothing where they name none
-abbrev pub OpensArchive : {H A L R W : Type 0} → Machine H A L R W → (A → Store)
-    → (makes : Bool) → SettingsValues → Option (List ℕ) → Result A StoreFault → (old new : H)
-    → Type 0
-OpensArchive machine held makes settings path opening old new =
+abbrev pub OpensArchive : {H A L R W : Type 0} → Machine H A L R W → (A → Store) → StoreUse
+    → SettingsValues → Option (List ℕ) → Result A StoreFault → (old new : H) → Type 0
+OpensArchive machine held uses settings path opening old new =
     elim path [
       | None ↦ OpensNothing held settings opening old new
-      | Some path ↦ OpensStore machine held makes settings path opening old new
+      | Some path ↦ OpensStore machine held uses settings path opening old new
     ]
 
--- the settings that a path gives, and their archive; or why they or it are refused
-abbrev pub OpensBy : {H A L R W : Type 0} → Machine H A L R W → (A → Store) → (makes : Bool)
-    → Option (List ℕ) → Result (SettingsValues × A) ProgramFault → (old new : H) → Type 0
-OpensBy {H} {A} machine held makes path result old new =
+-- settings with their archive, or why that can't be opened; where a command is refused by them,
+-- nothing is opened
+abbrev pub OpensUnless : {H A L R W : Type 0} → Machine H A L R W → (A → Store) → StoreUse
+    → Option ProgramFault → SettingsValues → Result (SettingsValues × A) ProgramFault
+    → (old new : H) → Type 0
+OpensUnless {H} {A} machine held uses refusal settings result old new =
+    elim refusal [
+      | Some fault ↦ (result ≡ Err fault) × (new ≡ old)
+      | None ↦ (opening : Result A StoreFault)
+          × OpensArchive machine held uses settings settings.store opening old new
+          × (result ≡ result_map_both (λ archive. (settings, archive)) program.Store opening)
+    ]
+
+-- the settings that a path gives, and their archive; or why they, a command by them, or it are
+-- refused
+abbrev pub OpensBy : {H A L R W : Type 0} → Machine H A L R W → (A → Store) → StoreUse
+    → (refused_by : SettingsValues → Option ProgramFault) → Option (List ℕ)
+    → Result (SettingsValues × A) ProgramFault → (old new : H) → Type 0
+OpensBy {H} {A} machine held uses refused_by path result old new =
     (settings : Result SettingsValues ProgramFault) × (between : H)
     × SettingsAt machine path settings old between × elim settings [
-      | Ok known ↦ (opening : Result A StoreFault)
-          × OpensArchive machine held makes known known.store opening between new
-          × (result ≡ result_map_both (λ archive. (known, archive)) program.Store opening)
+      | Ok known ↦ OpensUnless machine held uses (refused_by known) known result between new
       | Err fault ↦ (result ≡ Err fault) × (new ≡ between)
     ]
 
@@ -322,8 +342,15 @@ abbrev pub DoesImporting : {C E : Type 0} → (known : KnownMachine) → Reading
     → Result (Unit {0}) ProgramFault → Type 0
 DoesImporting known gave settings words first last old new result =
     (new ≡ record old { unread = new.unread; written = new.written; clock = new.clock })
-    × ImportsFor known.held gave settings words (importing_in first old) (importing_in last new)
+    × WritesRows known.held gave settings words (importing_in first old) (importing_in last new)
     result
+
+-- `check`: what the settings say is told
+abbrev pub DoesChecking : {A H C E : Type 0} → SettingsValues → (first last : A)
+    → (old new : Scene H C E) → Result (Unit {0}) ProgramFault → Type 0
+DoesChecking settings first last old new result =
+    (last ≡ first) × (new ≡ record old { written = new.written })
+    × TellsSettings settings old.written new.written result
 
 -- the path of a command's settings
 abbrev pub settings_path : CommandLine → Option (List ℕ)
@@ -335,11 +362,28 @@ settings_path line =
       | Sync path peer ↦ Some path.now
       | History path words ↦ Some path.now
       | Import path words ↦ Some path.now
+      | Check path ↦ Some path.now
     ]
 
--- a command makes its store where there is none; those that only print make none
-abbrev pub makes_store : CommandLine → Bool
-makes_store line = elim line [ Dump path ↦ false | History path words ↦ false | _ ↦ true ]
+-- what a command does with its store: those that only print make none, and one that only tells of
+-- the settings leaves it alone
+abbrev pub store_use : CommandLine → StoreUse
+store_use line =
+    elim line [
+      | Dump path ↦ Opens
+      | History path words ↦ Opens
+      | Check path ↦ Leaves
+      | _ ↦ Makes
+    ]
+
+-- why a command is refused by its settings, before their store is opened
+abbrev pub line_refusal : CommandLine → SettingsValues → Option ProgramFault
+line_refusal line settings =
+    elim line [ Import path words ↦ import_refusal settings words.user.now | _ ↦ None ]
+
+-- a command that writes in a user's name has one that a user may have
+abbrev pub HasUserName : CommandLine → Type 0
+HasUserName line = elim line [ Import path words ↦ IsUserName words.user.now | _ ↦ Unit {0} ]
 
 -- a command is done over the archive of its settings
 abbrev pub DoesCommand : {C E : Type 0} → (known : KnownMachine) → Readings C → Known E
@@ -354,6 +398,7 @@ DoesCommand known gave told line settings first last old new result =
       | Sync path peer ↦ DoesSyncing known peer.now first last old new result
       | History path words ↦ DoesHistory known words first last old new result
       | Import path words ↦ DoesImporting known gave settings words first last old new result
+      | Check path ↦ DoesChecking settings first last old new result
     ]
 
 -- a command is done over an archive, which is closed then
@@ -369,10 +414,11 @@ DoesAndCloses known gave told line settings first old new result =
 abbrev pub OpensFor : (known : KnownMachine) → CommandLine
     → Result (SettingsValues × known.Archive) ProgramFault → (old new : known.Host) → Type 0
 OpensFor known line opening old new =
-    OpensBy known.machine known.held (makes_store line) (settings_path line) opening old new
+    OpensBy known.machine known.held (store_use line) (line_refusal line) (settings_path line)
+    opening old new
 
--- a command is done over the archive of its settings; or nothing else is, where they or their
--- archive are refused
+-- a command is done over the archive of its settings; or nothing else is, where they, it by them,
+-- or their archive are refused
 abbrev pub DoesLine : {C E : Type 0} → (known : KnownMachine) → Readings C → Known E → CommandLine
     → (old new : Scene known.Host C E) → Result (Unit {0}) ProgramFault → Type 0
 DoesLine known gave told line old new result =

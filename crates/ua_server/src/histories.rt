@@ -3,7 +3,7 @@
 ghost use Rattle.std.specs.Prelude.{◌≡◌, ◌⊎◌, IsErrOf, ok_or, option_copied, Err};
 ghost use Rattle.counted_io.specs.Bytes.{counted};
 ghost use Rattle.history_csv.specs.Nodes.{node_in};
-ghost use Rattle.ua_server.specs.Histories.{moment_asked, report_asked, IsAskedOrStarved, PrintsHistory};
+ghost use Rattle.ua_server.specs.Histories.{form_asked, moment_asked, report_asked, IsAskedOrStarved, PrintsHistory};
 ghost use Rattle.ua_server.specs.Telling.{report_fault};
 
 use crate::program::ProgramFault;
@@ -12,7 +12,7 @@ use command_line::HistoryWords;
 use counted_io::{Counted, ServeFault};
 use historian::Server;
 use history_csv::{RowFault, read_moment, read_node};
-use history_report::{Report, ReportFault, print_report};
+use history_report::{Form, Report, ReportFault, print_report};
 use records::Moment;
 use std::alloc::Global;
 use std::io::Write;
@@ -73,6 +73,19 @@ fn moment_asked(text: Option<&str>, fault: OptionFault) -> Result<Option<Moment>
     }
 }
 
+/// The form that the words of a line ask for: a page where they ask for CSV too.
+fn form_asked(asked: &HistoryWords<'_>) -> Form
+    ensures { result ≡ form_asked asked.now }
+{
+    if asked.html {
+        Form::Page
+    } else if asked.csv {
+        Form::Csv
+    } else {
+        Form::Table
+    }
+}
+
 /// The report that the words of a line ask for.
 fn report_asked(alloc: Global, asked: HistoryWords<'_>) -> Result<Report, ProgramFault>
     ensures says { IsAskedOrStarved (report_asked asked.entry) result }
@@ -87,7 +100,7 @@ fn report_asked(alloc: Global, asked: HistoryWords<'_>) -> Result<Report, Progra
         from,
         to,
         changes: asked.changes,
-        csv: asked.csv,
+        form: form_asked(&asked),
     })
 }
 

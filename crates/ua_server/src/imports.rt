@@ -2,7 +2,7 @@
 
 ghost use Rattle.std.specs.Prelude.{◌≡◌, IsErrOf, None};
 ghost use Rattle.counted_io.specs.Bytes.{counted};
-ghost use Rattle.ua_server.specs.Importing.{ImportsFor, import_refusal, import_told, perform_of};
+ghost use Rattle.ua_server.specs.Importing.{WritesRows, import_refusal, import_told, perform_of};
 ghost use Rattle.ua_session.specs.Users.{IsUserName};
 
 use crate::program::ProgramFault;
@@ -48,8 +48,9 @@ fn import_told(ended: Result<Counts, ImportFault>) -> Result<(), ProgramFault>
     }
 }
 
-/// Why an import in the name of this user is refused as a whole, if it is.
-fn import_refusal(settings: &Settings, user: &str) -> Option<ProgramFault>
+/// Why an import in the name of this user is refused as a whole, if it is: the name isn't one of a user who may write, or
+/// the settings name no store.
+pub(crate) fn import_refusal(settings: &Settings, user: &str) -> Option<ProgramFault>
     ensures why { result ≡ import_refusal settings.now user.now }
     ensures named { result ≡ None → IsUserName user.now }
 {
@@ -62,8 +63,7 @@ fn import_refusal(settings: &Settings, user: &str) -> Option<ProgramFault>
     }
 }
 
-/// Writes the rows of the input into the archive, in the name of a user who may write, as the program tells it; one that is
-/// refused as a whole does nothing.
+/// Writes the rows of the input into the archive, in a user's name, as the program tells it.
 pub(crate) fn import_over<A: Archive, C: Clock, R: Read, W: Write>(
     server: &mut Server<A>,
     clock: &mut C,
@@ -71,10 +71,11 @@ pub(crate) fn import_over<A: Archive, C: Clock, R: Read, W: Write>(
     input: &mut Counted<R>,
     output: &mut Counted<W>,
 ) -> Result<(), ProgramFault>
+    requires user { IsUserName words.entry.user.now }
     ensures read { IsErrOf result (ProgramFault.Connection ServeFault.Read) → ⊥ }
     ensures write { IsErrOf result (ProgramFault.Connection ServeFault.Write)
         → output.new.faults ≡ counted output.old.faults }
-    ensures imports { ImportsFor A.state C.gave server.old.settings words.entry
+    ensures imports { WritesRows A.state C.gave server.old.settings words.entry
         (record {
           archive = server.old.replica.archive;
           unread = R.remaining input.old.inner;
@@ -88,10 +89,6 @@ pub(crate) fn import_over<A: Archive, C: Clock, R: Read, W: Write>(
           clock = clock.new;
         }) result }
 {
-    match import_refusal(&server.settings, words.user) {
-        Some(fault) => return Err(fault),
-        None => {}
-    }
     let reading = Ticks(clock.now());
     let asked = Import {
         user: words.user,

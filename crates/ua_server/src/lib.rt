@@ -1,6 +1,7 @@
 //! An OPC UA server over any reader, writer, clock and archive: connections of clients and of peers, and the program.
 #![tactic(auto)]
 
+mod checks;
 mod connections;
 mod dumps;
 mod either;

@@ -1,6 +1,6 @@
 //! The program, over any reader and writers.
 
-ghost use Rattle.std.specs.Prelude.{◌≡◌, ◌≤◌, IfOk, IfErr, OnOk, OnErr, IsErrOf, map, option_copied, string_bytes, None, length};
+ghost use Rattle.std.specs.Prelude.{◌≡◌, ◌≤◌, IfOk, IfErr, OnOk, OnErr, IsErrOf, map, option_copied, string_bytes, None, Some, length};
 ghost use Rattle.std.specs.Fmt.InlineText.{inline_text};
 ghost use Rattle.std.specs.Result.{result_map_both};
 ghost use Rattle.std.specs.Io.KnownBytes.{Appends};
@@ -9,16 +9,17 @@ ghost use Rattle.ua_connection.specs.Environments.{Environment};
 ghost use Rattle.ua_server.specs.Single.{AnswersAt};
 ghost use Rattle.ua_server.specs.Telling.{fresh_log, exit_status, LogsLine, fault_text, numbered, told_line, error_lines, synced_line, fault_of, dump_fault, sync_fault, place_line};
 ghost use Rattle.ua_server.specs.Host.{known_machine};
-ghost use Rattle.ua_server.specs.Program.{OpensArchive, OpensBy, PrintsSynced, PrintsText, CallsPeer, DoesCommand, DoesAndCloses, DoesLine, Runs, findings_in, makes_store, scene_of, settings_path};
+ghost use Rattle.ua_server.specs.Program.{OpensArchive, OpensBy, PrintsSynced, PrintsText, CallsPeer, DoesCommand, DoesAndCloses, DoesLine, HasUserName, Runs, findings_in, line_refusal, scene_of, settings_path, store_use};
 ghost use Rattle.ua_server.specs.Dumping.{Dumps};
 
+use crate::checks::check_over;
 use crate::connections::serve_at;
 use crate::dumps::{DumpFault, dump};
 use crate::files::settings_at;
 use crate::hexed::HexFault;
 use crate::histories::{OptionFault, history_over};
 use crate::host::Host;
-use crate::imports::import_over;
+use crate::imports::{import_over, import_refusal};
 use crate::log::ErrorLog;
 use crate::single::answer_at;
 use archive::{Archive, StoreFault};
@@ -73,7 +74,7 @@ pub enum ProgramFault {
     BadOption(OptionFault),
     /// A history has a value that has no text.
     NoText,
-    /// Rows are to be written in the name of nobody who may write.
+    /// Rows are to be written in a name that isn't one of a user who may write.
     BadUser,
     /// Rows are to be written where the settings name no store.
     NoStore,
@@ -202,41 +203,61 @@ fn fault_of(fault: HexFault) -> ProgramFault
     }
 }
 
-/// Opens the archive of the settings: that of their file, or one in memory that holds nothing where they name none, or where
-/// none stands there and none is to be made.
+/// What a command does with the store of its settings.
+#[derive(Clone, Copy, Debug, PartialEq, Eq)]
+pub(crate) enum StoreUse {
+    /// It leaves it alone.
+    Leaves,
+    /// It opens it where it stands.
+    Opens,
+    /// It opens it, and makes it where none stands.
+    Makes,
+}
+
+/// Opens the archive of the settings: that of their store, as far as that is used, or one in memory that holds nothing where
+/// they name none.
 fn open_archive<H: Host>(
     settings: &Settings,
-    makes: bool,
+    store_use: StoreUse,
     host: &mut H,
 ) -> Result<H::Archive, StoreFault>
-    ensures { OpensArchive H.means H.Archive.state makes settings.now settings.now.store result
+    ensures { OpensArchive H.means H.Archive.state store_use settings.now settings.now.store result
         host.old host.new }
 {
     let Some(path) = settings.store() else {
         return host.open_in_memory(settings.archive(), settings.replica());
     };
-    if makes || host.has_store(path) {
+    let opens = match store_use {
+        StoreUse::Leaves => false,
+        StoreUse::Opens => host.has_store(path),
+        StoreUse::Makes => true,
+    };
+    if opens {
         host.open_file(path, settings.archive(), settings.replica())
     } else {
         host.open_in_memory(settings.archive(), settings.replica())
     }
 }
 
-/// The server of the settings of the file at a path, where there is one, over the archive that they name, whose store is made
-/// where that is asked for.
+/// The server that a command is done over: of its settings, where it has some, over the archive that they name.
 fn open_server<H: Host>(
     alloc: Global,
-    path: Option<&str>,
-    makes: bool,
+    line: &Line<'_>,
     host: &mut H,
 ) -> Result<Server<H::Archive>, ProgramFault>
-    ensures opens { OpensBy H.means H.Archive.state makes (option_copied path.entry)
+    ensures opens { OpensBy H.means H.Archive.state (store_use line.now) (line_refusal line.now)
+        (settings_path line.now)
         (result_map_both (λ server. (server.settings, server.replica.archive)) (λ fault. fault)
         result) host.old host.new }
+    ensures named { OnOk result (HasUserName line.now) }
     ensures connection { (fault : ServeFault) → IsErrOf result (ProgramFault.Connection fault) → ⊥ }
 {
-    let settings = settings_at(alloc, path, host)?;
-    let archive = open_archive(&settings, makes, host).map_err(ProgramFault::Store)?;
+    let settings = settings_at(alloc, settings_path(line), host)?;
+    match line_refusal(line, &settings) {
+        Some(fault) => return Err(fault),
+        None => {}
+    }
+    let archive = open_archive(&settings, store_use(line), host).map_err(ProgramFault::Store)?;
     Ok(Server::new(alloc, settings, archive))
 }
 
@@ -395,14 +416,34 @@ fn settings_path<'a>(line: &Line<'a>) -> Option<&'a str>
         Line::Sync { settings, .. } => Some(settings),
         Line::History { settings, .. } => Some(settings),
         Line::Import { settings, .. } => Some(settings),
+        Line::Check { settings } => Some(settings),
     }
 }
 
-/// Whether a command makes its store where there is none: those that only print make none.
-fn makes_store(line: &Line<'_>) -> bool
-    ensures { result ≡ makes_store line.now }
+/// What a command does with the store of its settings: those that only print make none, and one that only tells of the
+/// settings leaves it alone.
+fn store_use(line: &Line<'_>) -> StoreUse
+    ensures { result ≡ store_use line.now }
 {
-    !matches!(line, Line::Dump { .. } | Line::History { .. })
+    match line {
+        Line::Dump { .. } | Line::History { .. } => StoreUse::Opens,
+        Line::Check { .. } => StoreUse::Leaves,
+        Line::Answer { .. } | Line::Serve { .. } | Line::Sync { .. } | Line::Import { .. } => {
+            StoreUse::Makes
+        }
+    }
+}
+
+/// Why a command is refused by its settings, before their store is opened.
+fn line_refusal(line: &Line<'_>, settings: &Settings) -> Option<ProgramFault>
+    ensures why { result ≡ line_refusal line.now settings.now }
+    ensures named { result ≡ None → HasUserName line.now }
+    ensures connection { (fault : ServeFault) → result ≡ Some (ProgramFault.Connection fault) → ⊥ }
+{
+    match line {
+        Line::Import { asked, .. } => import_refusal(settings, asked.user),
+        _ => None,
+    }
 }
 
 /// What a run comes to: its ending, and the clock and the standard error that it was given.
@@ -424,7 +465,8 @@ fn do_command<H: Host, C: Clock, R: Read, W: Write, E: Write>(
     input: &mut Counted<R>,
     output: &mut Counted<W>,
 ) -> Result<(), ProgramFault>
-    requires { world.old.log ≡ fresh_log world.old.log.errors }
+    requires log { world.old.log ≡ fresh_log world.old.log.errors }
+    requires user { HasUserName line.entry }
     ensures read { IsErrOf result (ProgramFault.Connection ServeFault.Read)
         → input.new.faults ≡ counted input.old.faults }
     ensures write { IsErrOf result (ProgramFault.Connection ServeFault.Write)
@@ -450,6 +492,7 @@ fn do_command<H: Host, C: Clock, R: Read, W: Write, E: Write>(
         Line::Import { asked, .. } => {
             import_over(&mut world.server, &mut world.clock, asked, input, output)
         }
+        Line::Check { .. } => check_over(&world.server, output),
     }
 }
 
@@ -461,7 +504,8 @@ fn do_over<H: Host, C: Clock, R: Read, W: Write, E: Write>(
     input: &mut Counted<R>,
     output: &mut Counted<W>,
 ) -> Ran<C, E>
-    requires { world.log ≡ fresh_log world.log.errors }
+    requires log { world.log ≡ fresh_log world.log.errors }
+    requires user { HasUserName line.entry }
     ensures read { IsErrOf result.ending (ProgramFault.Connection ServeFault.Read)
         → input.new.faults ≡ counted input.old.faults }
     ensures write { IsErrOf result.ending (ProgramFault.Connection ServeFault.Write)
@@ -512,7 +556,7 @@ fn do_line<H: Host, C: Clock, R: Read, W: Write, E: Write>(
         (scene_of (R.remaining input.new.inner) (W.contents output.new.inner) host.new result.clock
         result.errors) result.ending }
 {
-    match open_server(alloc, settings_path(&line), makes_store(&line), host) {
+    match open_server(alloc, &line, host) {
         Ok(server) => {
             let log = ErrorLog::new(errors);
             let world = World {

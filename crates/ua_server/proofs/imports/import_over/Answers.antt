@@ -3,7 +3,6 @@ use Rattle.std.proofs.lemmas.Int.{to_z-of_z}
 use Rattle.history_import.specs.Imports.{Imports}
 use Rattle.history_import.specs.declared.asked.Import.{Import}
 use Rattle.history_import.specs.declared.asked.Perform.{Perform}
-use Rattle.ua_server.proofs.ImportLemmas.{imports-written}
 use Rattle.ua_server.proofs.imports.import_over.Goals as goal
 
 pub returns-clause-imports : goal.returns-clause-imports
@@ -22,9 +21,7 @@ returns-clause-imports g c =
     Imports first.settings asked (state first.replica.archive) (state last.replica.archive) unread
     before after c.import_rows.result in
     let done = subst (λ (n : ℤ). Q n c.perform_of.result) (to_z-of_z w64 now fits)
-    c.import_rows.ensures.imports in
-    imports-written state g.C.Clock.gave first.settings c.args.words _ _ c.import_told.result
-    c.import_refusal.result c.in-None.is c.import_refusal.ensures.why (
+    c.import_rows.ensures.imports in (
       now,
       c.now.ensures,
       c.import_rows.result,

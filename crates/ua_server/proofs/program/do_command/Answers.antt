@@ -111,3 +111,21 @@ returns-in-Import-clause-does g c =
     c.args.world.now.log.errors)
     c.import_over.result in
     subst P (sym c.in-Import.is) (refl, c.import_over.ensures.imports)
+
+pub returns-in-Check-clause-does : goal.returns-in-Check-clause-does
+returns-in-Check-clause-does g c =
+    let known =
+    known_machine g.H.Host.means g.H.Archive.Archive.state g.H.Source.Source.effects
+    g.H.Source.Reader.NonBlockingRead.input g.H.Source.Writer.NonBlockingWrite.output
+    g.H.Reader.Read.remaining g.H.Writer.Write.contents in
+    let P : CommandLine → Type 0 = λ line.
+    DoesCommand known g.C.Clock.gave g.E.Write.contents line c.args.world.now.server.settings
+    c.args.world.now.server.replica.archive c.args.world.now.server.replica.archive
+    (scene_of (g.R.Read.remaining c.args.input.now.inner)
+    (g.W.Write.contents c.args.output.now.inner) c.args.host.now c.args.world.now.clock
+    c.args.world.now.log.errors)
+    (scene_of (g.R.Read.remaining c.args.input.now.inner)
+    (g.W.Write.contents c.check_over.new.output.inner) c.args.host.now c.args.world.now.clock
+    c.args.world.now.log.errors)
+    c.check_over.result in
+    subst P (sym c.in-Check.is) (refl, refl, c.check_over.ensures.tells)
