@@ -532,7 +532,7 @@ def settings():
              "anonymous_access": 'want "read" or "write"'}
     for what, changed, number, place in cases:
         told = ended(changed, ["dump"])
-        why = {2: "this key has to be there", 4: "there is no such key"}.get(number) or right.get(place.split()[-1], "want a text, or a table of this name")
+        why = {2: "this key has to be there", 4: "there is no such key: want listen, from, replicas or ahead"}.get(number) or right.get(place.split()[-1], "want a text, or a table of this name")
         tell(told == (2, f"settings refused ({number})\nuahist: {place}\nuahist: {why}\n"), f"{what}: settings refused ({number}), {place}, {why}", told)
 
 

@@ -41,6 +41,42 @@ static WANTED: [(&str, &str); 18] = [
     ("every", "want a whole number of seconds from 1 to 86400"),
 ];
 
+/// What is said of a key that its table may not have, by the heading that stands before it.
+static KEYS: [(&str, &str); 7] = [
+    (
+        "[archive] ",
+        "there is no such key: want id, replica or store",
+    ),
+    (
+        "[server] ",
+        "there is no such key: want listen, url, application, namespace, anonymous, anonymous_access, connections or waiting",
+    ),
+    (
+        "[[user]] ",
+        "there is no such key: want name, password, password_file or access",
+    ),
+    ("[[folder]] ", "there is no such key: want id or name"),
+    (
+        "[[variable]] ",
+        "there is no such key: want id, name, type, array or folder",
+    ),
+    ("[[peer]] ", "there is no such key: want address or every"),
+    (
+        "[door] ",
+        "there is no such key: want listen, from, replicas or ahead",
+    ),
+];
+
+/// What is said of the key at a place of the settings that its table may not have.
+fn unknown(place: &str) -> &'static str {
+    match KEYS.iter().find(|(heading, _)| place.starts_with(*heading)) {
+        Some((_, words)) => words,
+        None => {
+            "there is no such table: want [archive], [server], [[user]], [[folder]], [[variable]], [[peer]] or [door]"
+        }
+    }
+}
+
 /// What the key at a place of the settings has to hold.
 fn wanted(place: &str) -> &'static str {
     match WANTED.iter().find(|(key, _)| is_at(place, key)) {
@@ -62,7 +98,7 @@ fn of_settings(fault: SettingsFault, place: &str) -> Option<&'static str> {
     match fault {
         SettingsFault::NotToml => Some("it isn't TOML there"),
         SettingsFault::MissingKey => Some("this key has to be there"),
-        SettingsFault::UnknownKey => Some("there is no such key"),
+        SettingsFault::UnknownKey => Some(unknown(place)),
         SettingsFault::BadValue => Some(wanted(place)),
         SettingsFault::Space(_) if place.ends_with("variables") => Some("want at most 1000"),
         SettingsFault::Space(_) => Some(wanted(place)),
