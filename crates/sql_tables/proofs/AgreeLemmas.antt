@@ -113,10 +113,10 @@ none_passes {A} p (x ∷ xs) e = go (p x) refl e (none_passes p xs)
 abbrev pub first_only : Term
 first_only = lit (Int (pos 1))
 
-abbrev all_of_them : Term
+abbrev pub all_of_them : Term
 all_of_them = lit (Int (negsuc 0))
 
-abbrev by_id : List (Term × Key)
+abbrev pub by_id : List (Term × Key)
 by_id = (col 1 0, ascending Binary) ∷ []
 
 -- ---- rows whose numbers rise
@@ -158,12 +158,12 @@ rising_numbered rows ids rise = go rows ids rise.are rise.rising
 abbrev pub held_in : ℕ → Query
 held_in t = listing (inner t end) [] (col 1 0 ∷ []) by_id all_of_them
 
-currents_held_is : command_in (understood archive_schema currents_held_text)
+pub currents_held_is : command_in (understood archive_schema currents_held_text)
     ≡ Select (record { lets = []; body = held_in 4 }) (codes "rowid" ∷ [])
 unfolding understood everything
 currents_held_is = refl
 
-vectors_held_is : command_in (understood archive_schema vectors_held_text)
+pub vectors_held_is : command_in (understood archive_schema vectors_held_text)
     ≡ Select (record { lets = []; body = held_in 6 }) (codes "origin" ∷ [])
 unfolding understood everything
 vectors_held_is = refl
@@ -172,42 +172,42 @@ abbrev pub wanted_by : (ℕ → List Term) → Query
 wanted_by tests = listing (inner 1 (counted 1 (inner 1 end) (tests 2) end)) (op1 Not (col 2 0) ∷ [])
     (col 1 0 ∷ []) by_id all_of_them
 
-currents_wanted_is : command_in (understood archive_schema currents_wanted_text)
+pub currents_wanted_is : command_in (understood archive_schema currents_wanted_text)
     ≡ Select (record { lets = []; body = wanted_by later_tests }) (codes "rowid" ∷ [])
 unfolding understood everything
 currents_wanted_is = refl
 
-vectors_wanted_is : command_in (understood archive_schema vectors_wanted_text)
+pub vectors_wanted_is : command_in (understood archive_schema vectors_wanted_text)
     ≡ Select (record { lets = []; body = wanted_by newer_tests }) (codes "rowid" ∷ [])
 unfolding understood everything
 vectors_wanted_is = refl
 
-abbrev current_fits : List Term
+abbrev pub current_fits : List Term
 current_fits = eq (col 3 1) (col 1 4) ∷ eq (col 3 2) (col 1 5) ∷ eq (col 3 3) (col 1 6)
     ∷ eq (col 3 4) (col 1 3) ∷ eq (col 3 5) (col 1 1)
     ∷ eq (col 3 6) (op1 ToNumeric (op2 (Compare Ne Binary) (col 1 7) (lit (Int (pos 4)))))
     ∷ eq (col 3 7) (op1 ToNumeric (col 4 0)) ∷ eq (col 3 8) (col 1 9) ∷ []
 
-abbrev lacks_current : Query
+abbrev pub lacks_current : Query
 lacks_current = listing (inner 1
     (counted 1 (inner 1 end) (later_tests 2) (counted 1
     (inner 4 (counted 1 (inner 1 end) (other_tests 4) end)) current_fits end)))
     (op1 Not (col 2 0) ∷ op1 Not (col 3 0) ∷ []) (col 1 1 ∷ []) [] first_only
 
-currents_lack_is : command_in (understood archive_schema currents_lack_text)
+pub currents_lack_is : command_in (understood archive_schema currents_lack_text)
     ≡ Select (record { lets = []; body = lacks_current }) (codes "origin" ∷ [])
 unfolding understood everything
 currents_lack_is = refl
 
-abbrev vector_fits : List Term
+abbrev pub vector_fits : List Term
 vector_fits = eq (col 3 0) (col 1 1) ∷ eq (col 3 2) (col 1 2) ∷ eq (col 3 3) (col 1 3) ∷ []
 
-abbrev lacks_vector : Query
+abbrev pub lacks_vector : Query
 lacks_vector = listing (inner 1
     (counted 1 (inner 1 end) (newer_tests 2) (counted 1 (inner 6 end) vector_fits end)))
     (op1 Not (col 2 0) ∷ op1 Not (col 3 0) ∷ []) (col 1 1 ∷ []) [] first_only
 
-vectors_lack_is : command_in (understood archive_schema vectors_lack_text)
+pub vectors_lack_is : command_in (understood archive_schema vectors_lack_text)
     ≡ Select (record { lets = []; body = lacks_vector }) (codes "origin" ∷ [])
 unfolding understood everything
 vectors_lack_is = refl
@@ -248,13 +248,13 @@ held_rows t db rows ids a rise =
 -- ---- how many follow
 
 module _ (db : Trees) where
-  abbrev later_than : Row → Value
+  abbrev pub later_than : Row → Value
   later_than r = Int (pos
       (min 1 (length (flat_map (λ s.
       cond (list_all (holds ([] ∷ r ∷ s ∷ [])) (later_tests 2)) (([] ∷ r ∷ s ∷ []) ∷ []) [])
       (db 1)))))
 
-  no_later : (r : Row) → is_true (unary Not (later_than r))
+  pub no_later : (r : Row) → is_true (unary Not (later_than r))
       ≡ not (list_any (is_later (columns_of r)) (cells (db 1)))
   no_later r = ap (λ n. is_true (unary Not (Int (pos n))))
       (exists_is (λ s. list_all (holds ([] ∷ r ∷ s ∷ [])) (later_tests 2)) (λ s. [] ∷ r ∷ s ∷ [])
@@ -281,13 +281,13 @@ module _ (db : Trees) where
       ∙ sym (length-map (filter (λ c. not (list_any (is_later c) (cells (db 1)))) (cells (db 1)))
       (current_of (cells (db 1))))
 
-  abbrev newer_than : Row → Value
+  abbrev pub newer_than : Row → Value
   newer_than r = Int (pos
       (min 1 (length (flat_map (λ s.
       cond (list_all (holds ([] ∷ r ∷ s ∷ [])) (newer_tests 2)) (([] ∷ r ∷ s ∷ []) ∷ []) [])
       (db 1)))))
 
-  no_newer : (r : Row) → is_true (unary Not (newer_than r))
+  pub no_newer : (r : Row) → is_true (unary Not (newer_than r))
       ≡ not (list_any (is_newer (columns_of r)) (cells (db 1)))
   no_newer r = ap (λ n. is_true (unary Not (Int (pos n))))
       (exists_is (λ s. list_all (holds ([] ∷ r ∷ s ∷ [])) (newer_tests 2)) (λ s. [] ∷ r ∷ s ∷ [])
@@ -408,11 +408,11 @@ has_mapped f (y ∷ ys) x (inl e) = inl (ap f e)
 has_mapped f (y ∷ ys) x (inr h) = inr (has_mapped f ys x h)
 
 -- a whole number stays one where a number is wanted
-numeric_int : (n : ℤ) → unary ToNumeric (Int n) ≡ Int n
+pub numeric_int : (n : ℤ) → unary ToNumeric (Int n) ≡ Int n
 unfolding unary
 numeric_int n = refl
 
-live_is : (v : Value) (n : ℤ) → v ≡ Int n
+pub live_is : (v : Value) (n : ℤ) → v ≡ Int n
     → (k : ℤ) × (binary (Compare Ne Binary) v (Int (pos 4)) ≡ Int k)
 unfolding binary
 live_is v n e = rw e (one _)
@@ -468,23 +468,23 @@ module _ (db : Trees) where
   abbrev behind : Row → Row → Env
   behind r c = [] ∷ r ∷ (later_than db r ∷ []) ∷ c ∷ []
 
-  abbrev others_of : Row → Row → Value
+  abbrev pub others_of : Row → Row → Value
   others_of r c = Int (pos
       (min 1 (length (flat_map (λ s.
       cond (list_all (holds ([] ∷ r ∷ (later_than db r ∷ []) ∷ c ∷ s ∷ [])) (other_tests 4))
       (([] ∷ r ∷ (later_than db r ∷ []) ∷ c ∷ s ∷ []) ∷ []) []) (db 1)))))
 
-  others_is : (r c : Row) → others_of r c ≡ flag (list_any (is_other (columns_of r)) (cells (db 1)))
+  pub others_is : (r c : Row) → others_of r c ≡ flag (list_any (is_other (columns_of r)) (cells (db 1)))
   others_is r c = ap (λ n. Int (pos n)) (exists_is
       (λ s. list_all (holds ([] ∷ r ∷ (later_than db r ∷ []) ∷ c ∷ s ∷ [])) (other_tests 4))
       (λ s. [] ∷ r ∷ (later_than db r ∷ []) ∷ c ∷ s ∷ []) (is_other (columns_of r))
       (λ s. other_alike r s) (db 1))
 
-  abbrev fits_current : Row → Row → Bool
+  abbrev pub fits_current : Row → Row → Bool
   fits_current r c = list_all (holds
       ([] ∷ r ∷ (later_than db r ∷ []) ∷ c ∷ (others_of r c ∷ []) ∷ [])) current_fits
 
-  abbrev current_count : Row → Value
+  abbrev pub current_count : Row → Value
   current_count r =
       Int (pos (min 1 (length (flat_map
       (λ c. cond (fits_current r c)
@@ -519,7 +519,7 @@ module _ (db : Trees) where
       as_row p q s t u v w x = ap₂ ◌∷◌ p (ap₂ ◌∷◌ q
           (ap₂ ◌∷◌ s (ap₂ ◌∷◌ t (ap₂ ◌∷◌ u (ap₂ ◌∷◌ v (ap₂ ◌∷◌ w (ap (λ y. y ∷ []) x)))))))
 
-  abbrev lacked : Row → Bool
+  abbrev pub lacked : Row → Bool
   lacked r = is_true (unary Not (later_than db r))
       && (is_true (unary Not (current_count r)) && true)
 
@@ -597,10 +597,10 @@ pub record HasNumbers (c : Row) : Type 0 where
   pub tick : is_of kind.Integer (column c 3) ≡ true
 
 module _ (db : Trees) where
-  abbrev fits_vector : Row → Row → Bool
+  abbrev pub fits_vector : Row → Row → Bool
   fits_vector r c = list_all (holds ([] ∷ r ∷ (newer_than db r ∷ []) ∷ c ∷ [])) vector_fits
 
-  abbrev vector_count : Row → Value
+  abbrev pub vector_count : Row → Value
   vector_count r = Int (pos
       (min 1 (length (flat_map (λ c.
       cond (fits_vector r c) (([] ∷ r ∷ (newer_than db r ∷ []) ∷ c ∷ []) ∷ []) []) (db 6)))))
@@ -617,7 +617,7 @@ module _ (db : Trees) where
       (ap (λ y. y ∷ []) (int_equal (column c 3) (column r 3) it.tick
       (ap (λ x. column x 2) it.is) kinds.tick all.2)))
 
-  abbrev lacked_vector : Row → Bool
+  abbrev pub lacked_vector : Row → Bool
   lacked_vector r = is_true (unary Not (newer_than db r))
       && (is_true (unary Not (vector_count r)) && true)
 
@@ -742,7 +742,7 @@ typed_vectors db sound ids = go (db 6) (sound.obeys.rules Datatype).1.1.1.0 ids.
 
 -- ---- all of it
 
-shown_is : (sql : List ℕ) (q : Query) (names : List (List ℕ)) (db : Trees) (rows : List Row)
+pub shown_is : (sql : List ℕ) (q : Query) (names : List (List ℕ)) (db : Trees) (rows : List Row)
     → command_in (understood archive_schema sql) ≡ Select (record { lets = []; body = q }) names
     → ShowsOf sql (record { schema = archive_schema; trees = db }) rows
     → IsAnswer q (overlay db []) [] rows
@@ -812,35 +812,6 @@ module _ (d : Database) (has : d.schema ≡ archive_schema) where
       (shown_is vectors_held_text (held_in 6)
       (codes "origin" ∷ []) d.trees have.rows vectors_held_is have.shown) have.rise in
       (have.many ∙ some.1, some.0)
-
--- ---- the texts may be asked
-
-abbrev MayAsk : List ℕ → Type 0
-MayAsk sql = IsPlain (understood archive_schema sql) × (reads_listing archive_schema sql ≡ false)
-
-pub currents_lack_asked : MayAsk currents_lack_text
-unfolding understood everything
-currents_lack_asked = ((refl, refl), refl)
-
-pub currents_wanted_asked : MayAsk currents_wanted_text
-unfolding understood everything
-currents_wanted_asked = ((refl, refl), refl)
-
-pub currents_held_asked : MayAsk currents_held_text
-unfolding understood everything
-currents_held_asked = ((refl, refl), refl)
-
-pub vectors_lack_asked : MayAsk vectors_lack_text
-unfolding understood everything
-vectors_lack_asked = ((refl, refl), refl)
-
-pub vectors_wanted_asked : MayAsk vectors_wanted_text
-unfolding understood everything
-vectors_wanted_asked = ((refl, refl), refl)
-
-pub vectors_held_asked : MayAsk vectors_held_text
-unfolding understood everything
-vectors_held_asked = ((refl, refl), refl)
 
 -- ---- what a statement shows
 

@@ -1,5 +1,5 @@
 -- What an opening found of currents2 and of vectors makes them hold the rows that follow.
-use Rattle.std.proofs.Common.{◌≡◌, ℕ, ℤ, pos, not, Bool, true, false, List, [], ◌∷◌, length, map, filter, inl, inr, arith, sym, ap, subst, ◌∙◌, IsPermutation, is_eq, Ordering, Result, Ok, Err, OnOk, IfErr, IsTrue}
+use Rattle.std.proofs.Common.{◌≡◌, ℕ, ℤ, pos, not, Bool, true, false, List, [], ◌∷◌, length, map, filter, inl, inr, arith, refl, sym, ap, subst, ◌∙◌, IsPermutation, is_eq, Ordering, Result, Ok, Err, OnOk, IfErr, IsTrue}
 use Rattle.std.specs.List.{list_any, AllByRecursion}
 use Rattle.std.proofs.lemmas.Bool.{true≢false}
 use Rattle.std.proofs.lemmas.List.Elements.{recursion_from_All, All-from_recursion}
@@ -111,20 +111,39 @@ has_vectors db (R, l, stand) there many numbered =
 
 -- ---- one question behind the other
 
+fits_where : (b : Bool) → (b ≡ false → ⊥) → IsTrue b
+fits_where true h = refl
+fits_where false h = absurd (h refl)
+
 pub checked_currents : (a b c d : State) (fit : Bool) (wanted held : ℕ)
     → (HasCleanDisk a → IsFilled a.now.trees)
-    → LeavesUnchanged a b (Ok fit) (λ f. IsTrue f
+    → LeavesUnchanged a b (Ok fit) (λ f. (IsTrue f
     → HasEach (map current_columns (a.now.trees 4)) (currents_of (cells (a.now.trees 1))))
+    × (f ≡ false → HasCurrents a.now.trees → ⊥))
     → LeavesUnchanged b c (Ok wanted) (λ n. n ≡ length (currents_of (cells (b.now.trees 1))))
     → LeavesUnchanged c d (Ok held) (λ n. (n ≡ length (c.now.trees 4))
     × AreNumbered (c.now.trees 4)) → (r : Result Unit StoreFault)
     → OnOk r (IsTrue fit × (wanted ≡ held)) → IfErr r (λ f. IsOfOpening f → ⊥)
+    → IfErr r (λ _. IsTrue fit → wanted ≡ held → ⊥)
     → LeavesUnchanged a d r (λ _. HasCurrents a.now.trees)
-checked_currents a b c d fit wanted held filled one two three (Err fault) same met =
-    passed_fault a d fault (λ _. HasCurrents a.now.trees)
-    (passed_then a c d (passed_then a b c (passed_ok a b fit _ one)
-    (passed_ok b c wanted _ two)) (passed_ok c d held _ three)) met
-checked_currents a b c d fit wanted held filled one two three (Ok tt) (fits, same_count) met =
+checked_currents a b c d fit wanted held filled one two three (Err fault) same met why =
+    let first = passed_ok a b fit _ one in
+    let second = passed_then a b c first (passed_ok b c wanted _ two) in
+    let third = passed_then a c d second (passed_ok c d held _ three) in
+    passed_fault a d fault (λ _. HasCurrents a.now.trees) third met (λ clean is whole.
+    let late = early c d (passed_ok c d held _ three) clean in
+    let mid = early b c (passed_ok b c wanted _ two) late in
+    let at_b : b.now.trees ≡ a.now.trees = same_trees a b first mid in
+    let at_c : c.now.trees ≡ a.now.trees = same_trees a c second late in
+    let many = subst (λ (t : Trees). wanted ≡ length (currents_of (cells (t 1)))) at_b
+    (two.answer late) in
+    let have = subst (λ (t : Trees). (held ≡ length (t 4)) × AreNumbered (t 4)) at_c
+    (three.answer clean) in
+    let kept : HasCurrents a.now.trees = (whole.kept.currents, whole.kept.numbered.0) in
+    why (fits_where fit (λ e. (one.answer mid).1 e kept))
+    (many ∙ sym (length_permutation _ _ whole.kept.currents)
+    ∙ length-map (a.now.trees 4) current_columns ∙ sym have.0))
+checked_currents a b c d fit wanted held filled one two three (Ok tt) (fits, same_count) met why =
     let first = passed_ok a b fit _ one in
     let second = passed_then a b c first (passed_ok b c wanted _ two) in
     let third = passed_then a c d second (passed_ok c d held _ three) in
@@ -139,23 +158,38 @@ checked_currents a b c d fit wanted held filled one two three (Ok tt) (fits, sam
     let have = subst (λ (t : Trees). (held ≡ length (t 4)) × AreNumbered (t 4)) at_c
     (three.answer clean) in
     let ids = have.1 in
-    has_currents a.now.trees (filled start) (one.answer mid fits)
+    has_currents a.now.trees (filled start) ((one.answer mid).0 fits)
     (sym many ∙ (same_count ∙ (have.0 ∙ sym (length-map (a.now.trees 4) current_columns)))) ids)
 
 pub checked_vectors : (a b c d : State) (fit : Bool) (wanted held : ℕ)
     → (HasCleanDisk a → IsFilled a.now.trees)
-    → LeavesUnchanged a b (Ok fit) (λ f. IsTrue f → AreNumbered (a.now.trees 6)
+    → LeavesUnchanged a b (Ok fit) (λ f. (IsTrue f → AreNumbered (a.now.trees 6)
     → HasEach (map vector_columns (a.now.trees 6)) (vectors_of (cells (a.now.trees 1))))
+    × (f ≡ false → HasVectors a.now.trees → ⊥))
     → LeavesUnchanged b c (Ok wanted) (λ n. n ≡ length (vectors_of (cells (b.now.trees 1))))
     → LeavesUnchanged c d (Ok held) (λ n. (n ≡ length (c.now.trees 6))
     × AreNumbered (c.now.trees 6)) → (r : Result Unit StoreFault)
     → OnOk r (IsTrue fit × (wanted ≡ held)) → IfErr r (λ f. IsOfOpening f → ⊥)
+    → IfErr r (λ _. IsTrue fit → wanted ≡ held → ⊥)
     → LeavesUnchanged a d r (λ _. HasVectors a.now.trees)
-checked_vectors a b c d fit wanted held filled one two three (Err fault) same met =
-    passed_fault a d fault (λ _. HasVectors a.now.trees)
-    (passed_then a c d (passed_then a b c (passed_ok a b fit _ one)
-    (passed_ok b c wanted _ two)) (passed_ok c d held _ three)) met
-checked_vectors a b c d fit wanted held filled one two three (Ok tt) (fits, same_count) met =
+checked_vectors a b c d fit wanted held filled one two three (Err fault) same met why =
+    let first = passed_ok a b fit _ one in
+    let second = passed_then a b c first (passed_ok b c wanted _ two) in
+    let third = passed_then a c d second (passed_ok c d held _ three) in
+    passed_fault a d fault (λ _. HasVectors a.now.trees) third met (λ clean is whole.
+    let late = early c d (passed_ok c d held _ three) clean in
+    let mid = early b c (passed_ok b c wanted _ two) late in
+    let at_b : b.now.trees ≡ a.now.trees = same_trees a b first mid in
+    let at_c : c.now.trees ≡ a.now.trees = same_trees a c second late in
+    let many = subst (λ (t : Trees). wanted ≡ length (vectors_of (cells (t 1)))) at_b
+    (two.answer late) in
+    let have = subst (λ (t : Trees). (held ≡ length (t 6)) × AreNumbered (t 6)) at_c
+    (three.answer clean) in
+    let kept : HasVectors a.now.trees = (whole.kept.vectors, whole.kept.numbered.1) in
+    why (fits_where fit (λ e. (one.answer mid).1 e kept))
+    (many ∙ sym (length_permutation _ _ whole.kept.vectors)
+    ∙ length-map (a.now.trees 6) vector_columns ∙ sym have.0))
+checked_vectors a b c d fit wanted held filled one two three (Ok tt) (fits, same_count) met why =
     let first = passed_ok a b fit _ one in
     let second = passed_then a b c first (passed_ok b c wanted _ two) in
     let third = passed_then a c d second (passed_ok c d held _ three) in
@@ -170,7 +204,7 @@ checked_vectors a b c d fit wanted held filled one two three (Ok tt) (fits, same
     let have = subst (λ (t : Trees). (held ≡ length (t 6)) × AreNumbered (t 6)) at_c
     (three.answer clean) in
     let ids = have.1 in
-    has_vectors a.now.trees (filled start) (one.answer mid fits ids)
+    has_vectors a.now.trees (filled start) ((one.answer mid).0 fits ids)
     (sym many ∙ (same_count ∙ (have.0 ∙ sym (length-map (a.now.trees 6) vector_columns)))) ids)
 
 pub checked_both : (a b c : State) (r : Result Unit StoreFault)

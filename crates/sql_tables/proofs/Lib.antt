@@ -1,4 +1,5 @@
 pub mod Texts
+pub mod AnsweredLemmas
 pub mod WriteLemmas
 pub mod ApartLemmas
 pub mod DerivedLemmas
@@ -10,6 +11,7 @@ pub mod KeepLemmas
 pub mod KeptLemmas
 pub mod RenewLemmas
 pub mod AgreeLemmas
+pub mod WholeLemmas
 pub mod AgreedLemmas
 pub mod FreeLemmas
 pub mod QueryLemmas

@@ -1,6 +1,6 @@
 -- Whether currents2 and vectors hold the rows that follow from those of records2, as an opening
 -- finds out.
-use Rattle.std.specs.Prelude.{◌≡◌, ◌⊎◌, ℕ, ◌-◌, ◌^◌, ◌≤◌, ℤ, ◌<ℤ◌, ◌≤ℤ◌, List, [], length, map, IsPermutation, None, IfSome, Result, Ok, Err}
+use Rattle.std.specs.Prelude.{◌≡◌, ◌⊎◌, ℕ, ◌-◌, ◌^◌, ◌≤◌, ℤ, ◌<ℤ◌, ◌≤ℤ◌, List, [], ◌∷◌, length, map, IsPermutation, None, IfSome, Result, Ok, Err}
 use Rattle.std.specs.List.{AllByRecursion}
 use Rattle.sqlite_value.specs.declared.value.Value.TheVariants.{Int}
 use Rattle.sqlite_value.specs.Order.{Row, column}
@@ -24,6 +24,10 @@ command_in (Err e) = Nothing
 -- the text, which has no parameters, shows these rows of an archive's tables
 abbrev pub ShowsOf : List ℕ → Database → List Row → Type 0
 ShowsOf sql db rows = Reads (command_in (understood archive_schema sql)) db [] rows
+
+-- the text shows some row
+abbrev pub ShowsSome : List ℕ → Database → Type 0
+ShowsSome sql db = (row : Row) × (rows : List Row) × ShowsOf sql db (row ∷ rows)
 
 -- the first columns of these rows are whole numbers that rise
 pub record AreRising (rows : List Row) (ids : List ℤ) : Type 0 where

@@ -5,5 +5,6 @@ pub mod Rows
 pub mod State
 pub mod Connections
 pub mod Learning
+pub mod Asking
 pub mod Agreeing
 pub mod Currents

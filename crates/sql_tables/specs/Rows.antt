@@ -18,11 +18,10 @@ use Rattle.ua_variant.specs.UpdateType.{update_number}
 use Rattle.records.specs.declared.record.Record.{Record}
 use Rattle.records.specs.declared.fault.RecordFault.{RecordFault}
 use Rattle.archive.specs.Store.{IsLawfulContent}
-use Rattle.sql_tables.specs.Words.{cells, cells_of}
+use Rattle.sql_tables.specs.Words.{cells, cells_of, shown_of}
 pub use Rattle.sql_tables.specs.Derived.{int_in}
 use Rattle.sql_schema.specs.Tables.{archive_schema}
 use Rattle.sql_tables.specs.Derived.{AreKept}
-use Rattle.sql_tables.specs.State.{shown_of}
 
 -- ---- records
 

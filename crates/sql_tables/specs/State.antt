@@ -1,19 +1,23 @@
 -- What a connection to an archive shows.
-use Rattle.std.specs.Prelude.{◌≡◌, true, false, pos, List, ℕ, ℤ, [], ◌∷◌, filter, IsPermutation, IsSorted, IsTrue, Result, IfOk, IfErr}
-use Rattle.sqlite_value.specs.Order.{Row, column}
+use Rattle.std.specs.Prelude.{◌≡◌, ◌⊎◌, ◌<◌, ◌-◌, ◌^◌, true, false, pos, length, List, ℕ, ℤ, [], ◌∷◌, filter, IsPermutation, IsSorted, IsSome, IsTrue, Result, IfOk, IfErr}
+use Rattle.sqlite_disk.specs.Disk.{MoreFaults}
+use Rattle.sqlite_value.specs.Order.{Row}
 use Rattle.sqlite_trees.specs.Tree.{Trees}
 use Rattle.sqlite_trees.specs.Objects.{catalog_tree}
 use Rattle.sqlite_catalog.specs.Listing.{Lists}
 use Rattle.sqlite.specs.State.{State, HasCleanDisk, Survives}
 use Rattle.archive.specs.declared.fault.StoreFault.{StoreFault}
+use Rattle.archive.specs.declared.fault.StoreFault.TheVariants.{Refused}
 use Rattle.archive.specs.Store.{fault_in, IsOfOpening}
 use Rattle.archive.specs.Listed.{is_broken}
 use Rattle.sqlite_schema.specs.declared.schema.Schema.{Schema}
 use Rattle.sqlite_value.specs.declared.value.Value.TheVariants.{Null, Int, Blob as Bytes}
 use Rattle.sql_schema.specs.Tables.{archive_schema, with_records}
 pub use Rattle.sql_schema.specs.Tables.{HasMeta}
-use Rattle.sql_tables.specs.Derived.{AreKept}
+use Rattle.sql_tables.specs.Derived.{AreKept, AreNumbered}
+use Rattle.sql_tables.specs.Rows.{IsFilled}
 use Rattle.sql_tables.specs.Words.{cells, is_at, row_stamp_cmp}
+pub use Rattle.sql_tables.specs.Words.{shown_of}
 
 -- the connection has the tables of an archive
 abbrev pub HasTables : State → Type 0
@@ -104,27 +108,51 @@ pub record IsNewArchive (id : List ℕ) (own : ℤ) (db : Trees) : Type 0 where
   pub vectors : db 6 ≡ []
   pub lists : Lists (db catalog_tree) archive_schema
 
--- the first nine columns of what a query shows
-abbrev pub shown_of : Row → Row
-shown_of c =
-    column c 0 ∷ column c 1 ∷ column c 2 ∷ column c 3 ∷ column c 4 ∷ column c 5 ∷ column c 6
-    ∷ column c 7 ∷ column c 8 ∷ []
+-- SQLite may refuse a query: its disk failed meanwhile, or a limit on steps is set
+abbrev pub MayBeStopped : State → State → Type 0
+MayBeStopped old new = MoreFaults old.faults new.faults ⊎ IsSome old.step_limit
 
--- what a crash may leave, and whether the store may be used, after a call that changes nothing
-pub record LeavesUnchanged {A : Type 0} (old new : State) (result : Result A StoreFault)
-    (IsAnswer : A → Type 0) : Type 0 where
+-- Refused is told where SQLite may refuse, or for this reason of our own, and else never
+abbrev pub RefusesFor : {A : Type 0} → Type 0 → State → State → Result A StoreFault → Type 0
+RefusesFor Own old new result =
+    HasCleanDisk new → IfErr result (λ fault. fault ≡ Refused → MayBeStopped old new ⊎ Own)
+
+-- the rows are those of a lawful content and those that follow, none is numbered twice, and there
+-- are few enough to be counted
+pub record AreWhole (db : Trees) : Type 0 where
+  pub filled : IsFilled db
+  pub kept : AreKept db
+  pub numbered : AreNumbered (db 1)
+  pub few : length (db 1) < 2 ^ 64 - 1
+
+-- what a crash may leave, and whether the store may be used, after a call that changes nothing; it
+-- is refused where SQLite may refuse, or for this reason of our own
+pub record LeavesUnchangedOr (Own : Type 0) {A : Type 0} (old new : State)
+    (result : Result A StoreFault) (IsAnswer : A → Type 0) : Type 0 where
   pub answer : HasCleanDisk new → IfOk result IsAnswer
   pub kept : HasCleanDisk new → is_broken (fault_in result) ≡ false → KeepsState old new
   pub met : IfErr result (λ fault. IsOfOpening fault → ⊥)
+  pub refused : RefusesFor Own old new result
   pub crash : Survives old new (λ _. ⊥)
 
--- the same, whatever the tables
-pub record Found {A : Type 0} (old new : State) (result : Result A StoreFault)
+-- the same, where our own reason is that the tables aren't whole
+abbrev pub LeavesUnchanged : {A : Type 0} → State → State → Result A StoreFault → (A → Type 0)
+    → Type 0
+LeavesUnchanged old new result IsAnswer =
+    LeavesUnchangedOr (AreWhole old.now.trees → ⊥) old new result IsAnswer
+
+-- the same as the first, whatever the tables
+pub record FoundOr (Own : Type 0) {A : Type 0} (old new : State) (result : Result A StoreFault)
     (IsAnswer : A → Type 0) : Type 0 where
   pub answer : HasCleanDisk new → IfOk result IsAnswer
   pub kept : HasCleanDisk new → is_broken (fault_in result) ≡ false → Holds old new
   pub met : IfErr result (λ fault. IsOfOpening fault → ⊥)
+  pub refused : RefusesFor Own old new result
   pub crash : Survives old new (λ _. ⊥)
+
+-- the same, where we have no reason of our own
+abbrev pub Found : {A : Type 0} → State → State → Result A StoreFault → (A → Type 0) → Type 0
+Found old new result IsAnswer = FoundOr ⊥ old new result IsAnswer
 
 -- the rows of meta and of records2 stay, and those of currents2 and of vectors follow from them
 pub record IsCompleted (old new : Trees) : Type 0 where

@@ -23,6 +23,12 @@ columns_of r =
 abbrev pub cells : List Row → List Row
 cells rows = map columns_of rows
 
+-- the first nine columns of what a query shows
+abbrev pub shown_of : Row → Row
+shown_of c =
+    column c 0 ∷ column c 1 ∷ column c 2 ∷ column c 3 ∷ column c 4 ∷ column c 5 ∷ column c 6
+    ∷ column c 7 ∷ column c 8 ∷ []
+
 -- a row of records
 abbrev pub cells_of : ℤ → ℤ → ℤ → List ℕ → ℤ → ℤ → ℤ → List ℕ → List ℕ → Row
 cells_of origin number tick node time pico asked who value =

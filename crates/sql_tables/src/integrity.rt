@@ -3,22 +3,21 @@
 ghost use Rattle.std.specs.Prelude.{◌≡◌, ◌++◌, ◌∷◌, [], false, length, map, ◌<ℤ◌, ◌≤ℤ◌, IfSome, IsSomeAnd, List, IfOk, IfErr, OnOk, OnErr, IsTrue};
 ghost use Rattle.sqlite.specs.State.{HasCleanDisk, IsUnchanged};
 ghost use Rattle.sqlite.specs.Held.{state};
-ghost use Rattle.sqlite.specs.Given.{IsPlain};
-ghost use Rattle.sqlite.specs.Listing.{understood, reads_listing};
 ghost use Rattle.sqlite_value.specs.Order.{Row as Columns};
 ghost use Rattle.archive.specs.Store.{IsOfOpening};
 ghost use Rattle.sql_schema.specs.Tables.{archive_schema};
 ghost use Rattle.sql_tables.specs.Words.{cells};
 ghost use Rattle.sql_tables.specs.Derived.{AreKept, AreNumbered, currents_of, current_columns, vectors_of, vector_columns};
 ghost use Rattle.sql_tables.specs.Rows.{IsFilled};
-ghost use Rattle.sql_tables.specs.State.{LeavesUnchanged, Holds, Idles};
-ghost use Rattle.sql_tables.specs.Agreeing.{ShowsOf, HasRisen, HasCounted, AreUncountable, BeginsUncountable, HasEach, HasCurrents, HasVectors};
+ghost use Rattle.sql_tables.specs.Asking.{IsAnswered};
+ghost use Rattle.sql_tables.specs.State.{MayBeStopped, LeavesUnchanged, LeavesUnchangedOr, Holds, Idles};
+ghost use Rattle.sql_tables.specs.Agreeing.{ShowsOf, HasRisen, HasCounted, AreUncountable, BeginsUncountable, ShowsSome, HasEach, HasCurrents, HasVectors};
 ghost use Rattle.sql_tables.specs.Connections.{WhereClean, Sees, tables_of, CommitsNothing};
 
 use crate::decoding::int_at;
 use crate::statements::{fault_of, select};
 use archive::StoreFault;
-use sqlite::{Alter, Connection, Error, Row};
+use sqlite::{Alter, Connection, Error, ErrorCode, Row};
 
 /// Rows gone over whose first column is a whole number above the one before it.
 #[derive(Clone, Copy, Debug)]
@@ -78,8 +77,7 @@ fn count_ids<S: Alter>(
     sql: &str,
 ) -> Result<Result<u64, StoreFault>, Error>
     requires idles { WhereClean S.Store conn.old Idles }
-    requires plain { IsPlain (understood archive_schema sql.now) }
-    requires unlisted { reads_listing archive_schema sql.now ≡ false }
+    requires answered { IsAnswered archive_schema sql.now [] }
     ensures counted { HasCleanDisk (state S.Store conn.new)
         → IfOk result (λ told. IfOk told (HasCounted sql.now (state S.Store conn.old).now)) }
     ensures met { IfOk result
@@ -94,6 +92,10 @@ fn count_ids<S: Alter>(
         → IfErr result
         (λ _. IsTrue (state S.Store conn.new).is_open
         → Holds (state S.Store conn.old) (state S.Store conn.new)) }
+    ensures stopped { HasCleanDisk (state S.Store conn.new)
+        → IfErr result
+        (λ e. (e ≡ Error.SqliteFailure ErrorCode.OutOfMemory → ⊥)
+        → MayBeStopped (state S.Store conn.old) (state S.Store conn.new)) }
     ensures crash { CommitsNothing S.Store conn.old conn.new }
 {
     let mut ids = no_ids();
@@ -113,9 +115,9 @@ fn count_ids<S: Alter>(
 
 fn ids_in<S: Alter>(conn: &mut Connection<S>, sql: &str) -> Result<u64, StoreFault>
     requires idles { WhereClean S.Store conn.old Idles }
-    requires plain { IsPlain (understood archive_schema sql.now) }
-    requires unlisted { reads_listing archive_schema sql.now ≡ false }
-    ensures { LeavesUnchanged (state S.Store conn.old) (state S.Store conn.new) result
+    requires answered { IsAnswered archive_schema sql.now [] }
+    ensures { LeavesUnchangedOr (BeginsUncountable sql.now (state S.Store conn.old).now)
+        (state S.Store conn.old) (state S.Store conn.new) result
         (HasCounted sql.now (state S.Store conn.old).now) }
 {
     match count_ids(conn, sql) {
@@ -139,22 +141,23 @@ pub(crate) fn are_none(rows: &[Row]) -> bool
 /// Whether a query shows no row.
 fn shows_none<S: Alter>(conn: &mut Connection<S>, sql: &str) -> Result<bool, StoreFault>
     requires idles { WhereClean S.Store conn.old Idles }
-    requires plain { IsPlain (understood archive_schema sql.now) }
-    requires unlisted { reads_listing archive_schema sql.now ≡ false }
+    requires answered { IsAnswered archive_schema sql.now [] }
     ensures { LeavesUnchanged (state S.Store conn.old) (state S.Store conn.new) result
-        (λ none. IsTrue none → ShowsOf sql.now (state S.Store conn.old).now []) }
+        (λ none. (IsTrue none → ShowsOf sql.now (state S.Store conn.old).now [])
+        × (none ≡ false → ShowsSome sql.now (state S.Store conn.old).now)) }
 {
     let rows = select(conn, sql, &[])?;
     Ok(are_none(&rows))
 }
 
-/// Whether each current value that follows from the records is there.
+/// Whether each current value that follows from the records is there, as it is where they are kept.
 fn currents_fit<S: Alter>(conn: &mut Connection<S>) -> Result<bool, StoreFault>
     requires idles { WhereClean S.Store conn.old Idles }
     requires filled { WhereClean S.Store conn.old (Sees IsFilled) }
     ensures { LeavesUnchanged (state S.Store conn.old) (state S.Store conn.new) result
-        (λ fit. IsTrue fit → HasEach (map current_columns (tables_of S.Store conn.old 4))
-        (currents_of (cells (tables_of S.Store conn.old 1)))) }
+        (λ fit. (IsTrue fit → HasEach (map current_columns (tables_of S.Store conn.old 4))
+        (currents_of (cells (tables_of S.Store conn.old 1))))
+        × (fit ≡ false → HasCurrents (tables_of S.Store conn.old) → ⊥)) }
 {
     let _schema = conn.schema();
     shows_none(
@@ -210,14 +213,15 @@ fn check_currents<S: Alter>(conn: &mut Connection<S>) -> Result<(), StoreFault>
     agree(fit, wanted, held)
 }
 
-/// Whether each last number that follows from the records is there.
+/// Whether each last number that follows from the records is there, as it is where they are kept.
 fn vectors_fit<S: Alter>(conn: &mut Connection<S>) -> Result<bool, StoreFault>
     requires idles { WhereClean S.Store conn.old Idles }
     requires filled { WhereClean S.Store conn.old (Sees IsFilled) }
     ensures { LeavesUnchanged (state S.Store conn.old) (state S.Store conn.new) result
-        (λ fit. IsTrue fit → AreNumbered (tables_of S.Store conn.old 6)
+        (λ fit. (IsTrue fit → AreNumbered (tables_of S.Store conn.old 6)
         → HasEach (map vector_columns (tables_of S.Store conn.old 6))
-        (vectors_of (cells (tables_of S.Store conn.old 1)))) }
+        (vectors_of (cells (tables_of S.Store conn.old 1))))
+        × (fit ≡ false → HasVectors (tables_of S.Store conn.old) → ⊥)) }
 {
     let _schema = conn.schema();
     shows_none(

@@ -4,11 +4,10 @@ ghost use Rattle.std.specs.Prelude.{◌≡◌, ◌≢◌, ◌⊎◌, IsTrue, IfO
 ghost use Rattle.sqlite.specs.State.{HasCleanDisk, IsUnchanged, Shown};
 ghost use Rattle.sqlite.specs.Held.{state};
 ghost use Rattle.sqlite.specs.Values.{bound};
-ghost use Rattle.sqlite.specs.Given.{IsPlain};
-ghost use Rattle.sqlite.specs.Listing.{understood};
 ghost use Rattle.archive.specs.Store.{IsOfOpening};
 ghost use Rattle.sql_schema.specs.Tables.{archive_schema};
-ghost use Rattle.sql_tables.specs.State.{LeavesUnchanged, Found, Holds, Idles, IsOpenAndIdle};
+ghost use Rattle.sql_tables.specs.Asking.{IsAnswered};
+ghost use Rattle.sql_tables.specs.State.{MayBeStopped, LeavesUnchanged, Found, Holds, Idles, IsOpenAndIdle};
 ghost use Rattle.sql_tables.specs.Connections.{WhereClean, CommitsNothing};
 
 use archive::StoreFault;
@@ -29,6 +28,8 @@ pub fn fault_of<S: Alter>(conn: &mut Connection<S>, error: Error) -> StoreFault
     ensures alive { HasCleanDisk (state S.Store conn.new) → result ≢ StoreFault.Broken
         → IsUnchanged (state S.Store conn.old) (state S.Store conn.new) }
     ensures met { IsOfOpening result → ⊥ }
+    ensures refused { result ≡ StoreFault.Refused
+        → error ≡ Error.SqliteFailure ErrorCode.OutOfMemory → ⊥ }
     ensures crash { CommitsNothing S.Store conn.old conn.new }
 {
     if !is_alive(conn) {
@@ -41,6 +42,8 @@ pub fn fault_of<S: Alter>(conn: &mut Connection<S>, error: Error) -> StoreFault
 pub fn refusal_of(error: Error) -> StoreFault
     ensures named { (result ≡ StoreFault.OutOfMemory) ⊎ (result ≡ StoreFault.Refused) }
     ensures met { IsOfOpening result → ⊥ }
+    ensures refused { result ≡ StoreFault.Refused
+        → error ≡ Error.SqliteFailure ErrorCode.OutOfMemory → ⊥ }
 {
     match error {
         Error::SqliteFailure(ErrorCode::OutOfMemory) => StoreFault::OutOfMemory,
@@ -48,15 +51,15 @@ pub fn refusal_of(error: Error) -> StoreFault
     }
 }
 
-/// The rows that a query shows.
+/// The rows that a query shows. It fails for want of memory, or where SQLite may refuse.
 fn rows_of<S: Alter>(
     conn: &mut Connection<S>,
     sql: &str,
     params: &[ValueRef<'_>],
 ) -> Result<Vec<Row>, Error>
     requires rests { WhereClean S.Store conn.old IsOpenAndIdle }
-    requires plain { HasCleanDisk (state S.Store conn.old)
-        → IsPlain (understood (state S.Store conn.old).now.schema sql.now) }
+    requires answered { HasCleanDisk (state S.Store conn.old)
+        → IsAnswered (state S.Store conn.old).now.schema sql.now (bound params.now) }
     ensures rows { HasCleanDisk (state S.Store conn.new)
         → IfOk result
         (λ rows.
@@ -68,22 +71,25 @@ fn rows_of<S: Alter>(
         → IfErr result
         (λ _. IsTrue (state S.Store conn.new).is_open
         → Holds (state S.Store conn.old) (state S.Store conn.new)) }
+    ensures stopped { HasCleanDisk (state S.Store conn.new)
+        → IfErr result
+        (λ e. (e ≡ Error.SqliteFailure ErrorCode.OutOfMemory → ⊥)
+        → MayBeStopped (state S.Store conn.old) (state S.Store conn.new)) }
     ensures crash { CommitsNothing S.Store conn.old conn.new }
 {
     conn.query_all(sql, params)
 }
 
 /// The rows that a query shows, whatever the tables. `Broken` tells that the store is shut, `OutOfMemory` and `Refused` that it may
-/// still be used; it is as it was.
-#[tactic(auto, using(crate::proofs::WriteLemmas::holds_as))]
+/// still be used; it is as it was. `Refused` comes only where SQLite may refuse any query.
 pub fn ask<S: Alter>(
     conn: &mut Connection<S>,
     sql: &str,
     params: &[ValueRef<'_>],
 ) -> Result<Vec<Row>, StoreFault>
     requires rests { WhereClean S.Store conn.old IsOpenAndIdle }
-    requires plain { HasCleanDisk (state S.Store conn.old)
-        → IsPlain (understood (state S.Store conn.old).now.schema sql.now) }
+    requires answered { HasCleanDisk (state S.Store conn.old)
+        → IsAnswered (state S.Store conn.old).now.schema sql.now (bound params.now) }
     ensures { Found (state S.Store conn.old) (state S.Store conn.new) result
         (λ rows.
         Shown sql.now (bound params.now) (state S.Store conn.old)
@@ -102,7 +108,7 @@ pub fn select<S: Alter>(
     params: &[ValueRef<'_>],
 ) -> Result<Vec<Row>, StoreFault>
     requires idles { WhereClean S.Store conn.old Idles }
-    requires plain { IsPlain (understood archive_schema sql.now) }
+    requires answered { IsAnswered archive_schema sql.now (bound params.now) }
     ensures { LeavesUnchanged (state S.Store conn.old) (state S.Store conn.new) result
         (λ rows.
         Shown sql.now (bound params.now) (state S.Store conn.old)

@@ -9,4 +9,4 @@ returns g c =
     (state g.S.Store c.vectors_held.new.conn) c.in_ok-fit.fit c.in_ok-wanted.wanted
     c.in_ok-held.held
     c.requires.filled c.in_ok-fit.ensures c.in_ok-wanted.ensures c.in_ok-held.ensures c.agree.result
-    c.agree.ensures.same c.agree.ensures.met
+    c.agree.ensures.same c.agree.ensures.met c.agree.ensures.refused

@@ -1,6 +1,6 @@
-use Rattle.std.proofs.Common.{◌∷◌, false, inr, ◌≡◌, [], Result, Ok, Err, IfErr, IsTrue, None, List, ℕ, refl, ap, arith, rules, sym, subst, ◌∙◌}
+use Rattle.std.proofs.Common.{◌∷◌, false, inr, ◌≡◌, [], Result, Ok, Err, IfErr, IsTrue, None, List, ℕ, refl, ap, arith, rules, sym, subst, subst₂, ◌∙◌}
 use Rattle.std.specs.Option.{option_copied}
-use Rattle.sqlite.specs.Given.{IsPlain, Advances, GivesOn, row_if}
+use Rattle.sqlite.specs.Given.{IsPlain, Advances, FailsToAdvance, GivesOn, row_if}
 use Rattle.sqlite.specs.Effect.{Database, ReadsFirst}
 use Rattle.sqlite.specs.Listing.{understood, reads_listing}
 use Rattle.sqlite_value.specs.Order.{Row}
@@ -9,10 +9,15 @@ use Rattle.sqlite.specs.State.{State, HasCleanDisk, Survives, CommitsShowing, Fa
 use Rattle.sqlite.specs.Held.{state}
 use Rattle.sqlite.proofs.StateLemmas.{survives_weaker, survives_then}
 use Rattle.sqlite.proofs.Callers.{never_commits, begun_plain, unchanged_then, given_begin}
-use Rattle.sql_tables.specs.State.{Holds, Idles}
+use Rattle.sqlite.specs.declared.error.Error.{Error}
+use Rattle.sqlite.specs.declared.error.Error.TheVariants.{SqliteFailure}
+use Rattle.sqlite.specs.declared.error.ErrorCode.TheVariants.{OutOfMemory}
+use Rattle.sql_tables.specs.Asking.{IsAnswered}
+use Rattle.sql_tables.specs.State.{Holds, Idles, MayBeStopped}
+use Rattle.sql_tables.proofs.AnsweredLemmas.{answered_plain, query_stops}
 use Rattle.sql_schema.specs.Tables.{archive_schema}
 use Rattle.sql_tables.specs.Agreeing.{command_in, ShowsOf, AreUncountable, BeginsUncountable}
-use Rattle.sql_tables.proofs.AskLemmas.{rests_of}
+use Rattle.sql_tables.proofs.AskLemmas.{rests_of, stops_behind}
 use Rattle.sql_tables.proofs.AgreeLemmas.{shows_of, begins_of}
 use Rattle.sql_tables.proofs.WriteLemmas.{fails_query}
 use Rattle.sql_tables.proofs.integrity.count_ids.Goals as goal
@@ -41,6 +46,16 @@ begins_with sql s db rows same has plain unlisted begins so =
       so = so;
     }
 
+plain_of : (sql : List ℕ) → IsAnswered archive_schema sql [] → IsPlain
+    (understood archive_schema sql)
+plain_of sql a = answered_plain archive_schema sql [] a
+
+stops : (sql : List ℕ) (a b : State) (e : Error) → IsAnswered archive_schema sql []
+    → a.now.schema ≡ archive_schema → IsTrue a.is_open → FailsToQuery sql [] a b e
+    → (e ≡ SqliteFailure OutOfMemory → ⊥) → MayBeStopped a b
+stops sql a b e answered has live h some = query_stops sql [] a b e
+    (subst (λ d. IsAnswered d sql []) (sym has) answered) live some h
+
 each_err : {A E : Type 0} {P : Type 0} (r : Result A E) → P → IfErr r (λ _. P)
 each_err (Ok a) p = tt
 each_err (Err e) p = p
@@ -56,8 +71,45 @@ returns-in_err-rows-clause-refused g c clean =
     let early : HasCleanDisk old = omega (arith, kept.clean, clean) in
     each_err {P = IsTrue new.is_open → Holds old new} _
     (λ is_open. fails_query c.args.sql.now [] old new _
-    (plain_in c.args.sql.now old c.requires.plain (c.requires.idles early))
+    (plain_in c.args.sql.now old (plain_of c.args.sql.now c.requires.answered)
+    (c.requires.idles early))
     (rests_of old (c.requires.idles early)) is_open failed)
+
+pub returns-in_err-rows-clause-stopped : goal.returns-in_err-rows-clause-stopped
+returns-in_err-rows-clause-stopped g c clean =
+    let old = state g.S.Store c.args.conn.now in
+    let new = state g.S.Store c.query.follows.lender-at-none in
+    let held = c.query.follows.holds-at-none in
+    let kept : Survives old new (CommitsShowing c.args.sql.now [] old) = search rules in
+    let failed : FailsToQuery c.args.sql.now [] old new c.in_err-rows.field-0.0 =
+    (rw c.in_err-rows.was at held).err clean in
+    let early : HasCleanDisk old = omega (arith, kept.clean, clean) in
+    let told : c.from_residual.result ≡ Err c.in_err-rows.field-0.0 = search rules in
+    subst (λ r. IfErr r (λ e. (e ≡ SqliteFailure OutOfMemory → ⊥) → MayBeStopped old new))
+    (sym told)
+    (stops c.args.sql.now old new _ c.requires.answered (c.requires.idles early).tables
+    (c.requires.idles early).is_open failed)
+
+pub returns-in_err-advance-clause-stopped : goal.returns-in_err-advance-clause-stopped
+returns-in_err-advance-clause-stopped g c clean =
+    let old = state g.S.Store c.args.conn.now in
+    let mid = c.rows.rows.conn.now in
+    let now = c.advance.new.self.conn.now in
+    let moved = c.in_err-advance.ensures in
+    let late : HasCleanDisk (state g.S.Store now) = search rules in
+    let was = c.rows.invariant.2 (omega (arith, moved.survives.clean, late)) in
+    let failed : FailsToAdvance g.S.Store mid now c.in_err-advance.field-0.0 = moved.err late in
+    let idles = c.requires.idles (omega
+    (arith, c.rows.invariant.1.clean, moved.survives.clean, late)) in
+    let tables = ap (λ (d : Database). d.schema) was.2.0.now_is ∙ idles.tables in
+    let told : c.from_residual-in_err-advance.result ≡ Err c.in_err-advance.field-0.0 =
+    search rules in
+    let left : c.conn-in_err-advance-1.given.0 ≡ now = search rules in
+    subst₂ (λ r h. IfErr r (λ e. (e ≡ SqliteFailure OutOfMemory → ⊥)
+    → MayBeStopped old (state g.S.Store h))) (sym told) (sym left)
+    (λ some. stops_behind old (state g.S.Store mid) (state g.S.Store now) _ c.rows.invariant.1
+    (stops c.args.sql.now (state g.S.Store mid) (state g.S.Store now) _ c.requires.answered tables
+    was.2.0.is_open (failed c.args.sql.now [] was.0 was.1) some))
 
 pub returns-in_err-rows-clause-crash : goal.returns-in_err-rows-clause-crash
 returns-in_err-rows-clause-crash g c =
@@ -65,17 +117,19 @@ returns-in_err-rows-clause-crash g c =
     let new = state g.S.Store c.query.follows.lender-at-none in
     let held = c.query.follows.holds-at-none in
     let kept : Survives old new (CommitsShowing c.args.sql.now [] old) = search rules in
-    commits_nothing c.args.sql.now old new c.requires.plain c.requires.idles kept
+    commits_nothing c.args.sql.now old new (plain_of c.args.sql.now c.requires.answered)
+    c.requires.idles kept
 
 pub rows-init : goal.rows-init
 rows-init g c =
     let old = state g.S.Store c.args.conn.now in
     let made = c.in_ok-rows.ensures in (
       refl,
-      commits_nothing c.args.sql.now old _ c.requires.plain c.requires.idles made.survives,
+      commits_nothing c.args.sql.now old _ (plain_of c.args.sql.now c.requires.answered)
+          c.requires.idles made.survives,
       λ clean.
           let begun = begun_plain g.S.Store c.args.sql.now [] c.args.conn.now _
-          (plain_in c.args.sql.now old c.requires.plain
+          (plain_in c.args.sql.now old (plain_of c.args.sql.now c.requires.answered)
           (c.requires.idles (omega (arith, made.survives.clean, clean)))) (made.begun clean) in
           ([], begun.0, begun.1, c.no_ids-ids.ensures, refl),
     )
@@ -100,7 +154,8 @@ returns-in_default-clause-counted g c clean =
       rows = was.0;
       shown = subst (λ d. ShowsOf c.args.sql.now d was.0) was.2.0.now_is
           (shows_of c.args.sql.now (state g.S.Store mid)
-          (state g.S.Store now) was.0 tables c.requires.plain c.requires.unlisted shown);
+          (state g.S.Store now) was.0 tables (plain_of c.args.sql.now c.requires.answered)
+          c.requires.answered.unlisted shown);
       numbers = was.3.numbers;
       rise = was.3.rise;
       many = was.3.many;
@@ -149,8 +204,9 @@ returns-in-Err-clause-met g c = (
       let idles = c.requires.idles (omega
       (arith, c.rows.invariant.1.clean, moved.survives.clean, late)) in
       let tables = ap (λ (d : Database). d.schema) same ∙ idles.tables in
-      begins_with c.args.sql.now (state g.S.Store now) old.now _ same tables c.requires.plain
-      c.requires.unlisted (given_begin g.S.Store c.args.sql.now [] now _ given)
+      begins_with c.args.sql.now (state g.S.Store now) old.now _ same tables
+      (plain_of c.args.sql.now c.requires.answered)
+      c.requires.answered.unlisted (given_begin g.S.Store c.args.sql.now [] now _ given)
       (c.in-Err.ensures.refused was.0 was.3),
 )
 
@@ -165,7 +221,8 @@ returns-clause-met g c = (
       let same = was.2.0.now_is in
       let idles = c.requires.idles (omega (arith, c.rows.invariant.1.clean, late)) in
       let tables = ap (λ (d : Database). d.schema) same ∙ idles.tables in
-      begins_with c.args.sql.now (state g.S.Store mid) old.now was.0 same tables c.requires.plain
-      c.requires.unlisted (given_begin g.S.Store c.args.sql.now [] mid was.0 was.1)
+      begins_with c.args.sql.now (state g.S.Store mid) old.now was.0 same tables
+      (plain_of c.args.sql.now c.requires.answered)
+      c.requires.answered.unlisted (given_begin g.S.Store c.args.sql.now [] mid was.0 was.1)
       (inr (omega (arith, was.4, c.rows-test.false))),
 )

@@ -2,23 +2,24 @@ use Rattle.std.proofs.Common.{arith}
 use Rattle.sqlite.specs.Held.{state}
 use Rattle.sql_tables.proofs.AskLemmas.{asked_as}
 use Rattle.sql_tables.proofs.KeptLemmas.{filled_cells}
-use Rattle.sql_tables.proofs.AgreeLemmas.{vectors_lack_asked, vectors_fit_of}
+use Rattle.sql_tables.proofs.AnsweredLemmas.{vectors_lack_answered}
+use Rattle.sql_tables.proofs.AgreeLemmas.{vectors_fit_of}
+use Rattle.sql_tables.proofs.WholeLemmas.{vectors_show_none}
 use Rattle.sql_tables.proofs.integrity.vectors_fit.Goals as goal
 
-pub shows_none-requires-clause-plain : goal.shows_none-requires-clause-plain
-shows_none-requires-clause-plain g c = vectors_lack_asked.0
-
-pub shows_none-requires-clause-unlisted : goal.shows_none-requires-clause-unlisted
-shows_none-requires-clause-unlisted g c = vectors_lack_asked.1
+pub shows_none-requires-clause-answered : goal.shows_none-requires-clause-answered
+shows_none-requires-clause-answered g c = vectors_lack_answered
 
 pub returns : goal.returns
 returns g c =
     let old = state g.S.Store c.args.conn.now in
     let new = state g.S.Store c.shows_none.new.conn in
     asked_as old new c.shows_none.result _ _
-    (λ clean fit none told.
+    (λ clean fit told.
     let early = c.requires.idles (omega (arith, c.shows_none.ensures.crash.clean, clean)) in
     let filled = c.requires.filled (omega (arith, c.shows_none.ensures.crash.clean, clean)) in
-    vectors_fit_of old.now early.tables (c.schema-schema.ensures.live early.is_open).0
-    (filled_cells filled.0 old.now.trees filled.2) (none told))
-    c.shows_none.ensures
+    let typed = filled_cells filled.0 old.now.trees filled.2 in (
+      λ none. vectors_fit_of old.now early.tables (c.schema-schema.ensures.live early.is_open).0
+          typed (told.0 none),
+      λ some. vectors_show_none old.now early.tables typed (told.1 some),
+    )) c.shows_none.ensures

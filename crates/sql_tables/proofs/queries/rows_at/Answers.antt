@@ -1,11 +1,14 @@
 use Rattle.std.proofs.Common.{arith}
 use Rattle.sqlite.specs.Held.{state}
 use Rattle.sql_tables.proofs.AskLemmas.{asked_as}
-use Rattle.sql_tables.proofs.QueryLemmas.{finds_at, at_plain}
+use Rattle.sql_tables.proofs.AnsweredLemmas.{at_answered}
+use Rattle.sql_tables.proofs.QueryLemmas.{finds_at}
 use Rattle.sql_tables.proofs.queries.rows_at.Goals as goal
 
-pub select-requires-clause-plain : goal.select-requires-clause-plain
-select-requires-clause-plain g c = at_plain
+pub select-requires-clause-answered : goal.select-requires-clause-answered
+select-requires-clause-answered g c =
+    rw (c.params-to_sql.ensures, c.params-to_sql-2.ensures, c.params-to_sql-3.ensures)
+    (at_answered c.args.node.now c.args.place.now.ticks c.args.place.now.pico)
 
 pub returns : goal.returns
 returns g c =

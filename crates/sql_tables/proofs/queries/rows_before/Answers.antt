@@ -1,11 +1,20 @@
 use Rattle.std.proofs.Common.{arith}
 use Rattle.sqlite.specs.Held.{state}
 use Rattle.sql_tables.proofs.AskLemmas.{asked_as}
-use Rattle.sql_tables.proofs.QueryLemmas.{finds_before, before_plain}
+use Rattle.sql_tables.proofs.AnsweredLemmas.{before_answered}
+use Rattle.sql_tables.proofs.QueryLemmas.{finds_before}
 use Rattle.sql_tables.proofs.queries.rows_before.Goals as goal
 
-pub select-requires-clause-plain : goal.select-requires-clause-plain
-select-requires-clause-plain g c = before_plain
+pub select-requires-clause-answered : goal.select-requires-clause-answered
+select-requires-clause-answered g c =
+    rw (
+      c.params-to_sql.ensures,
+      c.params-to_sql-2.ensures,
+      c.params-to_sql-3.ensures,
+      c.params-to_sql-4.ensures,
+    ) (before_answered c.args.node.now c.args.next.now.place.ticks
+    c.args.next.now.place.pico
+    c.args.next.now.count)
 
 pub returns : goal.returns
 returns g c =

@@ -1,11 +1,15 @@
 use Rattle.std.proofs.Common.{arith}
 use Rattle.sqlite.specs.Held.{state}
 use Rattle.sql_tables.proofs.AskLemmas.{asked_as}
-use Rattle.sql_tables.proofs.QueryLemmas.{finds_since, since_plain}
+use Rattle.sql_tables.proofs.AnsweredLemmas.{since_answered}
+use Rattle.sql_tables.proofs.QueryLemmas.{finds_since}
 use Rattle.sql_tables.proofs.queries.rows_behind.Goals as goal
 
-pub select-requires-clause-plain : goal.select-requires-clause-plain
-select-requires-clause-plain g c = since_plain
+pub select-requires-clause-answered : goal.select-requires-clause-answered
+select-requires-clause-answered g c =
+    rw (c.params-to_sql.ensures, c.params-to_sql-2.ensures, c.params-to_sql-3.ensures)
+    (since_answered c.args.behind.now.origin c.args.behind.now.number
+    c.args.behind.now.count)
 
 pub returns : goal.returns
 returns g c =

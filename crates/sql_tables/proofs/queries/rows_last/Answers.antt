@@ -1,11 +1,13 @@
 use Rattle.std.proofs.Common.{arith}
 use Rattle.sqlite.specs.Held.{state}
 use Rattle.sql_tables.proofs.AskLemmas.{asked_as}
-use Rattle.sql_tables.proofs.QueryLemmas.{finds_last, last_plain}
+use Rattle.sql_tables.proofs.AnsweredLemmas.{last_answered}
+use Rattle.sql_tables.proofs.QueryLemmas.{finds_last}
 use Rattle.sql_tables.proofs.queries.rows_last.Goals as goal
 
-pub select-requires-clause-plain : goal.select-requires-clause-plain
-select-requires-clause-plain g c = last_plain
+pub select-requires-clause-answered : goal.select-requires-clause-answered
+select-requires-clause-answered g c =
+    rw c.params-to_sql.ensures (last_answered c.args.name.now.origin)
 
 pub returns : goal.returns
 returns g c =

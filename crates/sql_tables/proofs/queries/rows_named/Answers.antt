@@ -1,11 +1,14 @@
 use Rattle.std.proofs.Common.{arith}
 use Rattle.sqlite.specs.Held.{state}
 use Rattle.sql_tables.proofs.AskLemmas.{asked_as}
-use Rattle.sql_tables.proofs.QueryLemmas.{finds_named, named_plain}
+use Rattle.sql_tables.proofs.AnsweredLemmas.{named_answered}
+use Rattle.sql_tables.proofs.QueryLemmas.{finds_named}
 use Rattle.sql_tables.proofs.queries.rows_named.Goals as goal
 
-pub select-requires-clause-plain : goal.select-requires-clause-plain
-select-requires-clause-plain g c = named_plain
+pub select-requires-clause-answered : goal.select-requires-clause-answered
+select-requires-clause-answered g c =
+    rw (c.params-to_sql.ensures, c.params-to_sql-2.ensures)
+    (named_answered c.args.name.now.origin c.args.name.now.number)
 
 pub returns : goal.returns
 returns g c =

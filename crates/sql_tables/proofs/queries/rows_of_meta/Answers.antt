@@ -1,12 +1,13 @@
 use Rattle.std.proofs.Common.{arith}
 use Rattle.sqlite.specs.Held.{state}
 use Rattle.sql_tables.proofs.AskLemmas.{found_as}
-use Rattle.sql_tables.proofs.QueryLemmas.{finds_whose, whose_plain}
+use Rattle.sql_tables.proofs.AnsweredLemmas.{whose_answered}
+use Rattle.sql_tables.proofs.QueryLemmas.{finds_whose}
 use Rattle.sql_tables.proofs.queries.rows_of_meta.Goals as goal
 
-pub ask-requires-clause-plain : goal.ask-requires-clause-plain
-ask-requires-clause-plain g c clean =
-    whose_plain (state g.S.Store c.args.conn.now).now.schema (c.requires.known clean)
+pub ask-requires-clause-answered : goal.ask-requires-clause-answered
+ask-requires-clause-answered g c clean =
+    whose_answered (state g.S.Store c.args.conn.now).now.schema (c.requires.known clean)
 
 pub returns : goal.returns
 returns g c =

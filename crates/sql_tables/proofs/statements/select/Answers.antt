@@ -1,7 +1,7 @@
 use Rattle.std.proofs.Common.{sym, subst}
-use Rattle.sqlite.specs.Given.{IsPlain}
-use Rattle.sqlite.specs.Listing.{understood}
+use Rattle.sqlite.specs.Values.{bound}
 use Rattle.sqlite.specs.Held.{state}
+use Rattle.sql_tables.specs.Asking.{IsAnswered}
 use Rattle.sql_tables.proofs.AskLemmas.{asked_of, rests_of}
 use Rattle.sql_tables.proofs.statements.select.Goals as goal
 
@@ -9,10 +9,10 @@ pub ask-requires-clause-rests : goal.ask-requires-clause-rests
 ask-requires-clause-rests g c clean =
     rests_of (state g.S.Store c.args.conn.now) (c.requires.idles clean)
 
-pub ask-requires-clause-plain : goal.ask-requires-clause-plain
-ask-requires-clause-plain g c clean =
-    subst (λ d. IsPlain (understood d c.args.sql.now))
-    (sym (c.requires.idles clean).tables) c.requires.plain
+pub ask-requires-clause-answered : goal.ask-requires-clause-answered
+ask-requires-clause-answered g c clean =
+    subst (λ d. IsAnswered d c.args.sql.now (bound c.args.params.now))
+    (sym (c.requires.idles clean).tables) c.requires.answered
 
 pub returns : goal.returns
 returns g c = asked_of (state g.S.Store c.args.conn.now)

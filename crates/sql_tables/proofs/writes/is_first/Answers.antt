@@ -1,10 +1,14 @@
-use Rattle.std.proofs.Common.{◌≡◌, refl, arith, []}
+use Rattle.std.proofs.Common.{refl, arith, []}
 use Rattle.sqlite.specs.Held.{state}
-use Rattle.sql_tables.proofs.FreeLemmas.{none_at, none_shown, some_at_plain}
+use Rattle.sql_tables.proofs.AnsweredLemmas.{some_at_answered}
+use Rattle.sql_tables.proofs.FreeLemmas.{none_at, none_shown}
 use Rattle.sql_tables.proofs.writes.is_first.Goals as goal
 
-pub select-requires-clause-plain : goal.select-requires-clause-plain
-select-requires-clause-plain g c = some_at_plain
+pub select-requires-clause-answered : goal.select-requires-clause-answered
+select-requires-clause-answered g c =
+    let r = c.args.r.now in
+    rw (c.params-to_sql.ensures, c.params-to_sql-2.ensures, c.params-to_sql-3.ensures)
+    (some_at_answered r.node.items r.time r.pico)
 
 pub returns : goal.returns
 returns g c =
@@ -28,5 +32,6 @@ returns g c =
           );
       kept = λ clean ok. e.kept clean refl;
       met = tt;
+      refused = λ clean. tt;
       crash = e.crash;
     }

@@ -1,0 +1,542 @@
+-- That tables which are whole are refused for no reason of our own.
+use Rattle.std.proofs.Common.{◌≡◌, ◌<◌, ◌≤◌, ◌-◌, ◌^◌, inl, inr, ℕ, ℤ, pos, suc, Bool, true, false, not, ◌&&◌, ◌||◌, cond, List, [], ◌∷◌, ◌++◌, length, map, filter, flat_map, take, refl, sym, ap, ap₂, subst, ◌∙◌, arith, IsPermutation, IsSorted, is_eq, Ordering, Less, Equal, ◌<ℤ◌}
+use Rattle.std.specs.List.{list_any, list_all, AllByRecursion}
+use Rattle.std.specs.Ordering.{int_cmp, on, is_lt}
+use Rattle.std.specs.Cmp.{IsTotalOrder}
+use Rattle.std.proofs.lemmas.Cmp.{on_total, tied_itself}
+use Rattle.std.proofs.lemmas.Int.{ints}
+use Rattle.std.proofs.lemmas.Bool.{true≢false}
+use Rattle.std.proofs.lemmas.List.{length-map, length-append}
+use Rattle.std.proofs.lemmas.List.Elements.{recursion_from_All, All-from_recursion}
+use Rattle.std.proofs.lemmas.List.Sorted.{All-permutation, IsPermutation-sym, IsPermutation-map, length_permutation}
+use Rattle.sqlite_value.specs.declared.value.Value.{Value}
+use Rattle.sqlite_value.specs.declared.value.Value.TheVariants.{Null, Int, Real, Text, Blob}
+use Rattle.sqlite_value.specs.declared.keys.Collation.TheVariants.{Binary}
+use Rattle.sqlite_value.specs.Keys.{ascending}
+use Rattle.sqlite_value.specs.Order.{Row, column, value_cmp}
+use Rattle.sqlite_value.proofs.OrderLemmas.{value_cmp_total, value_cmp-Int, then-Equal}
+use Rattle.sqlite_sql.specs.Ops.{is_true, unary, binary}
+use Rattle.sqlite_sql.specs.Term.{Term, Env, col, op1, eval_all, holds}
+use Rattle.sqlite_sql.specs.declared.ops.UnaryOp.TheVariants.{Not, ToNumeric}
+use Rattle.sqlite_sql.specs.declared.ops.BinaryOp.TheVariants.{Compare}
+use Rattle.sqlite_sql.specs.declared.ops.CompareOp.TheVariants.{Ne}
+use Rattle.sqlite_sql.specs.Query.{Query, Join, inner, end, counted, Output, output, output_cmp, key_cmp, matches, IsAnswer, IsSureStart}
+use Rattle.sqlite_sql.specs.Program.{overlay, IsProgramStart}
+use Rattle.sqlite_schema.specs.declared.schema.Schema.{Schema}
+use Rattle.sqlite_schema.specs.declared.command.Command.TheVariants.{Select}
+use Rattle.sqlite_typing.specs.Types.{accepts_program}
+use Rattle.sqlite_exec.proofs.RowsLemmas.{IsSorted-map}
+use Rattle.sqlite_exec.proofs.PartitionLemmas.{IsSorted-from_map}
+use Rattle.sqlite_trees.specs.Tree.{Trees, IsAscending, rowid}
+use Rattle.sqlite_trees.specs.View.{is_int}
+use Rattle.sqlite_rules.specs.Lists.{Has}
+use Rattle.sqlite_keyed.proofs.ListLemmas.{map-map, ascending-map, ascending-filter, all_map, all-filter, filter_none}
+use Rattle.sqlite.specs.Listing.{understood}
+use Rattle.sqlite.specs.Effect.{Database, ReadsFirst}
+use Rattle.records.specs.Lists.{IsPairwise}
+use Rattle.records.proofs.Sorting.{sorted_is, rises-sort_by}
+use Rattle.sql_schema.specs.Tables.{archive_schema}
+use Rattle.sql_tables.specs.Words.{cells, columns_of}
+use Rattle.sql_tables.specs.Derived.{AreNumbered, IsCells, is_later, is_newer, same, current_of, currents_of, current_columns, last_of, vectors_of, vector_columns}
+use Rattle.sql_tables.specs.State.{AreWhole}
+use Rattle.sql_tables.specs.Agreeing.{command_in, AreUncountable, BeginsUncountable, AreRising, ShowsOf, ShowsSome, HasCurrents, HasVectors}
+use Rattle.sql_tables.proofs.Texts.{currents_lack_text, currents_wanted_text, currents_held_text, vectors_lack_text, vectors_wanted_text, vectors_held_text}
+use Rattle.sql_tables.proofs.ApartLemmas.{all-permuted}
+use Rattle.sql_tables.proofs.MadeLemmas.{later_tests, newer_tests, other_tests, counted_is, not_flag, picked}
+use Rattle.sql_tables.proofs.KeepLemmas.{empty_by}
+use Rattle.sql_tables.proofs.QueryLemmas.{equals, repaired}
+use Rattle.sql_tables.proofs.AgreeLemmas.{listing, listed, all_of_them, by_id, first_only, held_in, wanted_by, currents_held_is, vectors_held_is, currents_wanted_is, vectors_wanted_is, currents_lack_is, vectors_lack_is, shown_is, numeric_int, live_is, current_fits, vector_fits, lacks_current, lacks_vector, later_than, newer_than, no_later, no_newer, others_of, others_is, fits_current, current_count, lacked, fits_vector, vector_count, lacked_vector}
+
+-- ---- numbers that rise
+
+pairwise_of : {X : Type 0} (R : X → X → Type 0) (xs : List X) → IsAscending R xs → IsPairwise R xs
+pairwise_of R [] up = tt
+pairwise_of R (x ∷ xs) up = (up.0, pairwise_of R xs up.1)
+
+all_front : {X : Type 0} (P : X → Type 0) (xs ys : List X) → AllByRecursion P (xs ++ ys)
+    → AllByRecursion P xs
+all_front P [] ys all = tt
+all_front P (x ∷ xs) ys all = (all.0, all_front P xs ys all.1)
+
+pairwise_front : {X : Type 0} (R : X → X → Type 0) (xs ys : List X) → IsPairwise R (xs ++ ys)
+    → IsPairwise R xs
+pairwise_front R [] ys up = tt
+pairwise_front R (x ∷ xs) ys up = (all_front (R x) xs ys up.0, pairwise_front R xs ys up.1)
+
+int_of : (v : Value) → is_int v ≡ true → (n : ℤ) × (v ≡ Int n)
+int_of Null e = absurd (true≢false (sym e))
+int_of (Int n) e = (n, refl)
+int_of (Real x) e = absurd (true≢false (sym e))
+int_of (Text t) e = absurd (true≢false (sym e))
+int_of (Blob b) e = absurd (true≢false (sym e))
+
+abbrev Below : Row → Row → Type 0
+Below a b = value_cmp (rowid a) (rowid b) ≡ Less
+
+ints_below : (i j : ℤ) → int_cmp i j ≡ Less → i <ℤ j
+ints_below i j e = grind (arith, ints, e)
+
+all_above : (r : Row) (i : ℤ) (rows : List Row) (ids : List ℤ) → rowid r ≡ Int i
+    → AllByRecursion (Below r) rows → map (λ b. column b 0) rows ≡ map Int ids
+    → AllByRecursion (λ j. i <ℤ j) ids
+all_above r i [] [] is up are = tt
+all_above r i [] (j ∷ ids) is up are = absurd (let no = are in cc)
+all_above r i (b ∷ rows) [] is up are = absurd (let no = are in cc)
+all_above r i (b ∷ rows) (j ∷ ids) is up are =
+    let head : column b 0 ≡ Int j = cc in
+    let tail : map (λ x. column x 0) rows ≡ map Int ids = cc in
+    let less : value_cmp (Int i) (Int j) ≡ Less = ap₂ value_cmp (sym is) (sym head) ∙ up.0 in
+    (ints_below i j (sym (value_cmp-Int i j) ∙ less), all_above r i rows ids is up.1 tail)
+
+rising_ids : (rows : List Row) → IsPairwise Below rows
+    → AllByRecursion (λ r. is_int (rowid r) ≡ true) rows → (ids : List ℤ) × AreRising rows ids
+rising_ids [] up all = ([], record { are = refl; rising = tt })
+rising_ids (r ∷ rows) up all =
+    let more = rising_ids rows up.1 all.1 in
+    let it = int_of (rowid r) all.0 in (
+      it.0 ∷ more.0,
+      record {
+        are = ap₂ ◌∷◌ it.1 more.1.are;
+        rising = (all_above r it.0 rows more.0 it.1 up.0 more.1.are, more.1.rising);
+      },
+    )
+
+-- ---- rows by number, of a table that is numbered
+
+kept_few : (p : Row → Bool) (rs : List Row) → length (filter p rs) ≤ length rs
+kept_few p [] = omega arith
+kept_few p (r ∷ rs) = go (p r) (kept_few p rs)
+  where
+    go : (b : Bool) → length (filter p rs) ≤ length rs
+        → length (cond b (r ∷ filter p rs) (filter p rs)) ≤ suc (length rs)
+    go true few = omega (arith, few)
+    go false few = omega (arith, few)
+
+by_rowid_total : IsTotalOrder (on rowid value_cmp)
+by_rowid_total = on_total rowid value_cmp_total
+
+made_alike : {A : Type 0} (f : A → Output) (xs : List A) → ((x : A) → (f x).0 ≡ (f x).1)
+    → AllByRecursion (λ o. (o.1, o.1) ≡ o) (map f xs)
+made_alike f [] same_parts = tt
+made_alike f (x ∷ xs) same_parts =
+    (ap (λ k. (k, (f x).1)) (sym (same_parts x)), made_alike f xs same_parts)
+
+sorted_alike : (f g : Row → Row → Ordering)
+    → ((a b : Row) → f a b ≡ g a b) → (xs : List Row) → IsSorted f xs → IsSorted g xs
+sorted_alike f g alike xs h k d p q = sym (ap is_lt (alike _ _)) ∙ h k d p q
+
+module _ (from : Join) (tests : List Term) (db : Trees) (es : List Row) (keep : Row → Bool)
+    (env : Row → Env) (matched : matches db tests from ([] ∷ [])
+    ≡ flat_map (λ r. cond (keep r) (env r ∷ []) []) es)
+    (shows : (r : Row) → eval_all (col 1 0 ∷ []) (env r) ≡ column r 0 ∷ []) where
+  abbrev q : Query
+  q = listing from tests (col 1 0 ∷ []) by_id all_of_them
+
+  abbrev key : Row → Row
+  key r = column r 0 ∷ []
+
+  -- all rows that such a query shows rise by their numbers
+  by_number : (rows : List Row) → IsAnswer q db [] rows → AreNumbered es
+      → IsPairwise Below rows × AllByRecursion (λ r. is_int (rowid r) ≡ true) rows
+      × (length rows ≤ length es)
+  by_number rows a ids =
+      let made = λ (r : Row). output q (env r) in
+      let kept : a.kept ≡ map made (filter keep es) =
+      a.distinct ∙ ap (map (output q)) (a.grouped ∙ matched) ∙ picked (output q) env keep es in
+      let twice : Output → Output = λ o. (o.1, o.1) in
+      let alike : AllByRecursion (λ o. twice o ≡ o) a.kept =
+      subst (AllByRecursion (λ o. twice o ≡ o)) (sym kept)
+      (made_alike made (filter keep es) (λ r. refl)) in
+      let whole = repaired twice a.ordered (permuted a.kept a.ordered a.same alike) in
+      let sorted = IsSorted-from_map (output_cmp q) twice a.ordered
+      (subst (IsSorted (output_cmp q)) (sym whole) a.sorted) in
+      let front = λ (o : Output). o.1 in
+      let keyed = IsSorted-map (key_cmp 0 (ascending Binary ∷ [])) front a.ordered sorted in
+      let shown : rows ≡ map front a.ordered = a.shown in
+      let keys : map front a.kept ≡ map key (filter keep es) =
+      ap (map front) kept ∙ map-map front made (filter keep es)
+      ∙ keys_of (filter keep es) in
+      let same_rows : IsPermutation (map key (filter keep es)) rows =
+      subst (IsPermutation (map key (filter keep es))) (sym shown)
+      (subst (λ xs. IsPermutation xs (map front a.ordered)) keys
+      (IsPermutation-map front a.kept a.ordered a.same)) in
+      let up : IsSorted (on rowid value_cmp) rows = sorted_alike (key_cmp 0 (ascending Binary ∷ []))
+      (on rowid value_cmp) (λ x y. then-Equal (value_cmp (column x 0) (column y 0))) rows
+      (subst (IsSorted (key_cmp 0 (ascending Binary ∷ []))) (sym shown) keyed) in
+      let differ = pairwise_of (λ x y. is_eq (value_cmp (rowid x) (rowid y)) ≡ false)
+      (map key (filter keep es))
+      (ascending-map (λ x y. is_eq (value_cmp (rowid x) (rowid y)) ≡ false) key (filter keep es)
+      (ascending-filter (λ x y. is_eq (value_cmp (rowid x) (rowid y)) ≡ false) keep es ids.apart)) in
+      let is = sorted_is (on rowid value_cmp) by_rowid_total (map key (filter keep es)) rows differ
+      same_rows up in (
+        subst (IsPairwise Below) (sym is)
+            (rises-sort_by (on rowid value_cmp) by_rowid_total (map key (filter keep es)) differ),
+        all-permuted (on rowid value_cmp) by_rowid_total (λ r. is_int (rowid r) ≡ true)
+            (map key (filter keep es)) rows same_rows
+            (all_map (λ r. is_int (rowid r) ≡ true) key (filter keep es)
+            (all-filter (λ r. is_int (rowid r) ≡ true) keep es ids.keyed)),
+        omega (
+          arith,
+          length_permutation _ _ same_rows,
+          length-map (filter keep es) key,
+          kept_few keep es,
+        ),
+      )
+    where
+      permuted : (xs ys : List Output) → IsPermutation xs ys
+          → AllByRecursion (λ o. (o.1, o.1) ≡ o) xs → AllByRecursion (λ o. (o.1, o.1) ≡ o) ys
+      permuted xs ys same_outputs all =
+          recursion_from_All (λ o. (o.1, o.1) ≡ o) ys
+          (All-permutation (λ o. (o.1, o.1) ≡ o) xs ys same_outputs
+          (All-from_recursion (λ o. (o.1, o.1) ≡ o) xs all))
+
+      keys_of : (rs : List Row) → map (λ r. eval_all (col 1 0 ∷ []) (env r)) rs ≡ map key rs
+      keys_of [] = refl
+      keys_of (r ∷ rs) = ap₂ ◌∷◌ (shows r) (keys_of rs)
+
+  -- so no first rows of it are refused
+  pub countable : (rows tail : List Row) → IsAnswer q db [] (rows ++ tail) → AreNumbered es
+      → length es < 2 ^ 64 - 1 → AreUncountable rows → ⊥
+  countable rows tail a ids few (inl never) =
+      let it = by_number (rows ++ tail) a ids in
+      let found = rising_ids rows (pairwise_front Below rows tail it.0)
+      (all_front (λ r. is_int (rowid r) ≡ true) rows tail it.1) in never found.0 found.1
+  countable rows tail a ids few (inr many) =
+      let it = by_number (rows ++ tail) a ids in
+      omega (arith, it.2, length-append rows tail, few, many)
+
+-- ---- the texts that are counted
+
+second : {A B : Type 0} → A × B → B
+second (a, b) = b
+
+start_in : (q : Query) (db : Trees) (rows : List Row) → IsSureStart q db [] rows
+    → (tail : List Row) × IsAnswer q db [] (rows ++ tail)
+start_in q db rows (tail, sure) = (tail, sure Null)
+
+first_is : (sql : List ℕ) (q : Query) (names : List (List ℕ)) (db : Trees) (rows : List Row)
+    → command_in (understood archive_schema sql) ≡ Select (record { lets = []; body = q }) names
+    → ReadsFirst (command_in (understood archive_schema sql))
+    (record { schema = archive_schema; trees = db }) [] rows
+    → (tail : List Row) × IsAnswer q (overlay db []) [] (rows ++ tail)
+first_is sql q names db rows is shown =
+    start_in q (overlay db []) rows
+    (second {A = accepts_program archive_schema [] q [] ≡ true}
+    {B = IsProgramStart [] q db [] rows}
+    (subst (λ c. ReadsFirst c (record { schema = archive_schema; trees = db }) [] rows) is shown))
+
+held_countable : (t : ℕ) (db : Trees) (rows tail : List Row)
+    → IsAnswer (held_in t) (overlay db []) [] (rows ++ tail) → overlay db [] t ≡ db t
+    → AreNumbered (db t) → length (db t) < 2 ^ 64 - 1 → AreUncountable rows → ⊥
+held_countable t db rows tail a seen ids few =
+    countable (inner t end) [] (overlay db []) (overlay db [] t) (λ _. true) (λ r. [] ∷ r ∷ []) refl
+    (λ r. refl) rows tail a (subst AreNumbered (sym seen) ids)
+    (subst (λ rs. length rs < 2 ^ 64 - 1) (sym seen) few)
+
+module _ (d : Database) (has : d.schema ≡ archive_schema) where
+  abbrev as_archive : Database
+  as_archive = record { schema = archive_schema; trees = d.trees }
+
+  as_archive_is : d ≡ as_archive
+  as_archive_is =
+      ap (λ (s : Schema). let w : Database = record { schema = s; trees = d.trees } in w) has
+
+  begun_in : (sql : List ℕ) → BeginsUncountable sql d → BeginsUncountable sql as_archive
+  begun_in sql = subst (λ x. BeginsUncountable sql x) as_archive_is
+
+  pub currents_held_whole : AreNumbered (d.trees 4) → length (d.trees 4) < 2 ^ 64 - 1
+      → BeginsUncountable currents_held_text d → ⊥
+  currents_held_whole ids few b =
+      let it = begun_in currents_held_text b in
+      let a = first_is currents_held_text (held_in 4) _ d.trees it.rows currents_held_is it.shown in
+      held_countable 4 d.trees it.rows a.0 a.1 refl ids few it.so
+
+  pub vectors_held_whole : AreNumbered (d.trees 6) → length (d.trees 6) < 2 ^ 64 - 1
+      → BeginsUncountable vectors_held_text d → ⊥
+  vectors_held_whole ids few b =
+      let it = begun_in vectors_held_text b in
+      let a = first_is vectors_held_text (held_in 6) _ d.trees it.rows vectors_held_is it.shown in
+      held_countable 6 d.trees it.rows a.0 a.1 refl ids few it.so
+
+  pub currents_wanted_whole : AreNumbered (d.trees 1) → length (d.trees 1) < 2 ^ 64 - 1
+      → BeginsUncountable currents_wanted_text d → ⊥
+  currents_wanted_whole ids few b =
+      let it = begun_in currents_wanted_text b in
+      let a = first_is currents_wanted_text (wanted_by later_tests) _ d.trees it.rows
+      currents_wanted_is it.shown in
+      countable (inner 1 (counted 1 (inner 1 end) (later_tests 2) end)) (op1 Not (col 2 0) ∷ [])
+      (overlay d.trees []) (d.trees 1)
+      (λ r. list_all (holds ([] ∷ r ∷ (later_than d.trees r ∷ []) ∷ [])) (op1 Not (col 2 0) ∷ []))
+      (λ r. [] ∷ r ∷ (later_than d.trees r ∷ []) ∷ []) refl (λ r. refl) it.rows a.0 a.1 ids few it.so
+
+  pub vectors_wanted_whole : AreNumbered (d.trees 1) → length (d.trees 1) < 2 ^ 64 - 1
+      → BeginsUncountable vectors_wanted_text d → ⊥
+  vectors_wanted_whole ids few b =
+      let it = begun_in vectors_wanted_text b in
+      let a = first_is vectors_wanted_text (wanted_by newer_tests) _ d.trees it.rows
+      vectors_wanted_is it.shown in
+      countable (inner 1 (counted 1 (inner 1 end) (newer_tests 2) end)) (op1 Not (col 2 0) ∷ [])
+      (overlay d.trees []) (d.trees 1)
+      (λ r. list_all (holds ([] ∷ r ∷ (newer_than d.trees r ∷ []) ∷ [])) (op1 Not (col 2 0) ∷ []))
+      (λ r. [] ∷ r ∷ (newer_than d.trees r ∷ []) ∷ []) refl (λ r. refl) it.rows a.0 a.1 ids few it.so
+
+-- ---- that no row that follows is missing
+
+same_int : (v w : Value) (n : ℤ) → v ≡ w → w ≡ Int n → same v w ≡ true
+same_int v w n e is = rw (e, is) (equals (Int n) (Int n) refl ∙ ap (λ k. is_eq k) (itself (Int n)))
+  where
+    itself : (x : Value) → value_cmp x x ≡ Equal
+    itself x = tied_itself value_cmp_total x
+
+same_blob : (v w : Value) (b : List ℕ) → v ≡ w → w ≡ Blob b → same v w ≡ true
+same_blob v w b e is =
+    rw (e, is) (equals (Blob b) (Blob b) refl ∙ ap (λ k. is_eq k) (itself (Blob b)))
+  where
+    itself : (x : Value) → value_cmp x x ≡ Equal
+    itself x = tied_itself value_cmp_total x
+
+has_from_map : {A B : Type 0} (f : A → B) (xs : List A) (y : B) → Has (map f xs) y
+    → (x : A) × Has xs x × (y ≡ f x)
+has_from_map f [] y h = absurd h
+has_from_map f (x ∷ xs) y (inl e) = (x, inl refl, e)
+has_from_map f (x ∷ xs) y (inr h) =
+    let it = has_from_map f xs y h in (it.0, inr it.1, it.2)
+
+all_has_permuted : (xs ys : List Row) → IsPermutation xs ys → AllByRecursion (Has ys) xs
+all_has_permuted xs ys same_rows =
+    recursion_from_All (Has ys) xs (All-permutation (Has ys) ys xs (IsPermutation-sym xs ys same_rows)
+    (All-from_recursion (Has ys) ys (each_itself ys)))
+  where
+    weaken : (y : Row) (zs ws : List Row) → AllByRecursion (Has zs) ws
+        → AllByRecursion (Has (y ∷ zs)) ws
+    weaken y zs [] all = tt
+    weaken y zs (w ∷ ws) all = (inr all.0, weaken y zs ws all.1)
+
+    each_itself : (zs : List Row) → AllByRecursion (Has zs) zs
+    each_itself [] = tt
+    each_itself (z ∷ zs) = (inl refl, weaken z zs zs (each_itself zs))
+
+any_by : {A : Type 0} (p : A → Bool) (xs : List A) (x : A) → Has xs x → p x ≡ true
+    → list_any p xs ≡ true
+any_by p [] x h is = absurd h
+any_by p (y ∷ xs) x (inl e) is = rw (subst (λ z. p z ≡ true) e is) refl
+any_by p (y ∷ xs) x (inr h) is = go (p y) (any_by p xs x h is)
+  where
+    go : (b : Bool) → list_any p xs ≡ true → (b || list_any p xs) ≡ true
+    go true e = refl
+    go false e = e
+
+eight_true : {a b c d e f g h : Bool} → a ≡ true → b ≡ true → c ≡ true → d ≡ true → e ≡ true
+    → f ≡ true → g ≡ true → h ≡ true
+    → (a && (b && (c && (d && (e && (f && (g && (h && true)))))))) ≡ true
+eight_true p q r s t u v w = rw (p, q, r, s, t, u, v, w) refl
+
+three_true : {a b c : Bool} → a ≡ true → b ≡ true → c ≡ true → (a && (b && (c && true))) ≡ true
+three_true p q r = rw (p, q, r) refl
+
+-- where one fits, none is missing
+off_by : (b : Bool) (n : ℕ) → n ≡ cond b 1 0 → b ≡ true → is_true (unary Not (Int (pos n))) ≡ false
+off_by b n count is =
+    ap (λ k. is_true (unary Not (Int (pos k)))) count ∙ not_flag b ∙ ap not is
+
+both_off : (a b : Bool) → b ≡ false → (a && (b && true)) ≡ false
+both_off true b e = rw e refl
+both_off false b e = refl
+
+first_off : (a b : Bool) → a ≡ false → (a && b) ≡ false
+first_off a b e = rw e refl
+
+none_listed : (key : Row → Row) (miss : Row → Bool) (rs all rows : List Row)
+    → AllByRecursion (λ r. miss r ≡ false) rs → IsPermutation (map key (filter miss rs)) all
+    → rows ≡ take 1 all → rows ≡ []
+none_listed key miss rs all rows off same_rows shown =
+    let empty : all ≡ [] = empty_by all (length_permutation (map key (filter miss rs)) all same_rows
+    ∙ ap (λ l. length (map key l)) (filter_none miss rs off)) in
+    shown ∙ ap (take 1) empty
+
+module _ (db : Trees) where
+  fits_it : (r c : Row) → IsCells (columns_of r)
+      → current_of (cells (db 1)) (columns_of r) ≡ current_columns c → fits_current db r c ≡ true
+  fits_it r c it same_row =
+      let at = λ (i : ℕ). ap (λ (x : Row). column x i) (sym same_row) in
+      let live = live_is (column r 7) it.asked (ap (λ x. column x 6) it.is) in
+      let asked : unary ToNumeric (binary (Compare Ne Binary) (column r 7) (Int (pos 4)))
+      ≡ Int live.0 = ap (unary ToNumeric) live.1 ∙ numeric_int live.0 in
+      let count : unary ToNumeric (others_of db r c) ≡ others_of db r c = numeric_int _ in
+      eight_true
+      (same_blob (column c 1) (column r 4) it.node (at 0) (ap (λ x. column x 3) it.is))
+      (same_int (column c 2) (column r 5) it.time (at 1) (ap (λ x. column x 4) it.is))
+      (same_int (column c 3) (column r 6) it.pico (at 2) (ap (λ x. column x 5) it.is))
+      (same_int (column c 4) (column r 3) it.tick (at 3) (ap (λ x. column x 2) it.is))
+      (same_int (column c 5) (column r 1) it.origin (at 4) (ap (λ x. column x 0) it.is))
+      (same_int (column c 6) (unary ToNumeric (binary (Compare Ne Binary) (column r 7)
+      (Int (pos 4)))) live.0 (at 5 ∙ live.1 ∙ sym asked) asked)
+      (same_int (column c 7) (unary ToNumeric (others_of db r c)) _
+      (at 6 ∙ sym (others_is db r c) ∙ sym count) count)
+      (same_blob (column c 8) (column r 9) it.value (at 7) (ap (λ x. column x 8) it.is))
+
+  no_current_lacked : HasCurrents db → AllByRecursion IsCells (cells (db 1))
+      → AllByRecursion (λ r. lacked db r ≡ false) (db 1)
+  no_current_lacked kept typed = go (db 1) there typed
+    where
+      top : Row → Bool
+      top c = not (list_any (is_later c) (cells (db 1)))
+
+      there : AllByRecursion (Has (map current_columns (db 4))) (currents_of (cells (db 1)))
+      there = all_has_permuted (currents_of (cells (db 1))) (map current_columns (db 4)) kept.0
+
+      one : (r : Row) → IsCells (columns_of r)
+          → Has (map current_columns (db 4)) (current_of (cells (db 1)) (columns_of r))
+          → lacked db r ≡ false
+      one r it h =
+          let found = has_from_map current_columns (db 4) _ h in
+          let some = any_by (fits_current db r) (db 4) found.0 found.1
+          (fits_it r found.0 it found.2) in
+          both_off (is_true (unary Not (later_than db r))) _
+          (off_by (list_any (fits_current db r) (db 4)) _ (counted_is (fits_current db r)
+          (λ c. [] ∷ r ∷ (later_than db r ∷ []) ∷ c ∷ (others_of db r c ∷ []) ∷ []) (db 4)) some)
+
+      go : (rs : List Row) → AllByRecursion (Has (map current_columns (db 4)))
+          (map (current_of (cells (db 1))) (filter top (map columns_of rs)))
+          → AllByRecursion IsCells (map columns_of rs)
+          → AllByRecursion (λ r. lacked db r ≡ false) rs
+      go [] h cs = tt
+      go (r ∷ rs) h cs = by (list_any (is_later (columns_of r)) (cells (db 1))) refl h
+          (λ more. go rs more cs.1) (λ has. one r cs.0 has)
+        where
+          rest : List Row
+          rest = map (current_of (cells (db 1))) (filter top (map columns_of rs))
+
+          by : (b : Bool) → list_any (is_later (columns_of r)) (cells (db 1)) ≡ b
+              → AllByRecursion (Has (map current_columns (db 4)))
+              (map (current_of (cells (db 1)))
+              (cond (not b) (columns_of r ∷ filter top (map columns_of rs))
+              (filter top (map columns_of rs))))
+              → (AllByRecursion (Has (map current_columns (db 4))) rest
+              → AllByRecursion (λ x. lacked db x ≡ false) rs)
+              → (Has (map current_columns (db 4)) (current_of (cells (db 1)) (columns_of r))
+              → lacked db r ≡ false)
+              → (lacked db r ≡ false) × AllByRecursion (λ x. lacked db x ≡ false) rs
+          by true later more on it = (first_off _ _ (no_later db r ∙ ap not later), on more)
+          by false last more on it = (it more.0, on more.1)
+
+  pub currents_none : (rows : List Row) → HasCurrents db → AllByRecursion IsCells (cells (db 1))
+      → IsAnswer lacks_current (overlay db []) [] rows → rows ≡ []
+  currents_none rows kept typed a =
+      let got = listed (inner 1 (counted 1 (inner 1 end) (later_tests 2)
+      (counted 1 (inner 4 (counted 1 (inner 1 end) (other_tests 4) end)) current_fits end)))
+      (op1 Not (col 2 0) ∷ op1 Not (col 3 0) ∷ []) (col 1 1 ∷ []) [] first_only []
+      (overlay db []) (db 1) (lacked db)
+      (λ r. [] ∷ r ∷ (later_than db r ∷ []) ∷ (current_count db r ∷ []) ∷ []) refl rows a in
+      none_listed (λ r. column r 1 ∷ []) (lacked db) (db 1) got.0 rows
+      (no_current_lacked kept typed) got.1 got.2
+
+  vector_fits_it : (r c : Row) → IsCells (columns_of r) → last_of (columns_of r) ≡ vector_columns c
+      → fits_vector db r c ≡ true
+  vector_fits_it r c it same_row =
+      let at = λ (i : ℕ). ap (λ (x : Row). column x i) (sym same_row) in
+      three_true
+      (same_int (column c 0) (column r 1) it.origin (at 0) (ap (λ x. column x 0) it.is))
+      (same_int (column c 2) (column r 2) it.number (at 1) (ap (λ x. column x 1) it.is))
+      (same_int (column c 3) (column r 3) it.tick (at 2) (ap (λ x. column x 2) it.is))
+
+  no_vector_missing : HasVectors db → AllByRecursion IsCells (cells (db 1))
+      → AllByRecursion (λ r. lacked_vector db r ≡ false) (db 1)
+  no_vector_missing kept typed = go (db 1) there typed
+    where
+      top : Row → Bool
+      top c = not (list_any (is_newer c) (cells (db 1)))
+
+      there : AllByRecursion (Has (map vector_columns (db 6))) (vectors_of (cells (db 1)))
+      there = all_has_permuted (vectors_of (cells (db 1))) (map vector_columns (db 6)) kept.0
+
+      one : (r : Row) → IsCells (columns_of r)
+          → Has (map vector_columns (db 6)) (last_of (columns_of r)) → lacked_vector db r ≡ false
+      one r it h =
+          let found = has_from_map vector_columns (db 6) _ h in
+          let some = any_by (fits_vector db r) (db 6) found.0 found.1
+          (vector_fits_it r found.0 it found.2) in
+          both_off (is_true (unary Not (newer_than db r))) _
+          (off_by (list_any (fits_vector db r) (db 6)) _ (counted_is (fits_vector db r)
+          (λ c. [] ∷ r ∷ (newer_than db r ∷ []) ∷ c ∷ []) (db 6)) some)
+
+      go : (rs : List Row) → AllByRecursion (Has (map vector_columns (db 6)))
+          (map last_of (filter top (map columns_of rs)))
+          → AllByRecursion IsCells (map columns_of rs)
+          → AllByRecursion (λ r. lacked_vector db r ≡ false) rs
+      go [] h cs = tt
+      go (r ∷ rs) h cs = by (list_any (is_newer (columns_of r)) (cells (db 1))) refl h
+          (λ more. go rs more cs.1) (λ has. one r cs.0 has)
+        where
+          rest : List Row
+          rest = map last_of (filter top (map columns_of rs))
+
+          by : (b : Bool) → list_any (is_newer (columns_of r)) (cells (db 1)) ≡ b
+              → AllByRecursion (Has (map vector_columns (db 6)))
+              (map last_of (cond (not b) (columns_of r ∷ filter top (map columns_of rs))
+              (filter top (map columns_of rs))))
+              → (AllByRecursion (Has (map vector_columns (db 6))) rest
+              → AllByRecursion (λ x. lacked_vector db x ≡ false) rs)
+              → (Has (map vector_columns (db 6)) (last_of (columns_of r))
+              → lacked_vector db r ≡ false)
+              → (lacked_vector db r ≡ false) × AllByRecursion (λ x. lacked_vector db x ≡ false) rs
+          by true newer more on it = (first_off _ _ (no_newer db r ∙ ap not newer), on more)
+          by false last more on it = (it more.0, on more.1)
+
+  pub vectors_none : (rows : List Row) → HasVectors db → AllByRecursion IsCells (cells (db 1))
+      → IsAnswer lacks_vector (overlay db []) [] rows → rows ≡ []
+  vectors_none rows kept typed a =
+      let got = listed (inner 1 (counted 1 (inner 1 end) (newer_tests 2)
+      (counted 1 (inner 6 end) vector_fits end))) (op1 Not (col 2 0) ∷ op1 Not (col 3 0) ∷ [])
+      (col 1 1 ∷ []) [] first_only [] (overlay db []) (db 1) (lacked_vector db)
+      (λ r. [] ∷ r ∷ (newer_than db r ∷ []) ∷ (vector_count db r ∷ []) ∷ []) refl rows a in
+      none_listed (λ r. column r 1 ∷ []) (lacked_vector db) (db 1) got.0 rows
+      (no_vector_missing kept typed) got.1 got.2
+
+module _ (d : Database) (has : d.schema ≡ archive_schema) where
+  shown_in : (sql : List ℕ) (rows : List Row) → ShowsOf sql d rows → ShowsOf sql (as_archive d has) rows
+  shown_in sql rows = subst (λ x. ShowsOf sql x rows) (as_archive_is d has)
+
+  pub currents_show_none : AllByRecursion IsCells (cells (d.trees 1))
+      → ShowsSome currents_lack_text d → HasCurrents d.trees → ⊥
+  currents_show_none typed (row, rows, shown) kept =
+      let none = currents_none d.trees (row ∷ rows) kept typed
+      (shown_is currents_lack_text lacks_current _ d.trees (row ∷ rows) currents_lack_is
+      (shown_in currents_lack_text (row ∷ rows) shown)) in cc
+
+  pub vectors_show_none : AllByRecursion IsCells (cells (d.trees 1))
+      → ShowsSome vectors_lack_text d → HasVectors d.trees → ⊥
+  vectors_show_none typed (row, rows, shown) kept =
+      let none = vectors_none d.trees (row ∷ rows) kept typed
+      (shown_is vectors_lack_text lacks_vector _ d.trees (row ∷ rows) vectors_lack_is
+      (shown_in vectors_lack_text (row ∷ rows) shown)) in cc
+
+-- ---- there are no more of them than records
+
+pub few_currents : (db : Trees) → AreWhole db → length (db 4) < 2 ^ 64 - 1
+few_currents db whole =
+    let rows = cells (db 1) in
+    let top = λ (r : Row). not (list_any (is_later r) rows) in
+    omega (
+      arith,
+      whole.few,
+      length_permutation _ _ whole.kept.currents,
+      length-map (db 4) current_columns,
+      length-map (filter top rows) (current_of rows),
+      kept_few top rows,
+      length-map (db 1) columns_of,
+    )
+
+pub few_vectors : (db : Trees) → AreWhole db → length (db 6) < 2 ^ 64 - 1
+few_vectors db whole =
+    let rows = cells (db 1) in
+    let top = λ (r : Row). not (list_any (is_newer r) rows) in
+    omega (
+      arith,
+      whole.few,
+      length_permutation _ _ whole.kept.vectors,
+      length-map (db 6) vector_columns,
+      length-map (filter top rows) last_of,
+      kept_few top rows,
+      length-map (db 1) columns_of,
+    )
