@@ -315,7 +315,7 @@ held_is : (h : Held) (t : ℤ) (v : DataValue) (e : Bool) → h.time ≡ t → h
     → h ≡ record { time = t; value = v; extra = e }
 held_is h t v e p q r = rw (sym p, sym q, sym r) refl
 
-read_value : (v : DataValue) → IsDataValue v → data_value.read (data_value.canon v) ≡ Ok (v, [])
+pub read_value : (v : DataValue) → IsDataValue v → data_value.read (data_value.canon v) ≡ Ok (v, [])
 unfolding data_value
 read_value v h = subst (λ bs. data_value.read bs ≡ Ok (v, [])) (append-nil (data_value.canon v))
     (data_value_lawful.only (data_value.canon v) v [] (data_value_lawful.written v h))

@@ -1,3 +1,4 @@
+pub mod FewLemmas
 pub mod StoryLemmas
 pub mod WalkLemmas
 pub mod PageLemmas

@@ -1,5 +1,5 @@
 -- A loop over the stories of a node.
-use Rattle.std.proofs.Common.{◌≡◌, ℕ, ◌≤◌, ℤ, pos, ◌++◌, List, [], take, length, Bool, false, Option, Some, None, Ok, sym, ap, ap₂, subst, ◌∙◌, arith, inl, inr}
+use Rattle.std.proofs.Common.{◌≡◌, ℕ, ◌+◌, ◌∷◌, ◌≤◌, ℤ, pos, ◌++◌, List, [], take, length, Bool, false, Option, Some, None, Ok, sym, ap, ap₂, subst, ◌∙◌, arith, inl, inr}
 use Rattle.std.specs.List.{flat_map}
 use Rattle.std.proofs.lemmas.Int.{ints}
 use Rattle.sqlite_trees.specs.Tree.{Trees}
@@ -26,6 +26,9 @@ use Rattle.sql_reading.proofs.WalkLemmas.{still, whole, enough}
 pub memory_own : (f : StoreFault) → f ≡ OutOfMemory → IsOfOpening f → ⊥
 memory_own f e (inl o) = absurd (let p = sym e ∙ o in cc)
 memory_own f e (inr o) = absurd (let p = sym e ∙ o in cc)
+
+pub memory_unlike : (f : StoreFault) → f ≡ OutOfMemory → f ≡ Refused → ⊥
+memory_unlike f e is = let p = sym e ∙ is in cc
 
 pub refused_own : IsOfOpening Refused → ⊥
 refused_own (inl o) = absurd (let p = o in cc)
@@ -135,3 +138,25 @@ pub still_filled : (a b : State) → Passed a b → (HasCleanDisk a → IsFilled
     → HasCleanDisk b → IsFilled b.now.trees
 still_filled a b p filled clean = subst IsFilled (sym (same_trees a b p clean))
     (filled (early a b p clean))
+
+-- what is told of a time is that it is the first beyond the place
+pub story_first : (node : NodeId) (v : ℕ → ℕ) (d : Direction) (far : ℤ) (db now : Trees) (place : ℤ)
+    (s : Story) (held : List Record) (ends : Bool) → now ≡ db
+    → IsStoryRead (content_in now) node v d place far (Some s) held ends
+    → stretch d place far (times (content_in db) node)
+    ≡ s.time ∷ stretch d s.time far (times (content_in db) node)
+story_first node v d far db now place s held ends same told =
+    subst (λ t. stretch d place far (times (content_in t) node)
+    ≡ s.time ∷ stretch d s.time far (times (content_in t) node)) same told.0.first
+
+-- so one time less stands beyond it
+pub stretch_shorter : (node : NodeId) (d : Direction) (far : ℤ) (db : Trees) (place time next : ℤ)
+    → next ≡ time
+    → stretch d place far (times (content_in db) node)
+    ≡ time ∷ stretch d time far (times (content_in db) node)
+    → length (stretch d place far (times (content_in db) node))
+    ≡ length (stretch d next far (times (content_in db) node)) + 1
+stretch_shorter node d far db place time next is first =
+    let shorter = ap length first in
+    let same = ap (λ t. length (stretch d t far (times (content_in db) node))) is in
+    omega (arith, shorter, same)

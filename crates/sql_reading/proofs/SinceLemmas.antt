@@ -36,7 +36,7 @@ use Rattle.sql_tables.proofs.RowLemmas.{content_is}
 use Rattle.sql_reading.proofs.StoryLemmas.{numbers_cmp, filter_as}
 use Rattle.sql_reading.proofs.PageLemmas.{page_found, compared, truly}
 use Rattle.sql_reading.proofs.WalkLemmas.{filter_none}
-use Rattle.sql_reading.proofs.LoopLemmas.{memory_own}
+use Rattle.sql_reading.proofs.LoopLemmas.{memory_own, memory_unlike}
 use Rattle.sql_tables.proofs.AskLemmas.{Passed, passed_none, passed_ok, passed_then, passed_told, early, same_trees}
 
 -- ---- the rows of an origin
@@ -187,6 +187,7 @@ pushed a b rows P (Ok u) Q S h q m f = record {
   kept =
       λ clean ok. h.kept clean refl;
   met = tt;
+  refused = λ clean. tt;
   crash = h.crash;
 }
 pushed a b rows P (Err e) Q S h q m f = record {
@@ -194,6 +195,7 @@ pushed a b rows P (Err e) Q S h q m f = record {
   kept =
       λ clean ok. h.kept clean refl;
   met = memory_own e m;
+  refused = λ clean is. absurd (memory_unlike e m is);
   crash = h.crash;
 }
 

@@ -112,7 +112,7 @@ pub(crate) fn values<S: Alter>(
     let mut found = Vec::new(reading.alloc);
     let mut ahead = nothing_ahead(reading.alloc);
     let mut place = span.start;
-    for _ in 0..u64::MAX {
+    'times: for gone in 0..u64::MAX {
         if found.len() >= limit {
             found.truncate(limit);
             return Ok(found);
@@ -157,7 +157,7 @@ pub(crate) fn entries<S: Alter>(
     let mut found = Vec::new(reading.alloc);
     let mut ahead = nothing_ahead(reading.alloc);
     let mut place = span.start;
-    for _ in 0..u64::MAX {
+    'times: for gone in 0..u64::MAX {
         if found.len() >= limit {
             found.truncate(limit);
             return Ok(found);

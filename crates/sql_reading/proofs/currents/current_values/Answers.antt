@@ -9,7 +9,8 @@ use Rattle.sql_tables.specs.Derived.{current_columns}
 use Rattle.sql_tables.specs.Currents.{AreNextCurrents, helds_in}
 use Rattle.sql_reading.proofs.CurrentLemmas.{currents_found, first_limited}
 use Rattle.archive.specs.Fault.{of_record}
-use Rattle.sql_reading.proofs.ReadableLemmas.{never_opening}
+use Rattle.sql_reading.specs.Readable.{HasUnreadable}
+use Rattle.sql_reading.proofs.FewLemmas.{unread_told, currents_read}
 use Rattle.sql_reading.proofs.currents.current_values.Goals as goal
 
 pub returns-in_err-found : goal.returns-in_err-found
@@ -17,12 +18,27 @@ returns-in_err-found g c =
     let e = c.in_ok-rows.ensures in
     let told : c.from_residual-in_err-found.result
     ≡ Err (of_record c.in_err-found.field-0.0) = search rules in
-    rw told (record {
-      answer = λ clean. tt;
-      kept = λ clean ok. e.kept clean refl;
-      met = never_opening c.in_err-found.field-0.0;
-      crash = e.crash;
-    })
+    let db = (state g.S.Store c.args.conn.now).now.trees in
+    let s = c.args.span.start in
+    let d = c.args.reading.now.direction in
+    let rows = c.in_ok-rows.rows.items in
+    let limit = as_count (Int c.stretch_of-along.result.count) in
+    let unread = rw c.deref.ensures.value at c.in_err-found.ensures.unread in
+    rw told (unread_told (state g.S.Store c.args.conn.now)
+    (state g.S.Store c.currents_next.new.conn) c.in_ok-rows.rows _ c.in_err-found.field-0.0
+    (HasUnreadable rows) _ e unread (λ clean none whole.
+    let page : AreNextCurrents d c.args.reading.now.bytes.now s.ticks s.pico
+    (ticks_of c.args.span.far)
+    (pos (pico_of c.args.span.far)) limit (map current_columns (db 4)) rows =
+    rw (
+      c.stretch_of-along.ensures.near.0,
+      c.stretch_of-along.ensures.near.1,
+      c.stretch_of-along.ensures.far.0,
+      c.stretch_of-along.ensures.far.1,
+    ) at
+    (e.answer clean) in
+    currents_read d db c.args.reading.now.bytes.now s.ticks s.pico (ticks_of c.args.span.far)
+    (pos (pico_of c.args.span.far)) limit rows whole page none))
 
 pub returns : goal.returns
 returns g c =
@@ -56,5 +72,6 @@ returns g c =
           c.stretch_of-along.ensures.count items;
       kept = λ clean ok. e.kept clean refl;
       met = tt;
+      refused = λ clean. tt;
       crash = e.crash;
     }

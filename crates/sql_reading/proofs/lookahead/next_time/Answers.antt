@@ -25,5 +25,6 @@ returns g c =
           (e.answer clean).0 (e.answer clean).1);
       kept = λ clean ok. e.kept clean refl;
       met = tt;
+      refused = λ clean. tt;
       crash = e.crash;
     }

@@ -42,5 +42,6 @@ returns g c =
           (c.requires.filled (omega (arith, e.crash.clean, clean))) h)))));
       kept = λ clean ok. e.kept clean refl;
       met = tt;
+      refused = λ clean. tt;
       crash = e.crash;
     }

@@ -1,9 +1,25 @@
-use Rattle.std.proofs.Common.{◌∙◌, ap, arith}
+use Rattle.std.proofs.Common.{rules, ◌≡◌, Err, ◌∙◌, ap, arith}
 use Rattle.std.specs.List.{flat_map}
 use Rattle.sqlite.specs.Held.{state}
-use Rattle.sql_tables.specs.Rows.{records_in}
+use Rattle.archive.specs.Fault.{of_record}
+use Rattle.sql_tables.specs.Words.{cells}
+use Rattle.sql_tables.specs.Rows.{records_in, HasNoRecords}
+use Rattle.sql_reading.proofs.FewLemmas.{unread_told, all_read, among_page}
 use Rattle.sql_reading.proofs.SinceLemmas.{behind_found, pushed}
 use Rattle.sql_reading.proofs.since.push_behind.Goals as goal
+
+pub returns-in_err-more : goal.returns-in_err-more
+returns-in_err-more g c =
+    let e = c.in_ok-rows.ensures in
+    let a = state g.S.Store c.args.conn.now in
+    let rows = c.in_ok-rows.rows.items in
+    let told : c.from_residual-in_err-more.result ≡ Err (of_record c.in_err-more.field-0.0) =
+    search rules in
+    let unread = rw c.deref.ensures.value at c.in_err-more.ensures.unread in
+    rw told (unread_told a (state g.S.Store c.rows_behind.new.conn) c.in_ok-rows.rows _
+    c.in_err-more.field-0.0 (HasNoRecords rows) _ e unread (λ clean none whole.
+    all_read a.now.trees rows whole.filled (among_page _ _ _ (cells (a.now.trees 1)) rows
+    (e.answer clean)) none))
 
 pub returns : goal.returns
 returns g c =

@@ -19,5 +19,6 @@ returns g c =
           );
       kept = λ clean ok. e.kept clean refl;
       met = tt;
+      refused = λ clean. tt;
       crash = e.crash;
     }

@@ -1,4 +1,4 @@
-use Rattle.std.proofs.Common.{◌≡◌, ◌∙◌, sym, subst, Some, None, IfSome}
+use Rattle.std.proofs.Common.{rules, Err, ◌≡◌, ◌∙◌, sym, subst, Some, None, IfSome}
 use Rattle.sqlite.specs.Held.{state}
 use Rattle.stamp.specs.Numbers.{number_of}
 use Rattle.records.specs.Contents.{cut}
@@ -6,7 +6,7 @@ use Rattle.records.specs.Records.{versions}
 use Rattle.archive.specs.Reading.{times}
 use Rattle.sql_tables.specs.Rows.{content_in}
 use Rattle.sql_reading.specs.Walking.{moment_at, IsNextTime, IsAhead, StandsFirst}
-use Rattle.sql_tables.proofs.AskLemmas.{passed_ok, passed_then, passed_told, early, same_trees}
+use Rattle.sql_tables.proofs.AskLemmas.{passed_err, passed_ok, passed_then, passed_told, early, same_trees}
 use Rattle.sql_reading.proofs.WalkLemmas.{no_story, stretch_stops, next_story_is}
 use Rattle.sql_reading.proofs.walking.next_story.Goals as goal
 
@@ -89,3 +89,13 @@ returns g c =
           c.in-Some.time
           c.covered_story.new.ahead.records.items c.covered_story.new.ahead.ends) same told.1,
     ))
+
+pub returns-in_err-records : goal.returns-in_err-records
+returns-in_err-records g c =
+    let a = state g.S.Store c.args.conn.now in
+    let b = state g.S.Store c.next_time.new.conn in
+    let told : c.from_residual-in_err-records.result ≡ Err c.in_err-records.field-0.0 =
+    search rules in
+    rw told (passed_err a b (state g.S.Store c.covered_story.new.conn) c.in_err-records.field-0.0 _
+    _
+    (passed_ok a b c.in_ok-next.next _ c.in_ok-next.ensures) c.in_err-records.ensures)
