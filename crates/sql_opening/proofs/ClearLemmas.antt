@@ -31,12 +31,14 @@ use Rattle.archive.specs.Store.{IsOfOpening, fault_in}
 use Rattle.archive.specs.Listed.{is_broken}
 use Rattle.sql_schema.specs.Tables.{archive_schema, with_records_beside, beside_schema, records_beside, currents_beside}
 use Rattle.sql_tables.specs.Rows.{meta_cells}
-use Rattle.sql_tables.specs.State.{Found, Holds, Making}
+use Rattle.sql_tables.specs.State.{Found, FoundOr, Holds, Making}
 use Rattle.sql_tables.proofs.AgreeLemmas.{listing, listed, none_first, none_of, none_passes, first_only}
 use Rattle.sql_tables.proofs.Texts.{drop_currents_text, drop_records_text}
 use Rattle.sql_tables.proofs.WriteLemmas.{went, same_value}
+use Rattle.sql_tables.specs.Asking.{IsAnswered}
+use Rattle.sql_tables.proofs.AnsweredLemmas.{Suits, answered_by}
 use Rattle.sql_opening.specs.Clearing.{AreBare, KeepsTables, IsCleared}
-use Rattle.sql_opening.specs.Opening.{checked_meta, judged_as, OpensBeside}
+use Rattle.sql_opening.specs.Opening.{checked_meta, judged_as, AnyReason, OpensBeside}
 
 -- ---- whether they hold a row
 
@@ -65,11 +67,22 @@ current_first : IsFirst some_current_text 10 4
 unfolding understood everything
 current_first = (refl, refl, (refl, refl))
 
-pub record_plain : IsPlain (understood beside_schema some_record_text)
-record_plain = record_first.2
+record_suits : Suits beside_schema some_record_text [] (understood beside_schema some_record_text)
+unfolding understood everything
+record_suits = ((refl, refl), refl, refl, refl)
 
-pub current_plain : IsPlain (understood beside_schema some_current_text)
-current_plain = current_first.2
+pub record_answered : IsAnswered beside_schema some_record_text []
+record_answered =
+    answered_by beside_schema some_record_text [] record_first.1 record_suits
+
+current_suits : Suits beside_schema some_current_text []
+    (understood beside_schema some_current_text)
+unfolding understood everything
+current_suits = ((refl, refl), refl, refl, refl)
+
+pub current_answered : IsAnswered beside_schema some_current_text []
+current_answered =
+    answered_by beside_schema some_current_text [] current_first.1 current_suits
 
 -- rows that none of passes a test that all pass are none
 no_rows : (rows : List Row) → AllByRecursion (λ r. true ≡ false) rows → rows ≡ []
@@ -228,7 +241,7 @@ cleared_then a b c one two = record {
 -- what an opening makes of them
 pub opened_beside : (id : List ℕ) (own : ℕ) (a b c : State) (result : Result Unit StoreFault)
     → Found a b (Ok (Ok tt)) (λ told. told ≡ checked_meta id own (meta_cells a.now.trees))
-    → Found b c result (λ _. AreBare b.now.trees) → (HasCleanDisk c → HasCleanDisk b)
+    → FoundOr AnyReason b c result (λ _. AreBare b.now.trees) → (HasCleanDisk c → HasCleanDisk b)
     → OpensBeside id own a c result
 opened_beside id own a b c result one two early = record {
   opened = λ clean. go result (one.kept (early clean) refl) (one.answer (early clean))

@@ -42,7 +42,7 @@ use Rattle.sqlite_value.specs.Order.{column}
 use Rattle.sqlite_value.specs.declared.value.Value.{Value}
 use Rattle.sqlite_value.specs.declared.value.Value.TheVariants.{Null, Int, Real, Text, Blob as Bytes}
 use Rattle.sqlite.specs.Effect.{Database}
-use Rattle.sqlite.specs.State.{State, HasCleanDisk, IsUnchanged, Begins}
+use Rattle.sqlite.specs.State.{State, HasCleanDisk, IsUnchanged, Begins, Survives}
 use Rattle.sqlite.proofs.StateLemmas.{survives_then}
 use Rattle.sqlite.proofs.Callers.{one_permutation}
 use Rattle.archive.specs.declared.fault.StoreFault.{StoreFault}
@@ -50,7 +50,8 @@ use Rattle.archive.specs.declared.fault.StoreFault.TheVariants.{OutOfMemory, Wro
 use Rattle.archive.specs.Store.{IsOfOpening, fault_in}
 use Rattle.archive.specs.Listed.{is_broken}
 use Rattle.sql_tables.specs.Rows.{IsStored, meta_row, meta_columns, meta_cells}
-use Rattle.sql_tables.specs.State.{Found, Holds, IsNewArchive}
+use Rattle.sql_tables.specs.State.{MayBeStopped, AreWhole, LeavesUnchanged, Found, FoundOr, Holds, IsNewArchive}
+use Rattle.sql_tables.proofs.AskLemmas.{stops_behind}
 use Rattle.std.proofs.Common.{max, ap₂}
 use Rattle.std.specs.Int.{int_max}
 use Rattle.std.proofs.lemmas.List.{map-append}
@@ -61,7 +62,7 @@ use Rattle.records.proofs.ContentsParts.{number_from}
 use Rattle.sql_opening.specs.Latest.{Remembers, Raises}
 use Rattle.sql_opening.specs.declared.checking.Mark.{Mark}
 use Rattle.sql_opening.specs.declared.checking.Walk.{Walk}
-use Rattle.sql_opening.specs.Opening.{mark_of, nowhere, comes_next, are_in_turn, mark_behind, HasWalked, HasChecked, AreOutOfTurn, BeginOutOfTurn, has_number, has_bytes, judged_row, judged_as, checked_meta, Opens}
+use Rattle.sql_opening.specs.Opening.{mark_of, nowhere, comes_next, are_in_turn, mark_behind, HasWalked, HasChecked, AreOutOfTurn, BeginOutOfTurn, has_number, has_bytes, judged_row, judged_as, checked_meta, AnyReason, AreNoStores, IsNoStore, Opens, OpensAll}
 
 -- the content ends with this mark: its origin's last number and tick, and no later origin
 record Ends (P : Content) (m : Mark) : Type 0 where
@@ -473,12 +474,13 @@ meta_passed format id own (r ∷ s ∷ rows) e = absurd cc
 pub opened_by : {A : Type 0} (id : List ℕ) (own : ℕ) (a b c : State) (P : Trees → A → Type 0)
     (result : Result A StoreFault)
     → Found a b (Ok (Ok tt)) (λ told. told ≡ checked_meta id own (meta_cells a.now.trees))
-    → Found b c result (λ l. IsFilled b.now.trees × P b.now.trees l)
+    → FoundOr (BeginOutOfTurn b.now.trees) b c result (λ l. IsFilled b.now.trees × P b.now.trees l)
     → (HasCleanDisk c → HasCleanDisk b) → Opens id own a c (P a.now.trees) result
 opened_by {A} id own a b c P result one two early = record {
   opened = λ clean. go result (one.kept (early clean) refl) (one.answer (early clean))
       (two.kept clean) (two.answer clean);
   wrong = λ clean. never result two.met;
+  refused = λ clean. why result (one.kept (early clean) refl) (two.refused clean);
   crash = survives_then a b c _ _ _ (λ clean db none. none)
       (λ clean db none. none) one.crash two.crash;
 }
@@ -503,10 +505,110 @@ opened_by {A} id own a b c P result one two early = record {
         )
     go (Err f) s is more filled = tt
 
+    why : (r : Result A StoreFault) → Holds a b
+        → IfErr r (λ f. f ≡ Refused → MayBeStopped b c ⊎ BeginOutOfTurn b.now.trees)
+        → IfErr r (λ f. f ≡ Refused → MayBeStopped a c ⊎ AreNoStores id own a.now.trees)
+    why (Ok l) s h = tt
+    why (Err f) s h = λ is. elim (h is) [
+      | inl stopped ↦ inl (stops_behind a b c _ one.crash stopped)
+      | inr so ↦ inr (inr (subst BeginOutOfTurn (ap (λ (d : Database). d.trees) s.same) so))
+    ]
+
     never : (r : Result A StoreFault) → IfErr r (λ f. IsOfOpening f → ⊥)
         → IfErr r (λ f. IsOfOpening f → checked_meta id own (meta_cells a.now.trees) ≡ Err f)
     never (Ok t) h = tt
     never (Err f) h = λ o. absurd (h o)
+
+-- where nothing is said of why we refuse
+pub any_reason : (P : Type 0) → P ⊎ AnyReason
+any_reason P = inr tt
+
+-- the ways in which a walk is refused
+pub walked_told : {A : Type 0} (a b : State) (fault : StoreFault) (P : A → Type 0)
+    → (fault ≡ OutOfMemory) ⊎ (fault ≡ Refused)
+    → (HasCleanDisk b → (fault ≡ OutOfMemory) ⊎ BeginOutOfTurn a.now.trees)
+    → (HasCleanDisk b → Holds a b) → Survives a b (λ _. ⊥)
+    → FoundOr (BeginOutOfTurn a.now.trees) {A = A} a b (Err fault) P
+walked_told a b fault P named why kept crash = record {
+  answer = λ clean. tt;
+  kept = λ clean ok. kept clean;
+  met = own named;
+  refused = λ clean is. go is (why clean);
+  crash = crash;
+}
+  where
+    own : (fault ≡ OutOfMemory) ⊎ (fault ≡ Refused) → IsOfOpening fault → ⊥
+    own (inl e) (inl o) = absurd (let bad = sym e ∙ o in cc)
+    own (inl e) (inr o) = absurd (let bad = sym e ∙ o in cc)
+    own (inr e) (inl o) = absurd (let bad = sym e ∙ o in cc)
+    own (inr e) (inr o) = absurd (let bad = sym e ∙ o in cc)
+
+    go : fault ≡ Refused → (fault ≡ OutOfMemory) ⊎ BeginOutOfTurn a.now.trees
+        → MayBeStopped a b ⊎ BeginOutOfTurn a.now.trees
+    go is (inl e) = absurd (let bad = sym e ∙ is in cc)
+    go is (inr so) = inr so
+
+pub walked_failed : {A : Type 0} (O : Type 0) (a c : State) (fault : StoreFault) (P : A → Type 0)
+    → Found {A = A} a c (Err fault) P → FoundOr O {A = A} a c (Err fault) P
+walked_failed O a c fault P h = record {
+  answer = h.answer;
+  kept = h.kept;
+  met = h.met;
+  refused = λ clean is. elim (h.refused clean is) [ inl stopped ↦ inl stopped | inr n ↦ absurd n ];
+  crash = h.crash;
+}
+
+-- the ways in which an opening is refused
+pub opened_err : {A B : Type 0} (id : List ℕ) (own : ℕ) (a b : State) (fault : StoreFault)
+    (P : A → Type 0) (Q : B → Type 0) → Found {A = A} a b (Err fault) P
+    → Opens {A = B} id own a b Q (Err fault)
+opened_err id own a b fault P Q h = record {
+  opened = λ clean. tt;
+  wrong = λ clean o. absurd (h.met o);
+  refused = λ clean is. elim (h.refused clean is) [ inl stopped ↦ inl stopped | inr n ↦ absurd n ];
+  crash = h.crash;
+}
+
+pub opened_told : {B : Type 0} (id : List ℕ) (own : ℕ) (a b : State) (fault : StoreFault)
+    (Q : B → Type 0)
+    → Found a b (Ok (Err fault)) (λ told. told ≡ checked_meta id own (meta_cells a.now.trees))
+    → Opens {A = B} id own a b Q (Err fault)
+opened_told id own a b fault Q h = record {
+  opened = λ clean. tt;
+  wrong = λ clean o. sym (h.answer clean);
+  refused = λ clean is. inr (inl (sym (h.answer clean) ∙ ap (λ f. Err f) is));
+  crash = h.crash;
+}
+
+pub opened_all_err : {A B : Type 0} (id : List ℕ) (own : ℕ) (a b : State) (fault : StoreFault)
+    (P : A → Type 0) (Q : B → Type 0) → Opens {A = A} id own a b P (Err fault)
+    → OpensAll {A = B} id own a b Q (Err fault)
+opened_all_err id own a b fault P Q h = record {
+  opened = λ clean. tt;
+  wrong = h.wrong;
+  refused = λ clean is. elim (h.refused clean is)
+      [ inl stopped ↦ inl stopped | inr none ↦ inr (inl none) ];
+  crash = h.crash;
+}
+
+pub opened_kept_err : {A B C : Type 0} (id : List ℕ) (own : ℕ) (a b c : State) (v : A)
+    (fault : StoreFault) (P : A → Type 0) (Q : B → Type 0) (S : C → Type 0)
+    → Opens id own a b P (Ok v) → LeavesUnchanged {A = B} b c (Err fault) Q
+    → OpensAll {A = C} id own a c S (Err fault)
+opened_kept_err id own a b c v fault P Q S one two = record {
+  opened = λ clean. tt;
+  wrong = λ clean o. absurd (two.met o);
+  refused = λ clean is. go (one.opened (omega (arith, two.crash.clean, clean))).0
+      (two.refused clean is);
+  crash = survives_then a b c _ _ _ (λ clean db none. none)
+      (λ clean db none. none) one.crash two.crash;
+}
+  where
+    go : Holds a b → MayBeStopped b c ⊎ (AreWhole b.now.trees → ⊥)
+        → MayBeStopped a c ⊎ IsNoStore id own a.now.trees
+    go s (inl stopped) = inl (stops_behind a b c _ one.crash stopped)
+    go s (inr so) = inr (inr (subst (λ d. AreWhole d → ⊥)
+        (ap (λ (d : Database). d.trees) s.same) so))
 
 -- tables without records hold nothing
 pub nothing_in : (db : Trees) → db 1 ≡ [] → content_in db ≡ []

@@ -23,8 +23,8 @@ use Rattle.sql_tables.specs.Words.{cells}
 use Rattle.sql_tables.specs.Derived.{currents_of, current_columns, vectors_of, vector_columns}
 use Rattle.sql_tables.specs.Rows.{row_of, meta_cells, meta_columns}
 use Rattle.sql_tables.specs.Keeping.{AddsRecord, Fills}
-use Rattle.sql_tables.specs.State.{Making, IsNewArchive, Found, Holds, shown_of}
-use Rattle.sql_opening.specs.Opening.{has_bytes, has_number, checked_meta, judged_as, HasWalked, OpensV1}
+use Rattle.sql_tables.specs.State.{Making, IsNewArchive, Found, FoundOr, Holds, shown_of}
+use Rattle.sql_opening.specs.Opening.{AnyReason, has_bytes, has_number, checked_meta, judged_as, HasWalked, OpensV1}
 use Rattle.sql_opening.specs.Renewing.{columns1, cells1, current1, meta1_row, IsStored1, IsRead1, IsRenewed, IsTurned, PutsRecords}
 use Rattle.sql_tables.proofs.QueryLemmas.{repaired}
 use Rattle.sql_tables.proofs.DerivedLemmas.{currents_permuted, vectors_permuted}
@@ -221,7 +221,7 @@ renewed_is_own id own rows db made = ap (checked_meta id own) made.meta ∙ own_
 -- what an opening makes of its rows
 pub opened_rows : (id : List ℕ) (own : ℕ) (a b c : State) (result : Result Rows1 StoreFault)
     → Found a b (Ok (Ok tt)) (λ told. told ≡ judged_as 1 id own (meta_cells a.now.trees))
-    → Found b c result (IsRead1 b.now.trees) → (HasCleanDisk c → HasCleanDisk b)
+    → FoundOr AnyReason b c result (IsRead1 b.now.trees) → (HasCleanDisk c → HasCleanDisk b)
     → OpensV1 id own a c result
 opened_rows id own a b c result one two early = record {
   opened = λ clean. go result (one.kept (early clean) refl) (one.answer (early clean))

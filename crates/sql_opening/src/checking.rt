@@ -8,7 +8,7 @@ ghost use Rattle.sqlite_value.specs.declared.value.Value.TheVariants as value;
 ghost use Rattle.records.specs.Spelling.{IsRecord};
 ghost use Rattle.sql_tables.specs.Rows.{row_of, IsNoRecords};
 ghost use Rattle.sql_schema.specs.Tables.{archive_schema};
-ghost use Rattle.sql_tables.specs.State.{Holds, IsOpenAndIdle, shown_of};
+ghost use Rattle.sql_tables.specs.State.{MayBeStopped, Holds, IsOpenAndIdle, shown_of};
 ghost use Rattle.sql_opening.specs.Opening.{comes_next, HasWalked, HasChecked, AreOutOfTurn, BeginOutOfTurn};
 ghost use Rattle.sql_tables.specs.Connections.{WhereClean, HasSchema, tables_of, CommitsNothing};
 ghost use Rattle.sql_tables.specs.Words.{row_of_cells};
@@ -17,7 +17,7 @@ use crate::latest::{Latest, raised};
 use archive::StoreFault;
 use records::Record;
 use sql_tables::{Cells, bytes_at, decode, int_at, make_cells};
-use sqlite::{Alter, Connection, Error, Row};
+use sqlite::{Alter, Connection, Error, ErrorCode, Row};
 use stamp::Vector;
 use std::alloc::Global;
 
@@ -172,6 +172,10 @@ pub(crate) fn check_rows<S: Alter>(
     ensures refused { HasCleanDisk (state S.Store conn.new)
         → IfErr result (λ _. IsTrue (state S.Store conn.new).is_open
         → Holds (state S.Store conn.old) (state S.Store conn.new)) }
+    ensures stopped { HasCleanDisk (state S.Store conn.new)
+        → IfErr result
+        (λ e. (e ≡ Error.SqliteFailure ErrorCode.OutOfMemory → ⊥)
+        → MayBeStopped (state S.Store conn.old) (state S.Store conn.new)) }
     ensures crash { CommitsNothing S.Store conn.old conn.new }
 {
     let mut walk = start();

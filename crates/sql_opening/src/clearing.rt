@@ -4,9 +4,9 @@ ghost use Rattle.std.specs.Prelude.{◌≡◌, [], false};
 ghost use Rattle.sqlite.specs.State.{Survives};
 ghost use Rattle.sqlite.specs.Held.{state};
 ghost use Rattle.sql_schema.specs.Tables.{archive_schema, with_records_beside, beside_schema};
-ghost use Rattle.sql_tables.specs.State.{Found, Making, IsOpenAndIdle};
+ghost use Rattle.sql_tables.specs.State.{Found, FoundOr, Making, IsOpenAndIdle};
 ghost use Rattle.sql_opening.specs.Clearing.{AreBare, KeepsTables, IsCleared};
-ghost use Rattle.sql_opening.specs.Opening.{OpensBeside};
+ghost use Rattle.sql_opening.specs.Opening.{AnyReason, OpensBeside};
 ghost use Rattle.sql_tables.specs.Connections.{WhereClean, HasSchema, tables_of, CommitsNothing, Writes, Commits};
 
 use crate::opening::judge;
@@ -37,10 +37,11 @@ fn first_current<S: Alter>(conn: &mut Connection<S>) -> Result<Vec<Row>, StoreFa
 }
 
 /// Refuses tables of format 1 that hold a row.
+#[tactic(auto, using(crate::proofs::OpenLemmas::any_reason))]
 fn check_bare<S: Alter>(conn: &mut Connection<S>) -> Result<(), StoreFault>
     requires rests { WhereClean S.Store conn.old IsOpenAndIdle }
     requires beside { WhereClean S.Store conn.old (HasSchema beside_schema) }
-    ensures { Found (state S.Store conn.old) (state S.Store conn.new) result
+    ensures { FoundOr AnyReason (state S.Store conn.old) (state S.Store conn.new) result
         (λ _. AreBare (tables_of S.Store conn.old)) }
 {
     let records = first_record(conn)?;

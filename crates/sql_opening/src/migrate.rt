@@ -11,9 +11,9 @@ ghost use Rattle.sql_schema.specs.Tables.{schema1, with_currents1, with_records1
 ghost use Rattle.sql_tables.specs.Keeping.{AddsRecord};
 ghost use Rattle.sql_tables.specs.Derived.{current_columns, vector_columns};
 ghost use Rattle.sql_tables.specs.Rows.{row_of};
-ghost use Rattle.sql_tables.specs.State.{Found, Making, IsOpenAndIdle, shown_of};
+ghost use Rattle.sql_tables.specs.State.{Found, FoundOr, Making, IsOpenAndIdle, shown_of};
 ghost use Rattle.sql_opening.specs.Renewing.{cells1, current1, IsRead1, IsRenewed, IsTurned, PutsRecords};
-ghost use Rattle.sql_opening.specs.Opening.{OpensV1};
+ghost use Rattle.sql_opening.specs.Opening.{OpensV1, AnyReason};
 ghost use Rattle.sql_opening.specs.Unread.{IsNoCells};
 ghost use Rattle.sql_tables.specs.Connections.{WhereClean, HasSchema, tables_of, CommitsNothing, Writes, MakesSchema, Commits};
 ghost use Rattle.sql_tables.specs.Words.{row_of_cells};
@@ -95,10 +95,11 @@ fn check_records(alloc: Global, rows: &[Row]) -> Result<(), StoreFault>
 }
 
 /// All rows of a store of format 1, whose records are a lawful content's.
+#[tactic(auto, using(crate::proofs::OpenLemmas::any_reason))]
 fn read_rows<S: Alter>(alloc: Global, conn: &mut Connection<S>) -> Result<Rows1, StoreFault>
     requires rests { WhereClean S.Store conn.old IsOpenAndIdle }
     requires first { WhereClean S.Store conn.old (HasSchema schema1) }
-    ensures { Found (state S.Store conn.old) (state S.Store conn.new) result
+    ensures { FoundOr AnyReason (state S.Store conn.old) (state S.Store conn.new) result
         (IsRead1 (tables_of S.Store conn.old)) }
 {
     let records = records_of(conn)?;

@@ -9,8 +9,8 @@ ghost use Rattle.sqlite_value.specs.Order.{column};
 ghost use Rattle.sql_tables.specs.Rows.{IsFilled, meta_cells};
 ghost use Rattle.sql_opening.specs.Latest.{Remembers};
 ghost use Rattle.sql_schema.specs.Tables.{archive_schema};
-ghost use Rattle.sql_tables.specs.State.{Found, HasMeta, Idles, IsOpenAndIdle};
-ghost use Rattle.sql_opening.specs.Opening.{has_number, has_bytes, judged_row, judged_as, checked_meta, Opens, OpensAll};
+ghost use Rattle.sql_tables.specs.State.{Found, FoundOr, HasMeta, Idles, IsOpenAndIdle};
+ghost use Rattle.sql_opening.specs.Opening.{has_number, has_bytes, judged_row, judged_as, checked_meta, BeginOutOfTurn, Opens, OpensAll};
 ghost use Rattle.sql_tables.specs.Connections.{WhereClean, HasSchema, tables_of, content_of, CommitsNothing};
 
 use crate::checking::check_rows;
@@ -28,7 +28,8 @@ use uuid::Uuid;
 fn walk<S: Alter>(alloc: Global, conn: &mut Connection<S>) -> Result<Latest, StoreFault>
     requires rests { WhereClean S.Store conn.old IsOpenAndIdle }
     requires known { WhereClean S.Store conn.old (HasSchema archive_schema) }
-    ensures { Found (state S.Store conn.old) (state S.Store conn.new) result
+    ensures { FoundOr (BeginOutOfTurn (tables_of S.Store conn.old))
+        (state S.Store conn.old) (state S.Store conn.new) result
         (λ l. IsFilled (tables_of S.Store conn.old)
         × Remembers (content_of S.Store conn.old) l.numbers l.tick) }
 {

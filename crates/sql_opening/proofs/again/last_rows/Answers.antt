@@ -1,11 +1,12 @@
 use Rattle.std.proofs.Common.{arith}
 use Rattle.sqlite.specs.Held.{state}
 use Rattle.sql_tables.proofs.AskLemmas.{asked_as}
-use Rattle.sql_opening.proofs.FirstLemmas.{shows_vectors, vectors_plain}
+use Rattle.sql_tables.proofs.AnsweredLemmas.{all_vectors_answered}
+use Rattle.sql_opening.proofs.FirstLemmas.{shows_vectors}
 use Rattle.sql_opening.proofs.again.last_rows.Goals as goal
 
-pub select-requires-clause-plain : goal.select-requires-clause-plain
-select-requires-clause-plain g c = vectors_plain
+pub select-requires-clause-answered : goal.select-requires-clause-answered
+select-requires-clause-answered g c = all_vectors_answered
 
 pub returns : goal.returns
 returns g c =

@@ -1,18 +1,24 @@
 use Rattle.sql_opening.proofs.OpenLemmas.{begins_out}
 use Rattle.std.proofs.lemmas.List.{length-append}
-use Rattle.std.proofs.Common.{inl, inr, ◌∷◌, ◌≡◌, [], Result, Ok, Err, IfErr, IsTrue, None, IsPermutation, refl, ap, arith, rules, sym, subst, ◌∙◌}
+use Rattle.std.proofs.Common.{inl, inr, ◌∷◌, ◌≡◌, [], Result, Ok, Err, IfErr, IsTrue, None, IsPermutation, refl, ap, arith, rules, sym, subst, subst₂, ◌∙◌}
 use Rattle.std.specs.Option.{option_copied}
-use Rattle.sqlite.specs.Given.{Advances, GivesOn, row_if}
+use Rattle.sqlite.specs.Given.{Advances, FailsToAdvance, GivesOn, row_if}
 use Rattle.sqlite.specs.Effect.{Database}
 use Rattle.sqlite.specs.State.{State, HasCleanDisk, Survives, CommitsShowing, FailsToQuery}
 use Rattle.sqlite.specs.Held.{state}
 use Rattle.sqlite.proofs.StateLemmas.{survives_weaker, survives_then}
 use Rattle.sqlite.proofs.Callers.{never_commits, begun_plain, unchanged_then, given_begin}
 use Rattle.sql_schema.specs.Tables.{archive_schema}
-use Rattle.sql_tables.specs.State.{Holds}
+use Rattle.sqlite.specs.declared.error.Error.{Error}
+use Rattle.sqlite.specs.declared.error.Error.TheVariants.{SqliteFailure}
+use Rattle.sqlite.specs.declared.error.ErrorCode.TheVariants.{OutOfMemory}
+use Rattle.sql_tables.specs.Asking.{IsAnswered}
+use Rattle.sql_tables.specs.State.{Holds, MayBeStopped}
+use Rattle.sql_tables.proofs.AnsweredLemmas.{all_answered, query_stops}
 use Rattle.sql_tables.specs.Words.{cells}
 use Rattle.sql_tables.proofs.Texts.{all_text}
 use Rattle.sql_tables.proofs.QueryLemmas.{all_plain, finds_all}
+use Rattle.sql_tables.proofs.AskLemmas.{stops_behind}
 use Rattle.sql_tables.proofs.WriteLemmas.{fails_query}
 use Rattle.sql_opening.proofs.checking.check_rows.Goals as goal
 
@@ -38,6 +44,46 @@ returns-in_err-rows-clause-refused g c clean =
     each_err {P = IsTrue new.is_open → Holds old new} _
     (λ is_open. fails_query all_text [] old new _
     (all_plain old.now.schema (c.requires.known early)) (c.requires.rests early) is_open failed)
+
+stops : (a b : State) (e : Error) → a.now.schema ≡ archive_schema → IsTrue a.is_open
+    → FailsToQuery all_text [] a b e → (e ≡ SqliteFailure OutOfMemory → ⊥) → MayBeStopped a b
+stops a b e known live h some = query_stops all_text [] a b e
+    (subst (λ s. IsAnswered s all_text []) (sym known) all_answered) live some h
+
+pub returns-in_err-rows-clause-stopped : goal.returns-in_err-rows-clause-stopped
+returns-in_err-rows-clause-stopped g c clean =
+    let old = state g.S.Store c.args.conn.now in
+    let new = state g.S.Store c.query.follows.lender-at-none in
+    let held = c.query.follows.holds-at-none in
+    let kept : Survives old new (CommitsShowing all_text [] old) = search rules in
+    let failed : FailsToQuery all_text [] old new c.in_err-rows.field-0.0 =
+    (rw c.in_err-rows.was at held).err clean in
+    let early : HasCleanDisk old = omega (arith, kept.clean, clean) in
+    let told : c.from_residual.result ≡ Err c.in_err-rows.field-0.0 = search rules in
+    subst (λ r. IfErr r (λ e. (e ≡ SqliteFailure OutOfMemory → ⊥) → MayBeStopped old new)) (sym told)
+    (stops old new _ (c.requires.known early) (c.requires.rests early).is_open failed)
+
+pub returns-in_err-advance-clause-stopped : goal.returns-in_err-advance-clause-stopped
+returns-in_err-advance-clause-stopped g c clean =
+    let old = state g.S.Store c.args.conn.now in
+    let mid = c.rows.rows.conn.now in
+    let now = c.advance.new.self.conn.now in
+    let moved = c.in_err-advance.ensures in
+    let late : HasCleanDisk (state g.S.Store now) = search rules in
+    let was = c.rows.invariant.2 (omega (arith, moved.survives.clean, late)) in
+    let failed : FailsToAdvance g.S.Store mid now c.in_err-advance.field-0.0 = moved.err late in
+    let known = c.requires.known (omega
+    (arith, c.rows.invariant.1.clean, moved.survives.clean, late)) in
+    let tables = subst (λ x. x ≡ archive_schema) (sym
+    (ap (λ (d : Database). d.schema) was.2.0.now_is)) known in
+    let told : c.from_residual-in_err-advance.result ≡ Err c.in_err-advance.field-0.0 =
+    search rules in
+    let left : c.conn-in_err-advance-1.given.0 ≡ now = search rules in
+    subst₂ (λ r h. IfErr r (λ e. (e ≡ SqliteFailure OutOfMemory → ⊥)
+    → MayBeStopped old (state g.S.Store h))) (sym told) (sym left)
+    (λ some. stops_behind old (state g.S.Store mid) (state g.S.Store now) _ c.rows.invariant.1
+    (stops (state g.S.Store mid) (state g.S.Store now) _ tables was.2.0.is_open
+    (failed all_text [] was.0 was.1) some))
 
 pub returns-in_err-rows-clause-crash : goal.returns-in_err-rows-clause-crash
 returns-in_err-rows-clause-crash g c =

@@ -1,15 +1,13 @@
-use Rattle.std.proofs.Common.{arith, subst, sym}
+use Rattle.std.proofs.Common.{[], arith, subst, sym}
 use Rattle.sqlite.specs.Held.{state}
-use Rattle.sqlite.specs.Listing.{understood}
-use Rattle.sqlite.proofs.Callers.{IsPlain}
+use Rattle.sql_tables.specs.Asking.{IsAnswered}
 use Rattle.sql_tables.proofs.AskLemmas.{found_as}
-use Rattle.sql_opening.proofs.ClearLemmas.{some_record_text, record_plain, no_record}
+use Rattle.sql_opening.proofs.ClearLemmas.{some_record_text, record_answered, no_record}
 use Rattle.sql_opening.proofs.clearing.first_record.Goals as goal
 
-pub ask-requires-clause-plain : goal.ask-requires-clause-plain
-ask-requires-clause-plain g c clean =
-    subst (λ s. IsPlain (understood s some_record_text)) (sym (c.requires.beside clean))
-    record_plain
+pub ask-requires-clause-answered : goal.ask-requires-clause-answered
+ask-requires-clause-answered g c clean =
+    subst (λ s. IsAnswered s some_record_text []) (sym (c.requires.beside clean)) record_answered
 
 pub returns : goal.returns
 returns g c =

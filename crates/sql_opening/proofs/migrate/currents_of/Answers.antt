@@ -1,16 +1,15 @@
-use Rattle.std.proofs.Common.{arith, subst, sym}
+use Rattle.std.proofs.Common.{[], arith, subst, sym}
 use Rattle.sqlite.specs.Held.{state}
-use Rattle.sqlite.specs.Listing.{understood}
-use Rattle.sqlite.proofs.Callers.{IsPlain}
+use Rattle.sql_tables.specs.Asking.{IsAnswered}
+use Rattle.sql_tables.proofs.AnsweredLemmas.{currents1_answered}
 use Rattle.sql_tables.proofs.AskLemmas.{found_as}
 use Rattle.sql_tables.proofs.Texts.{currents1_text}
-use Rattle.sql_opening.proofs.FirstLemmas.{finds_currents1, currents1_plain}
+use Rattle.sql_opening.proofs.FirstLemmas.{finds_currents1}
 use Rattle.sql_opening.proofs.migrate.currents_of.Goals as goal
 
-pub ask-requires-clause-plain : goal.ask-requires-clause-plain
-ask-requires-clause-plain g c clean =
-    subst (λ s. IsPlain (understood s currents1_text))
-    (sym (c.requires.first clean)) currents1_plain
+pub ask-requires-clause-answered : goal.ask-requires-clause-answered
+ask-requires-clause-answered g c clean =
+    subst (λ s. IsAnswered s currents1_text []) (sym (c.requires.first clean)) currents1_answered
 
 pub returns : goal.returns
 returns g c =

@@ -1,15 +1,15 @@
-use Rattle.std.proofs.Common.{arith, subst, sym}
+use Rattle.std.proofs.Common.{[], arith, subst, sym}
 use Rattle.sqlite.specs.Held.{state}
-use Rattle.sqlite.specs.Listing.{understood}
-use Rattle.sqlite.proofs.Callers.{IsPlain}
+use Rattle.sql_tables.specs.Asking.{IsAnswered}
+use Rattle.sql_tables.proofs.AnsweredLemmas.{records1_answered}
 use Rattle.sql_tables.proofs.AskLemmas.{found_as}
 use Rattle.sql_tables.proofs.Texts.{records1_text}
-use Rattle.sql_opening.proofs.FirstLemmas.{finds_records1, records1_plain}
+use Rattle.sql_opening.proofs.FirstLemmas.{finds_records1}
 use Rattle.sql_opening.proofs.migrate.records_of.Goals as goal
 
-pub ask-requires-clause-plain : goal.ask-requires-clause-plain
-ask-requires-clause-plain g c clean =
-    subst (λ s. IsPlain (understood s records1_text)) (sym (c.requires.first clean)) records1_plain
+pub ask-requires-clause-answered : goal.ask-requires-clause-answered
+ask-requires-clause-answered g c clean =
+    subst (λ s. IsAnswered s records1_text []) (sym (c.requires.first clean)) records1_answered
 
 pub returns : goal.returns
 returns g c =

@@ -15,5 +15,6 @@ returns g c =
           (e.answer clean);
       kept = λ clean ok. e.kept clean refl;
       met = tt;
+      refused = λ clean. tt;
       crash = e.crash;
     }
