@@ -82,6 +82,15 @@ pub never_comes : {S : Type 0} (g : Ghosts S) (told : Result Unit StoreFault)
 never_comes g told (Ok a) none = tt
 never_comes g told (Err e) none = λ clean of. absurd (none clean of)
 
+pub any_err : {A E : Type 0} (r : Result A E) (P : E → Type 0) → ((e : E) → P e) → IfErr r P
+any_err (Ok a) P h = tt
+any_err (Err e) P h = h e
+
+pub err_then : {A E : Type 0} (r : Result A E) (P Q : E → Type 0) → ((e : E) → P e → Q e)
+    → IfErr r P → IfErr r Q
+err_then (Ok a) P Q f h = tt
+err_then (Err e) P Q f h = f e h
+
 -- a quiet step is one that may commit
 pub widened : (a b : State) (P : Trees → Type 0) → Survives a b (λ _. ⊥) → Survives a b P
 widened a b P one = survives_then a a b (λ _. ⊥) (λ _. ⊥) P (λ clean db none. absurd none)

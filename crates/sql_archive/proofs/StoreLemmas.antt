@@ -35,7 +35,7 @@ use Rattle.records.proofs.ContentsParts.{number_from, after_finding}
 use Rattle.records.proofs.ChangeLemmas.{top_put}
 use Rattle.sql_tables.specs.Rows.{content_in, IsStored, IsStoreOf, meta_columns}
 use Rattle.sql_tables.specs.Derived.{AreKept}
-use Rattle.sql_tables.specs.State.{KeepsState, LeavesUnchanged}
+use Rattle.sql_tables.specs.State.{KeepsState, LeavesUnchangedOr}
 use Rattle.sql_archive.specs.Kept.{Kept, IsIntact, Serves, LeavesStores, store_of}
 use Rattle.sql_opening.specs.Latest.{Remembers, Raises}
 use Rattle.sql_tables.proofs.AskLemmas.{survives_itself, asked_nothing}
@@ -252,9 +252,9 @@ module _ {S : Type 0} (g : Ghosts S) (laws : Laws g) where
       }
 
   -- a query
-  pub asks : {A : Type 0} (a b : Kept S) (answer : Result A StoreFault) (P : A → Type 0)
+  pub asks : {A O : Type 0} (a b : Kept S) (answer : Result A StoreFault) (P : A → Type 0)
       → Serves g a → Serves g b → a.broken ≡ false
-      → LeavesUnchanged (state g a.conn) (state g b.conn) answer P
+      → LeavesUnchangedOr O (state g a.conn) (state g b.conn) answer P
       → b.number ≡ a.number → b.id ≡ a.id → b.faults ≡ failures a.faults (fault_in answer)
       → b.broken ≡ is_broken (fault_in answer) → Asks (store_of g a) (store_of g b) answer P
   asks {A} a b answer P was is used asked own id count broken = record {
@@ -409,10 +409,10 @@ module _ {S : Type 0} (g : Ghosts S) (laws : Laws g) where
           (λ c. omega (arith, learned.crash.clean, c))
           (λ c o. learned.kept c (sym broken ∙ o)) ok clean
 
-  pub serves-asked : {A : Type 0} (a b : Kept S) (answer : Result A StoreFault) (P : A → Type 0)
+  pub serves-asked : {A O : Type 0} (a b : Kept S) (answer : Result A StoreFault) (P : A → Type 0)
       → Serves g a → a.broken ≡ false → b.id ≡ a.id → b.number ≡ a.number → b.numbers ≡ a.numbers
       → b.tick ≡ a.tick
-      → LeavesUnchanged (state g a.conn) (state g b.conn) answer P
+      → LeavesUnchangedOr O (state g a.conn) (state g b.conn) answer P
       → b.broken ≡ is_broken (fault_in answer) → Serves g b
   serves-asked a b answer P was used id own numbers tick asked broken = (
     stands-kept-by a b was used id own (λ m.

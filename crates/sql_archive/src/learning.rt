@@ -105,7 +105,8 @@ fn last_of<S: Alter>(conn: &mut Connection<S>, origin: ReplicaNo) -> Result<(u64
         (IsLast (content_of S.Store conn.old) origin) }
 {
     let told = last_told(conn, origin)?;
-    Ok(told?)
+    let last = told?;
+    Ok(last)
 }
 
 fn name_of(r: &Record) -> Name

@@ -1,12 +1,12 @@
 //! How an archive begins over a connection.
 
-ghost use Rattle.std.specs.Prelude.{◌≡◌, ◌≢◌, pos, false, IfOk, IfErr, Err};
+ghost use Rattle.std.specs.Prelude.{◌≡◌, ◌≢◌, ◌⊎◌, pos, false, IfOk, IfErr, Err};
 ghost use Rattle.sqlite.specs.State.{HasCleanDisk, Opens};
 ghost use Rattle.sqlite.specs.Held.{state};
 ghost use Rattle.archive.specs.Store.{IsOfOpening};
-ghost use Rattle.sql_schema.specs.Tables.{no_schema};
-ghost use Rattle.sql_tables.specs.State.{IsNewArchive};
-ghost use Rattle.sql_opening.specs.Opening.{Starts, IsBegunIn, IsRefused};
+ghost use Rattle.sql_schema.specs.Tables.{no_schema, archive_schema};
+ghost use Rattle.sql_tables.specs.State.{MayBeStopped, IsNewArchive};
+ghost use Rattle.sql_opening.specs.Opening.{Starts, IsBegunIn, IsRefused, IsNoStore};
 ghost use Rattle.sql_tables.specs.Connections.{WhereClean, HasSchema, tables_of};
 ghost use Rattle.sql_archive.specs.Starting.{IsBegun, MayCommit};
 
@@ -78,6 +78,10 @@ pub(crate) fn start<S: Alter>(
         → Starts id number (state S.Store conn).now (state S.Store a.conn).now) }
     ensures wrong { IfErr result (λ e. HasCleanDisk (state S.Store e.1) → IsOfOpening e.0
         → IsRefused id number (state S.Store conn).now e.0) }
+    ensures refused { IfErr result (λ e. HasCleanDisk (state S.Store e.1)
+        → e.0 ≡ StoreFault.Refused → (state S.Store conn).now.schema ≡ archive_schema
+        → MayBeStopped (state S.Store conn) (state S.Store e.1)
+        ⊎ IsNoStore id number (tables_of S.Store conn)) }
     ensures opened { IfOk result (λ a. MayCommit S.Store conn a.conn (IsBegunIn id number)) }
     ensures left { IfErr result (λ e. MayCommit S.Store conn e.1 (IsBegunIn id number)) }
 {

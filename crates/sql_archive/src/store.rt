@@ -238,21 +238,21 @@ impl<S: Alter> Archive for SqlArchive<S> {
 }
 
 impl<S: Alter> SqlArchive<S> {
-    ghost use Rattle.std.specs.Prelude.{◌≡◌, true, false, Some, ◌≢◌, IfOk};
+    ghost use Rattle.std.specs.Prelude.{◌≡◌, ◌⊎◌, true, false, Some, ◌≢◌, IfOk};
     ghost use Rattle.sqlite.specs.State.{HasCleanDisk};
     ghost use Rattle.sqlite.specs.Held.{state};
-    ghost use Rattle.sql_tables.specs.State.{Idles};
+    ghost use Rattle.sql_tables.specs.State.{MayBeStopped, Idles};
     ghost use Rattle.archive.specs.Store.{IsOfOpening};
     ghost use Rattle.archive.specs.Listed.{failures, is_broken};
     ghost use Rattle.sql_archive.specs.Kept.{Serves, LeavesStores};
     ghost use Rattle.archive.specs.declared.fault.StoreFault.TheVariants as store;
     ghost use Rattle.std.specs.Prelude.{IfErr, Err};
-    ghost use Rattle.sql_opening.specs.Opening.{checked_meta};
+    ghost use Rattle.sql_opening.specs.Opening.{checked_meta, IsNoStore};
     ghost use Rattle.sql_tables.specs.Rows.{meta_cells, IsStored};
     ghost use Rattle.sql_tables.specs.Derived.{AreKept};
 
     /// An archive over a connection whose tables are there: Ok only where they stand for a lawful content
-    /// of this archive and replica.
+    /// of this archive and replica. It is refused for what they hold, or where SQLite may refuse.
     pub(crate) fn over(
         alloc: Global,
         mut conn: Connection<S>,
@@ -269,6 +269,10 @@ impl<S: Alter> SqlArchive<S> {
             → AreKept (tables_of S.Store conn)) }
         ensures wrong { IfErr result (λ e. HasCleanDisk (state S.Store e.1) → IsOfOpening e.0
             → checked_meta id number (meta_cells (tables_of S.Store conn)) ≡ Err e.0) }
+        ensures refused { IfErr result (λ e. HasCleanDisk (state S.Store e.1)
+            → e.0 ≡ StoreFault.Refused
+            → MayBeStopped (state S.Store conn) (state S.Store e.1)
+            ⊎ IsNoStore id number (tables_of S.Store conn)) }
         ensures opened { IfOk result (λ a. CommitsNothing S.Store conn a.conn) }
         ensures left { IfErr result (λ e. CommitsNothing S.Store conn e.1) }
     {

@@ -22,5 +22,6 @@ returns g c =
           c.end_of.ensures.lacks);
       kept = λ clean ok. e.kept clean refl;
       met = tt;
+      refused = λ clean. tt;
       crash = e.crash;
     }

@@ -23,5 +23,6 @@ returns g c =
           ⊎ HasNoRecords rows)) c.deref.ensures.value c.decode_all.ensures.unread);
       kept = λ clean ok. e.kept clean refl;
       met = tt;
+      refused = λ clean. tt;
       crash = e.crash;
     }

@@ -2,7 +2,7 @@ use Rattle.std.specs.Prelude.{⊤}
 use Rattle.std.proofs.Common.{subst, sym, refl}
 use Rattle.archive.specs.Store.{Asks}
 use Rattle.sqlite.specs.Held.{state}
-use Rattle.sql_tables.proofs.AskLemmas.{asked_as}
+use Rattle.sql_tables.proofs.AskLemmas.{asked_for}
 use Rattle.sql_archive.specs.Kept.{Kept, Serves, store_of}
 use Rattle.sql_archive.proofs.StoreLemmas.{Laws, refuses, asks, serves-asked}
 use Rattle.sql_archive.proofs.store.SqlArchiveArchive.reload.Goals as goal
@@ -50,9 +50,9 @@ returns-clause-asks g c =
           g.met.S.Store.stays;
       survives = g.met.S.Store.survives;
     } in
-    let asked = asked_as (state g.S.Store a.conn)
+    let asked = asked_for _ _ (state g.S.Store a.conn)
     (state g.S.Store b.conn) c.read_again-answer.result _ (IsAnswer a)
-    (λ clean v told. tt) c.read_again-answer.ensures in
+    (λ clean v told. tt) (λ clean own. own) c.read_again-answer.ensures in
     let is : Serves g.S.Store b = serves-asked g.S.Store laws a b c.read_again-answer.result
     (IsAnswer a) c.self.invariant c.if-self.false refl refl refl refl asked
     c.tell.ensures.broken in
