@@ -57,9 +57,12 @@ summary-told known rows a b c ends has told (sent, unsent, split, sends) =
       omega arith,
       sent,
       unsent,
-      inr (has, ap (λ l. lines_from 1 l ++ sent ++ unsent) all
-          ∙ append_assoc (lines_from 1 ends) sent unsent
-          ∙ sym (ap (λ l. lines_from 1 ends ++ l) split)),
+      inr (
+        has,
+        ap (λ l. lines_from 1 l ++ sent ++ unsent) all
+            ∙ append_assoc (lines_from 1 ends) sent unsent
+            ∙ sym (ap (λ l. lines_from 1 ends ++ l) split),
+      ),
       subst (Appends a c) (sym (ap (λ l. lines_from 1 l ++ sent) all))
           (Appends-trans a b c (lines_from 1 ends) sent told sends),
     )
