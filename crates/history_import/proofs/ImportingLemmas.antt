@@ -35,14 +35,14 @@ lines-told : (known : Option (List ℕ)) (rows : List (List (List ℕ)))
     (before after : Option (List ℕ)) (ends : List RowEnd)
     → Appends before after (lines_from 1 ends) → TellsPart known rows ends before after
 lines-told known rows before after ends told =
-    let all : take (length ends) ends ≡ ends = take-all ends in
-    let lines : lines_from 1 (take (length ends) ends) ++ [] ≡ lines_from 1 ends =
-    ap (λ l. lines_from 1 l ++ []) all ∙ append-nil (lines_from 1 ends) in (
+    let first = lines_from 1 (take (length ends) ends) in
+    let lines : first ++ [] ≡ lines_from 1 ends =
+    append-nil first ∙ ap (lines_from 1) (take-all ends) in (
       length ends,
       omega arith,
       [],
       [],
-      inl lines,
+      inl (append-nil (first ++ []) ∙ lines),
       subst (Appends before after) (sym lines) told,
     )
 
@@ -277,10 +277,15 @@ module _ {R : Type 0} (rem : R → Option (List ℕ)) (known : Option (List ℕ)
     (inr refl, lines-told known [] before before [] (Appends-nil before)),
   )
 
--- a read that failed, where no call did, is want of memory
-pub starved-read : (known : Option (List ℕ)) (settings : SettingsValues) (asked : Import)
-    (old new : Store) (before after : Option (List ℕ))
+-- a read that failed, or want of memory where no call did, as it was judged
+pub read-judged : (known : Option (List ℕ)) (settings : SettingsValues) (asked : Import)
+    (old new : Store) (before after : Option (List ℕ)) (why : ImportFault)
+    → (why ≡ Read) ⊎ (why ≡ OutOfMemory)
     → Imports settings asked old new known before after (Err Read)
-    → Imports settings asked old new known before after (Err OutOfMemory)
-starved-read known settings asked old new before after (rows, ends, done, stops, told) =
-    (rows, ends, done, stops, lines-told known rows before after ends told)
+    → Imports settings asked old new known before after (Err why)
+read-judged known settings asked old new before after why (inl is) imports =
+    subst (λ w. Imports settings asked old new known before after (Err w)) (sym is) imports
+read-judged known settings asked old new before after why (inr is)
+    (rows, ends, done, (stops, told)) =
+    subst (λ w. Imports settings asked old new known before after (Err w)) (sym is)
+    (rows, ends, done, (stops, lines-told known rows before after ends told))

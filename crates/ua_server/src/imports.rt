@@ -71,7 +71,7 @@ pub(crate) fn import_over<A: Archive, C: Clock, R: Read, W: Write>(
     input: &mut Counted<R>,
     output: &mut Counted<W>,
 ) -> Result<(), ProgramFault>
-    requires user { IsUserName words.entry.user.now }
+    requires user { IsUserName words.user.now }
     ensures read { IsErrOf result (ProgramFault.Connection ServeFault.Read) → ⊥ }
     ensures write { IsErrOf result (ProgramFault.Connection ServeFault.Write)
         → output.new.faults ≡ counted output.old.faults }

@@ -466,7 +466,7 @@ fn do_command<H: Host, C: Clock, R: Read, W: Write, E: Write>(
     output: &mut Counted<W>,
 ) -> Result<(), ProgramFault>
     requires log { world.old.log ≡ fresh_log world.old.log.errors }
-    requires user { HasUserName line.entry }
+    requires user { HasUserName line }
     ensures read { IsErrOf result (ProgramFault.Connection ServeFault.Read)
         → input.new.faults ≡ counted input.old.faults }
     ensures write { IsErrOf result (ProgramFault.Connection ServeFault.Write)
@@ -505,7 +505,7 @@ fn do_over<H: Host, C: Clock, R: Read, W: Write, E: Write>(
     output: &mut Counted<W>,
 ) -> Ran<C, E>
     requires log { world.log ≡ fresh_log world.log.errors }
-    requires user { HasUserName line.entry }
+    requires user { HasUserName line }
     ensures read { IsErrOf result.ending (ProgramFault.Connection ServeFault.Read)
         → input.new.faults ≡ counted input.old.faults }
     ensures write { IsErrOf result.ending (ProgramFault.Connection ServeFault.Write)
