@@ -1,5 +1,5 @@
--- What the clause of a call of a peer needs (sync_over in program.rt).
-use Rattle.std.proofs.Common.{◌≡◌, ℕ, List, Option, Err, subst}
+-- What the clauses of an opening and of a call of a peer need (open_server, sync_over in program.rt).
+use Rattle.std.proofs.Common.{◌≡◌, ℕ, List, Option, None, Err, subst, sym}
 use Rattle.std.specs.Prelude.{Result}
 use Rattle.counted_io.specs.declared.fault.ServeFault.TheVariants.{Read, Write}
 use Rattle.ua_peers.specs.declared.calling.Synced.{Synced}
@@ -10,7 +10,27 @@ use Rattle.counted_io.specs.Tally.{Tally}
 use Rattle.ua_peers.specs.Calling.{Syncs}
 use Rattle.ua_server.specs.Host.{KnownMachine}
 use Rattle.ua_server.proofs.Networks.{has-counted}
-use Rattle.ua_server.specs.Program.{SyncsOver}
+use Rattle.std.specs.Result.{result_map_both}
+use Rattle.archive.specs.Store.{Store}
+use Rattle.archive.specs.declared.fault.StoreFault.{StoreFault}
+use Rattle.ua_settings.specs.Settings.{SettingsValues}
+use Rattle.ua_server.specs.Host.{Machine}
+use Rattle.ua_server.specs.Program.{OpensArchive, OpensUnless, SyncsOver}
+use Rattle.ua_server.specs.declared.program.ProgramFault.{ProgramFault}
+use Rattle.ua_server.specs.declared.program.ProgramFault.TheVariants as program
+use Rattle.ua_server.specs.declared.program.StoreUse.{StoreUse}
+
+-- a command isn't refused by its settings, and their archive was opened, or can't be
+pub opened-unrefused : {H A L R W : Type 0} (machine : Machine H A L R W) (held : A → Store)
+    (uses : StoreUse) (refusal : Option ProgramFault) (settings : SettingsValues)
+    (result : Result (SettingsValues × A) ProgramFault) (old new : H)
+    (opening : Result A StoreFault) → refusal ≡ None
+    → OpensArchive machine held uses settings settings.store opening old new
+    → result ≡ result_map_both (λ archive. (settings, archive)) program.Store opening
+    → OpensUnless machine held uses refusal settings result old new
+opened-unrefused machine held uses refusal settings result old new opening none opens is =
+    subst (λ why. OpensUnless machine held uses why settings result old new) (sym none)
+    (opening, opens, is)
 
 -- a dialog was had over a connection that had no failed call before
 pub was-synced : (known : KnownMachine) (first last : known.Archive) (reader : known.Reader)
