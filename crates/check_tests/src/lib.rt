@@ -3,5 +3,3 @@
 
 #[cfg(test)]
 mod settings;
-#[cfg(test)]
-mod stores;

@@ -7,8 +7,7 @@ use std::test::Fail;
 use ua_settings::Settings;
 
 /// The start of each text.
-const ARCHIVE: &str =
-    "[archive]\nid = '12345678-9abc-def0-1234-56789abcdef0'\nreplica = 1\n";
+const ARCHIVE: &str = "[archive]\nid = '12345678-9abc-def0-1234-56789abcdef0'\nreplica = 1\n";
 
 /// What goes on behind the start, and what is told of it, but for the first line.
 static ROWS: [(&str, &str); 6] = [
@@ -106,7 +105,9 @@ fn printed_of(alloc: Global, settings: &Settings) -> Vec<u8> {
 fn is_told(alloc: Global, rest: &str, told: &str) -> Result<bool, Fail> {
     let text = format!(in alloc; "{ARCHIVE}{rest}")?;
     let settings = Settings::read(alloc, text.as_str())?;
-    let want = format!(in alloc; "archive 12345678-9abc-def0-1234-56789abcdef0, replica 1\n{told}")?;
+    let want = format!(in alloc;
+        "archive 12345678-9abc-def0-1234-56789abcdef0, replica 1\n{told}"
+    )?;
     let printed = printed_of(alloc, &settings);
     Ok(printed.as_slice() == want.as_bytes())
 }

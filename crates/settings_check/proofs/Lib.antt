@@ -1,4 +1,2 @@
 mod TextLemmas
 mod NodeLemmas
-mod StoredLemmas
-mod ValueLemmas

@@ -1,8 +1,7 @@
 -- Lines one behind the other.
-use Rattle.std.proofs.Common.{◌≡◌, ℕ, ◌+◌, ◌<◌, Bool, List, [], ◌∷◌, ◌++◌, drop, get_or, length, append_assoc, Result, Ok, Err, OnOk, refl, sym, ap, ◌∙◌, subst}
-use Rattle.std.specs.Prelude.{nat_eq, codes}
-use Rattle.std.specs.List.{list_any, flat_map}
-use Rattle.std.specs.Cmp.Lexicographic.{pointwise}
+use Rattle.std.proofs.Common.{◌≡◌, ℕ, ◌-◌, List, [], ◌∷◌, ◌++◌, take, drop, length, append_assoc, arith, Result, Ok, Err, OnOk, refl, sym, ap, ◌∙◌}
+use Rattle.std.proofs.lemmas.List.{take_all, length-drop}
+use Rattle.std.specs.Prelude.{is_ok, if◌then◌else◌}
 use Rattle.std.specs.declared.alloc.AllocError.{AllocError}
 use Rattle.settings_check.specs.Texts.{text_of}
 
@@ -33,21 +32,29 @@ step now new all before lines rest splits so_far puts =
     ap (λ t. t ++ text_of rest) puts ∙ (append_assoc now (text_of lines) (text_of rest)
     ∙ (ap (λ t. now ++ t) (sym (text-append lines rest) ∙ ap text_of (sym splits)) ∙ so_far))
 
--- three texts one behind the other
-pub three : (result : Result (Unit {0}) AllocError) (old one two new a b c : List ℕ)
-    → one ≡ old ++ a → two ≡ one ++ b → OnOk result (new ≡ two ++ c)
-    → OnOk result (new ≡ old ++ a ++ b ++ c)
-three (Ok done) old one two new a b c first second third =
-    third ∙ (ap (λ t. t ++ c) (second ∙ ap (λ t. t ++ b) first)
-    ∙ (append_assoc (old ++ a) b c ∙ append_assoc old a (b ++ c)))
-three (Err why) old one two new a b c first second third = tt
+-- what a call puts, if it does
+pub put : (result : Result (Unit {0}) AllocError) (new grown kept : List ℕ)
+    → new ≡ (if is_ok result then grown else kept) → OnOk result (new ≡ grown)
+put (Ok done) new grown kept is = is
+put (Err why) new grown kept is = tt
+
+-- two texts one behind the other
+pub join : (old now new a b : List ℕ) → now ≡ old ++ a → new ≡ now ++ b → new ≡ old ++ (a ++ b)
+join old now new a b first second = second ∙ (ap (λ t. t ++ b) first ∙ append_assoc old a b)
+
+-- the same where a call puts the second one, if it does
+pub two : (result : Result (Unit {0}) AllocError) (old now new a b : List ℕ) → now ≡ old ++ a
+    → OnOk result (new ≡ now ++ b) → OnOk result (new ≡ old ++ (a ++ b))
+two (Ok done) old now new a b first second = join old now new a b first second
+two (Err why) old now new a b first second = tt
 
 -- a line with its end, and behind it what one call puts, if it does
 pub line-next : (result : Result (Unit {0}) AllocError) (old now ended new line : List ℕ)
     (more : List (List ℕ)) → now ≡ old ++ line → ended ≡ now ++ 10 ∷ []
     → OnOk result (new ≡ ended ++ text_of more) → OnOk result (new ≡ old ++ text_of (line ∷ more))
 line-next result old now ended new line more first end last =
-    three result old now ended new line (10 ∷ []) (text_of more) first end last
+    two result old now new line (10 ∷ text_of more) first
+    (two result now ended new (10 ∷ []) (text_of more) end last)
 
 -- a line whose end is put last
 pub line-last : (result : Result (Unit {0}) AllocError) (old now new line : List ℕ)
@@ -56,3 +63,7 @@ pub line-last : (result : Result (Unit {0}) AllocError) (old now new line : List
 line-last (Ok done) old now new line first end =
     end ∙ (ap (λ t. t ++ 10 ∷ []) first ∙ append_assoc old line (10 ∷ []))
 line-last (Err why) old now new line first end = tt
+
+-- what is behind a place, to the end
+pub rest-whole : {X : Type 0} (k : ℕ) (xs : List X) → take (length xs - k) (drop k xs) ≡ drop k xs
+rest-whole k xs = take_all (length xs - k) (drop k xs) (omega (arith, length-drop k xs))

@@ -7,7 +7,7 @@ use Rattle.ua_session.specs.declared.identity.Access.TheVariants.{Read, Write}
 use Rattle.ua_settings.specs.declared.door.DoorSettings.{DoorSettings}
 use Rattle.ua_settings.specs.Settings.{SettingsValues}
 use Rattle.ua_space.specs.declared.layout.Layout.{Layout}
-use Rattle.settings_check.specs.Texts.{legible}
+use Rattle.history_report.specs.Tables.{legible}
 use Rattle.settings_check.specs.Nodes.{variable_ids}
 
 -- a number of what has this name
@@ -42,7 +42,7 @@ named_words users =
 abbrev pub anonymous_words : Allowed → List ℕ
 anonymous_words users =
     if users.anonymous then elim users.anonymous_access
-        [ Write ↦ codes "allowed, may write" | Read ↦ codes "allowed, reads only" ]
+    [ Write ↦ codes "allowed, may write" | Read ↦ codes "allowed, reads only" ]
     else codes "not allowed"
 
 -- who may use it
@@ -73,7 +73,7 @@ abbrev pub peers_line : SettingsValues → List ℕ
 peers_line s = called_words (length s.peers) ++ door_words s.door
 
 -- what settings say
-abbrev pub facts : SettingsValues → List (List ℕ)
-facts s =
+abbrev pub settings_facts : SettingsValues → List (List ℕ)
+settings_facts s =
     archive_line s ∷ store_line s ∷ listen_line s ∷ users_line s.users ∷ variables_line s.space
     ∷ peers_line s ∷ []

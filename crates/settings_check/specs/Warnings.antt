@@ -7,7 +7,8 @@ use Rattle.ua_session.specs.Users.{Allowed}
 use Rattle.ua_session.specs.declared.identity.Access.TheVariants.{Read, Write}
 use Rattle.ua_settings.specs.declared.peers.PeerCall.{PeerCall}
 use Rattle.ua_settings.specs.Settings.{SettingsValues}
-use Rattle.settings_check.specs.Texts.{begins, legible}
+use Rattle.history_report.specs.Tables.{legible}
+use Rattle.settings_check.specs.Texts.{begins_with}
 
 -- a warning of these words, where one is given
 abbrev pub warned : (given : Bool) → List ℕ → List (List ℕ)
@@ -18,14 +19,14 @@ warned given words = if given then (codes "warning: " ++ words) ∷ [] else []
 -- the address is one that this machine alone reaches
 abbrev pub is_local : List ℕ → Bool
 is_local address =
-    begins address (codes "localhost") || begins address (codes "127.")
-    || begins address (codes "[::1]")
+    begins_with address (codes "localhost") || begins_with address (codes "127.")
+    || begins_with address (codes "[::1]")
 
 -- the URL names such an address
 abbrev pub is_local_url : List ℕ → Bool
 is_local_url url =
-    begins url (codes "opc.tcp://localhost") || begins url (codes "opc.tcp://127.")
-    || begins url (codes "opc.tcp://[::1]")
+    begins_with url (codes "opc.tcp://localhost") || begins_with url (codes "opc.tcp://127.")
+    || begins_with url (codes "opc.tcp://[::1]")
 
 -- who gives no name may write
 abbrev pub anonymous_writes : Allowed → Bool
@@ -43,7 +44,7 @@ is_own s address =
 -- the URL isn't one of OPC UA over TCP
 abbrev pub scheme_warning : SettingsValues → List (List ℕ)
 scheme_warning s =
-    warned (not (begins s.url (codes "opc.tcp://")))
+    warned (not (begins_with s.url (codes "opc.tcp://")))
     (codes "url doesn't begin with opc.tcp://, so clients can't use what they are told")
 
 -- clients elsewhere are told a URL by which they reach themselves
@@ -72,22 +73,29 @@ door_warning s =
 -- the store's path is taken from the folder in which the program is started
 abbrev pub path_warning : SettingsValues → List (List ℕ)
 path_warning s =
-    warned (option_map_or (λ path. not (begins path (codes "/"))) s.store false)
+    warned (option_map_or (λ path. not (begins_with path (codes "/"))) s.store false)
     (codes "the store's path is relative: from another folder it makes a new, empty archive")
 
--- two peers have one address, of each that stands again behind it
+-- a peer has the address of one of those behind it
+abbrev pub repeated_warning : PeerCall → (behind : List PeerCall) → List (List ℕ)
+repeated_warning peer behind =
+    warned (list_any (λ other. pointwise nat_eq other.address peer.address) behind)
+    (codes "two peers have the address " ++ legible peer.address)
+
+-- peers have one address
 abbrev pub repeated_warnings : List PeerCall → List (List ℕ)
 repeated_warnings [] = []
-repeated_warnings (peer ∷ peers) =
-    warned (list_any (λ other. pointwise nat_eq other.address peer.address) peers)
-    (codes "two peers have the address " ++ legible peer.address)
-    ++ repeated_warnings peers
+repeated_warnings (peer ∷ peers) = repeated_warning peer peers ++ repeated_warnings peers
 
 -- the server calls itself
+abbrev pub own_warning : SettingsValues → PeerCall → List (List ℕ)
+own_warning s peer =
+    warned (is_own s peer.address)
+    (codes "a peer has this server's own address " ++ legible peer.address)
+
+-- the same of each peer
 abbrev pub own_warnings : SettingsValues → List PeerCall → List (List ℕ)
-own_warnings s peers =
-    flat_map (λ peer. warned (is_own s peer.address)
-    (codes "a peer has this server's own address " ++ legible peer.address)) peers
+own_warnings s peers = flat_map (own_warning s) peers
 
 -- where settings are lawful and unwise
 abbrev pub warnings : SettingsValues → List (List ℕ)

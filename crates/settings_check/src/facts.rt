@@ -4,7 +4,7 @@ ghost use Rattle.std.specs.Prelude.{◌≡◌, ◌++◌, length, IfOk, OnOk};
 ghost use Rattle.std.specs.Option.{option_copied};
 ghost use Rattle.settings_check.specs.Texts.{text_of};
 ghost use Rattle.settings_check.specs.Nodes.{variable_ids};
-ghost use Rattle.settings_check.specs.Facts.{archive_line, store_line, listen_line, users_line, named_words, anonymous_words, variables_line, called_words, door_words, peers_line, facts};
+ghost use Rattle.settings_check.specs.Facts.{archive_line, store_line, listen_line, users_line, named_words, anonymous_words, variables_line, called_words, door_words, peers_line, settings_facts};
 
 use crate::nodes::{folders_of, variables_of};
 use crate::texts::{put_counted, put_number, put_shown};
@@ -19,10 +19,7 @@ fn put_archive(out: &mut Vec<u8>, settings: &Settings) -> Result<(), AllocError>
     ensures { OnOk result (out.new.items ≡ out.old.items ++ archive_line settings.now) }
 {
     let mut buffer = Uuid::encode_buffer();
-    let id = settings
-        .archive()
-        .hyphenated()
-        .encode_lower(&mut buffer);
+    let id = settings.archive().hyphenated().encode_lower(&mut buffer);
     out.extend_from_slice(b"archive ")?;
     out.extend_from_slice(id.as_bytes())?;
     out.extend_from_slice(b", replica ")?;
@@ -117,7 +114,12 @@ fn put_variables(alloc: Global, out: &mut Vec<u8>, space: &Space) -> Result<(), 
 fn put_called(out: &mut Vec<u8>, count: usize) -> Result<(), AllocError>
     ensures { OnOk result (out.new.items ≡ out.old.items ++ called_words count) }
 {
-    put_counted(out, count as u64, b" peer is called; ", b" peers are called; ")
+    put_counted(
+        out,
+        count as u64,
+        b" peer is called; ",
+        b" peers are called; ",
+    )
 }
 
 /// Appends where peers come to it.
@@ -148,7 +150,7 @@ pub(crate) fn put_facts(
     out: &mut Vec<u8>,
     settings: &Settings,
 ) -> Result<(), AllocError>
-    ensures { OnOk result (out.new.items ≡ out.old.items ++ text_of (facts settings.now)) }
+    ensures { OnOk result (out.new.items ≡ out.old.items ++ text_of (settings_facts settings.now)) }
 {
     put_archive(out, settings)?;
     out.push(b'\n')?;

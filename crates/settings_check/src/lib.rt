@@ -1,16 +1,12 @@
 //! What settings say, told to people, and where they are lawful and unwise.
 #![tactic(auto)]
 
-mod asking;
 mod facts;
 mod fault;
 mod nodes;
 mod printing;
-mod storing;
 mod texts;
-mod values;
 mod warnings;
 
 pub use fault::CheckFault;
 pub use printing::{check_text, print_check};
-pub use storing::print_store;

@@ -15,8 +15,10 @@ use ua_space::Space;
 
 /// What is asked to find the nodes of some classes below a node: each class is a bit.
 fn asked(node: NodeIdRef<'_>, classes: u32) -> BrowseDescription<'_>
-    ensures { browse_fields result ≡ (id_of_lent node.entry,
-        (Some Forward, (Numeric 0 35, (false, (classes, 0))))) }
+    ensures { browse_fields result ≡ (
+      id_of_lent node.entry,
+      (Some Forward, (Numeric 0 35, (false, (classes, 0)))),
+    ) }
 {
     BrowseDescription {
         node_id: node,

@@ -2,36 +2,19 @@
 
 ghost use Rattle.std.specs.Prelude.{◌≡◌, ◌++◌, OnOk};
 ghost use Rattle.std.specs.Fmt.{decimal};
-ghost use Rattle.settings_check.specs.Texts.{legible, legible_byte, begins};
+ghost use Rattle.history_report.specs.Tables.{legible};
+ghost use Rattle.settings_check.specs.Texts.{begins_with};
 ghost use Rattle.settings_check.specs.Facts.{counted_noun};
 
+use history_report::put_legible;
 use itoa::Buffer;
 use std::alloc::AllocError;
-
-/// A byte as it is shown behind the byte before it: one that controls a terminal as `?`, and the
-/// second one of U+0080 to U+009F as that of `¿`.
-fn legible_byte(before: u8, byte: u8) -> u8
-    ensures { result ≡ legible_byte before byte }
-{
-    if before == 194 && byte < 160 {
-        191
-    } else if byte < 32 || byte == 127 {
-        b'?'
-    } else {
-        byte
-    }
-}
 
 /// Appends a text as it is shown.
 pub(crate) fn put_shown(out: &mut Vec<u8>, text: &str) -> Result<(), AllocError>
     ensures { OnOk result (out.new.items ≡ out.old.items ++ legible text.now) }
 {
-    let mut before = 0;
-    for byte in text.as_bytes() {
-        out.push(legible_byte(before, *byte))?;
-        before = *byte;
-    }
-    Ok(())
+    put_legible(out, text.as_bytes())
 }
 
 /// Appends a number in decimal.
@@ -61,8 +44,8 @@ pub(crate) fn put_counted(
 }
 
 /// Whether a text begins with these bytes.
-pub(crate) fn begins(text: &str, start: &[u8]) -> bool
-    ensures { result ≡ begins text.now start.now }
+pub(crate) fn begins_with(text: &str, start: &[u8]) -> bool
+    ensures { result ≡ begins_with text.now start.now }
 {
     text.as_bytes().starts_with(start)
 }

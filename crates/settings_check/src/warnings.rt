@@ -4,10 +4,11 @@ ghost use Rattle.std.specs.Prelude.{◌≡◌, ◌++◌, OnOk, nat_eq, codes, no
 ghost use Rattle.std.specs.Option.{option_copied, option_map_or};
 ghost use Rattle.std.specs.List.{list_any};
 ghost use Rattle.std.specs.Cmp.Lexicographic.{pointwise};
-ghost use Rattle.settings_check.specs.Texts.{text_of, legible, begins};
-ghost use Rattle.settings_check.specs.Warnings.{warned, is_local, is_local_url, anonymous_writes, is_own, scheme_warning, local_warning, nobody_warning, anonymous_warning, door_warning, path_warning, repeated_warnings, own_warnings, warnings};
+ghost use Rattle.history_report.specs.Tables.{legible};
+ghost use Rattle.settings_check.specs.Texts.{text_of, begins_with};
+ghost use Rattle.settings_check.specs.Warnings.{warned, is_local, is_local_url, anonymous_writes, is_own, scheme_warning, local_warning, nobody_warning, anonymous_warning, door_warning, path_warning, repeated_warning, repeated_warnings, own_warning, own_warnings, warnings};
 
-use crate::texts::{begins, put_shown};
+use crate::texts::{begins_with, put_shown};
 use std::alloc::AllocError;
 use ua_session::{Access, Users};
 use ua_settings::{PeerCall, Settings};
@@ -49,16 +50,18 @@ fn put_warned_of(
 fn is_local(address: &str) -> bool
     ensures { result ≡ is_local address.now }
 {
-    begins(address, b"localhost") || begins(address, b"127.") || begins(address, b"[::1]")
+    begins_with(address, b"localhost")
+        || begins_with(address, b"127.")
+        || begins_with(address, b"[::1]")
 }
 
 /// Whether a URL names such an address.
 fn is_local_url(url: &str) -> bool
     ensures { result ≡ is_local_url url.now }
 {
-    begins(url, b"opc.tcp://localhost")
-        || begins(url, b"opc.tcp://127.")
-        || begins(url, b"opc.tcp://[::1]")
+    begins_with(url, b"opc.tcp://localhost")
+        || begins_with(url, b"opc.tcp://127.")
+        || begins_with(url, b"opc.tcp://[::1]")
 }
 
 /// Whether who gives no name may write.
@@ -88,7 +91,7 @@ fn put_scheme(out: &mut Vec<u8>, settings: &Settings) -> Result<(), AllocError>
 {
     put_warned(
         out,
-        !begins(settings.url(), b"opc.tcp://"),
+        !begins_with(settings.url(), b"opc.tcp://"),
         b"url doesn't begin with opc.tcp://, so clients can't use what they are told",
     )
 }
@@ -145,11 +148,11 @@ fn put_door(out: &mut Vec<u8>, settings: &Settings) -> Result<(), AllocError>
 /// Whether a path is taken from the folder in which the program is started.
 fn is_relative(path: Option<&str>) -> bool
     ensures { result
-        ≡ option_map_or (λ path. not (begins path (codes "/"))) (option_copied path.entry) false }
+        ≡ option_map_or (λ path. not (begins_with path (codes "/"))) (option_copied path.entry) false }
 {
     match path {
         None => false,
-        Some(path) => !begins(path, b"/"),
+        Some(path) => !begins_with(path, b"/"),
     }
 }
 
@@ -180,17 +183,39 @@ fn have_address(peers: &[PeerCall], address: &str) -> bool
     peers.iter().any(|peer| has_address(peer, address))
 }
 
+/// Appends a warning where a peer has the address of one of those behind it.
+fn put_repeated_of(
+    out: &mut Vec<u8>,
+    peer: &PeerCall,
+    behind: &[PeerCall],
+) -> Result<(), AllocError>
+    ensures { OnOk result
+        (out.new.items ≡ out.old.items ++ text_of (repeated_warning peer.now behind.now)) }
+{
+    let address = peer.address.as_str();
+    let again = have_address(behind, address);
+    put_warned_of(out, again, b"two peers have the address ", address)
+}
+
 /// Appends a warning of each peer whose address one behind it has too.
 fn put_repeated(out: &mut Vec<u8>, peers: &[PeerCall]) -> Result<(), AllocError>
     ensures { OnOk result
         (out.new.items ≡ out.old.items ++ text_of (repeated_warnings peers.now)) }
 {
     for i in 0..peers.len() {
-        let address = peers[i].address.as_str();
-        let again = have_address(&peers[i + 1..], address);
-        put_warned_of(out, again, b"two peers have the address ", address)?;
+        put_repeated_of(out, &peers[i], &peers[i + 1..])?;
     }
     Ok(())
+}
+
+/// Appends a warning where the server listens at a peer's address itself.
+fn put_own_of(out: &mut Vec<u8>, settings: &Settings, peer: &PeerCall) -> Result<(), AllocError>
+    ensures { OnOk result
+        (out.new.items ≡ out.old.items ++ text_of (own_warning settings.now peer.now)) }
+{
+    let address = peer.address.as_str();
+    let own = is_own(settings, address);
+    put_warned_of(out, own, b"a peer has this server's own address ", address)
 }
 
 /// Appends a warning of each peer at whose address the server listens itself.
@@ -199,9 +224,7 @@ fn put_own(out: &mut Vec<u8>, settings: &Settings, peers: &[PeerCall]) -> Result
         (out.new.items ≡ out.old.items ++ text_of (own_warnings settings.now peers.now)) }
 {
     for peer in peers {
-        let address = peer.address.as_str();
-        let own = is_own(settings, address);
-        put_warned_of(out, own, b"a peer has this server's own address ", address)?;
+        put_own_of(out, settings, peer)?;
     }
     Ok(())
 }
