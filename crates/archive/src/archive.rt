@@ -13,7 +13,7 @@ use uuid::Uuid;
 /// implementor's `state` says what these are of it, and is to be read with it. How much it was asked for is
 /// its `asked`: no call raises that above its own limit, so that a caller can promise what it asks for of
 /// any archive; one that notes its limits, as `ScriptedArchive` does, shows it. Each call but `id`,
-/// `number` and `faults` may answer a fault of the store, and then, unless it is `Broken`, the content
+/// `number`, `faults` and `is_broken` may answer a fault of the store, and then, unless it is `Broken`, the content
 /// is as before. What the calls answer is promised as long as the store returns what was written to
 /// it. `alloc` is where an answer's lists are made; the other calls answer by value, and take what
 /// memory the store needs from where it was opened.
@@ -44,6 +44,11 @@ pub trait Archive {
     /// How many calls answered a fault of the store, at most 2^64 - 1. It reads no store.
     fn faults(&self) -> u64
         ensures { result ≡ (state self.now).failed };
+
+    /// Whether the store broke, so that each call that reads or writes it answers `Broken` until it is opened again. It reads
+    /// no store.
+    fn is_broken(&self) -> bool
+        ensures { result ≡ (state self.now).broken };
 
     /// The number of each replica's last record.
     fn vector(&mut self) -> Result<Vector, StoreFault>

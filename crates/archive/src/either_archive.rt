@@ -39,6 +39,13 @@ impl<L: Archive, R: Archive> Archive for Either<L, R> {
         }
     }
 
+    fn is_broken(&self) -> bool {
+        match self {
+            Either::Left(archive) => archive.is_broken(),
+            Either::Right(archive) => archive.is_broken(),
+        }
+    }
+
     fn vector(&mut self) -> Result<Vector, StoreFault> {
         match self {
             Either::Left(archive) => archive.vector(),

@@ -567,6 +567,10 @@ impl Archive for ListArchive {
         self.faults
     }
 
+    fn is_broken(&self) -> bool {
+        false
+    }
+
     fn vector(&mut self) -> Result<Vector, StoreFault> {
         let vector = vector_of(self.held());
         self.told(Ok(vector))

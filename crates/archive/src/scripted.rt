@@ -264,6 +264,10 @@ impl Archive for ScriptedArchive {
         self.faults
     }
 
+    fn is_broken(&self) -> bool {
+        self.broken
+    }
+
     #[tactic(auto, using(crate::proofs::Scripting::queries))]
     fn vector(&mut self) -> Result<Vector, StoreFault>
         ensures asks { Asks (scripted_store self.old) (scripted_store self.new) result

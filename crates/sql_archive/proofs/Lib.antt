@@ -6,3 +6,4 @@ pub mod BeginLemmas
 pub mod FileLemmas
 pub mod StartLemmas
 pub mod ClearLemmas
+pub mod RefusedLemmas

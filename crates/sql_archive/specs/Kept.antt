@@ -1,5 +1,5 @@
 -- What an archive in a database keeps, and how it meets the contract of archives.
-use Rattle.std.specs.Prelude.{◌≡◌, ℕ, ℤ, List, Bool, false, refl}
+use Rattle.std.specs.Prelude.{◌≡◌, ℕ, ℤ, List, Bool, false, Result, refl}
 use Rattle.std.specs.Coded.{Coded, code_by, coded×, coded_ℕ, coded_ℤ, coded_bool, coded_list}
 use Rattle.sqlite.specs.Held.{Held, held_code, state}
 use Rattle.sqlite.specs.State.{State, HasCleanDisk}
@@ -7,9 +7,10 @@ use Rattle.sqlite_trees.specs.declared.store.Store.{Ghosts}
 use Rattle.sqlite_trees.specs.Tree.{Trees}
 use Rattle.sql_opening.specs.Latest.{Remembers}
 use Rattle.archive.specs.Store.{Store, IsOfOpening}
+use Rattle.archive.specs.declared.fault.StoreFault.{StoreFault}
 use Rattle.sql_tables.specs.Rows.{content_in, IsStored, IsStoreOf}
 use Rattle.sql_tables.specs.Derived.{AreKept}
-use Rattle.sql_tables.specs.State.{Idles}
+use Rattle.sql_tables.specs.State.{Idles, RefusesFor, AreWhole}
 
 pub record Kept (S : Type 0) : Type 0 where
   pub conn : Held S
@@ -75,3 +76,9 @@ module _ {S : Type 0} (g : Ghosts S) where
     may_hold = λ left. (db : Trees) × (state g a.conn).may_leave db × (left ≡ content_in db);
     meets = λ fault. IsOfOpening fault → ⊥;
   }
+
+  -- a query is refused only where SQLite may refuse, or the tables aren't whole
+  abbrev pub RefusesRightly : {A : Type 0} → (old new : Kept S) → Result A StoreFault → Type 0
+  RefusesRightly old new result =
+      RefusesFor (AreWhole (state g old.conn).now.trees → ⊥) (state g old.conn)
+      (state g new.conn) result

@@ -13,7 +13,7 @@ ghost use Rattle.sql_archive.specs.Starting.{IsBegun};
 
 use crate::starting::{as_told, start};
 use crate::store::SqlArchive;
-use archive::StoreFault;
+use archive::{Archive, StoreFault};
 use sql_tables::refusal_of;
 use sqlite::{Connection, File, FileFrom, FileStore, Files, Options, Start, Unknown};
 use sqlite_disk::Disk;

@@ -84,7 +84,14 @@ fn tell<T>(
 }
 
 impl<S: Alter> Archive for SqlArchive<S> {
-    ghost use Rattle.sql_archive.specs.Kept.{store_of};
+    ghost use Rattle.std.specs.Prelude.{◌≡◌, ℕ, take};
+    ghost use Rattle.stamp.specs.Numbers.{number_of};
+    ghost use Rattle.records.specs.Records.{versions, missing};
+    ghost use Rattle.records.specs.Contents.{vec, top, cut};
+    ghost use Rattle.archive.specs.Reading.{range_of, log_of, outside_of};
+    ghost use Rattle.archive.specs.Store.{Asks};
+    ghost use Rattle.sql_tables.specs.Connections.{content_of};
+    ghost use Rattle.sql_archive.specs.Kept.{store_of, RefusesRightly};
 
     ghost state = { store_of S.Store };
 
@@ -103,26 +110,37 @@ impl<S: Alter> Archive for SqlArchive<S> {
         self.faults
     }
 
-    fn vector(&mut self) -> Result<Vector, StoreFault> {
+    fn is_broken(&self) -> bool {
+        self.broken
+    }
+
+    fn vector(&mut self) -> Result<Vector, StoreFault>
+        ensures asks { Asks (store_of S.Store self.old) (store_of S.Store self.new) result
+            (λ v. (replica : ℕ) → number_of v replica ≡ vec (content_of S.Store self.old.conn) replica) }
+        ensures refused { RefusesRightly S.Store self.old self.new result }
+    {
         if self.broken {
             return Err(self.refuse());
         }
         Ok(self.latest.numbers)
     }
 
-    fn top(&mut self) -> Result<i64, StoreFault> {
+    fn top(&mut self) -> Result<i64, StoreFault>
+        ensures asks { Asks (store_of S.Store self.old) (store_of S.Store self.new) result
+            (λ t. t ≡ top (content_of S.Store self.old.conn)) }
+        ensures refused { RefusesRightly S.Store self.old self.new result }
+    {
         if self.broken {
             return Err(self.refuse());
         }
         Ok(self.latest.tick)
     }
 
-    fn at(
-        &mut self,
-        alloc: Global,
-        node: &NodeId,
-        time: Moment,
-    ) -> Result<Vec<Record>, StoreFault> {
+    fn at(&mut self, alloc: Global, node: &NodeId, time: Moment) -> Result<Vec<Record>, StoreFault>
+        ensures asks { Asks (store_of S.Store self.old) (store_of S.Store self.new) result
+            (λ v. v.items ≡ versions (content_of S.Store self.old.conn) node.now time) }
+        ensures refused { RefusesRightly S.Store self.old self.new result }
+    {
         if self.broken {
             return Err(self.refuse());
         }
@@ -139,7 +157,14 @@ impl<S: Alter> Archive for SqlArchive<S> {
         direction: Direction,
         limit: usize,
         within: &Vector,
-    ) -> Result<Vec<Held>, StoreFault> {
+    ) -> Result<Vec<Held>, StoreFault>
+        ensures asks { Asks (store_of S.Store self.old) (store_of S.Store self.new) result
+            (λ v. v.items
+            ≡ take limit
+            (range_of
+            (cut (content_of S.Store self.old.conn) (number_of within.now)) node.now from to direction)) }
+        ensures refused { RefusesRightly S.Store self.old self.new result }
+    {
         if self.broken {
             return Err(self.refuse());
         }
@@ -170,7 +195,14 @@ impl<S: Alter> Archive for SqlArchive<S> {
         direction: Direction,
         limit: usize,
         within: &Vector,
-    ) -> Result<Vec<Entry>, StoreFault> {
+    ) -> Result<Vec<Entry>, StoreFault>
+        ensures asks { Asks (store_of S.Store self.old) (store_of S.Store self.new) result
+            (λ v. v.items
+            ≡ take limit
+            (log_of
+            (cut (content_of S.Store self.old.conn) (number_of within.now)) node.now from to after direction)) }
+        ensures refused { RefusesRightly S.Store self.old self.new result }
+    {
         if self.broken {
             return Err(self.refuse());
         }
@@ -192,7 +224,13 @@ impl<S: Alter> Archive for SqlArchive<S> {
         time: Moment,
         direction: Direction,
         within: &Vector,
-    ) -> Result<Option<Held>, StoreFault> {
+    ) -> Result<Option<Held>, StoreFault>
+        ensures asks { Asks (store_of S.Store self.old) (store_of S.Store self.new) result
+            (λ h. h
+            ≡ outside_of
+            (cut (content_of S.Store self.old.conn) (number_of within.now)) node.now time direction) }
+        ensures refused { RefusesRightly S.Store self.old self.new result }
+    {
         if self.broken {
             return Err(self.refuse());
         }
@@ -211,7 +249,11 @@ impl<S: Alter> Archive for SqlArchive<S> {
         alloc: Global,
         vector: &Vector,
         limit: usize,
-    ) -> Result<Vec<Record>, StoreFault> {
+    ) -> Result<Vec<Record>, StoreFault>
+        ensures asks { Asks (store_of S.Store self.old) (store_of S.Store self.new) result
+            (λ v. v.items ≡ missing (content_of S.Store self.old.conn) (number_of vector.now) limit) }
+        ensures refused { RefusesRightly S.Store self.old self.new result }
+    {
         if self.broken {
             return Err(self.refuse());
         }
@@ -298,13 +340,6 @@ impl<S: Alter> SqlArchive<S> {
         ensures { result ≡ self.conn }
     {
         self.conn
-    }
-
-    /// Whether it can't be used until it is opened again.
-    pub(crate) fn is_broken(&self) -> bool
-        ensures { result ≡ self.now.broken }
-    {
-        self.broken
     }
 
     /// Between any two calls its tables stand for its content, and what a crash leaves is a store that an

@@ -1,4 +1,4 @@
-use Rattle.std.proofs.Common.{◌≡◌, subst, sym, refl, Vec}
+use Rattle.std.proofs.Common.{◌≡◌, subst, sym, refl, Vec, ◌∙◌, ap}
 use Rattle.std.specs.declared.alloc.Global.{Global}
 use Rattle.sqlite.specs.Held.{state}
 use Rattle.records.specs.Records.{versions}
@@ -6,6 +6,7 @@ use Rattle.records.specs.declared.record.Record.{Record}
 use Rattle.sql_tables.specs.Rows.{content_in}
 use Rattle.archive.specs.Store.{Asks}
 use Rattle.sql_archive.specs.Kept.{Kept, Serves, store_of}
+use Rattle.sql_archive.proofs.RefusedLemmas.{broken_not_refused, right_as_below}
 use Rattle.sql_archive.proofs.StoreLemmas.{Laws, refuses, asks, serves-asked}
 use Rattle.sql_archive.proofs.store.SqlArchiveArchive.at.Goals as goal
 
@@ -64,3 +65,35 @@ returns-clause-asks g c =
     (asks g.S.Store laws a b c.records_at-answer.result
     (IsAnswer a) c.self.invariant is c.if-self.false c.records_at-answer.ensures refl refl
     c.tell.ensures.faults c.tell.ensures.broken))
+
+pub returns-then-self-clause-refused : goal.returns-then-self-clause-refused
+returns-then-self-clause-refused g c clean refused =
+    let used = sym (ap (λ (k : Kept _). k.broken) c.self.view_is) ∙ c.if-self.true in
+    absurd (broken_not_refused c.refuse.result (c.refuse.ensures.ended used) refused)
+
+pub returns-clause-refused : goal.returns-clause-refused
+returns-clause-refused g c =
+    let a : Kept _ = record {
+      conn = c.self.inside.conn;
+      id = c.self.inside.id;
+      number =
+          c.self.inside.number;
+      numbers = c.self.inside.latest.numbers;
+      tick =
+          c.self.inside.latest.tick;
+      faults = c.self.inside.faults;
+      broken = c.self.inside.broken;
+    } in
+    let b : Kept _ = record {
+      conn = c.records_at-answer.new.conn;
+      id = c.self.inside.id;
+      number =
+          c.self.inside.number;
+      numbers = c.self.inside.latest.numbers;
+      tick =
+          c.self.inside.latest.tick;
+      faults = c.tell.new.faults;
+      broken = c.tell.new.broken;
+    } in
+    right_as_below g.S.Store _ a b c.args.self.now c.records_at-answer.result c.tell.result
+    c.self.view_is c.tell.ensures.same c.records_at-answer.ensures

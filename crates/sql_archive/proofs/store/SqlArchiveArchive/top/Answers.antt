@@ -1,10 +1,11 @@
-use Rattle.std.proofs.Common.{◌≡◌, arith, w64, FitsSigned, subst, ℤ, Ok}
+use Rattle.std.proofs.Common.{◌≡◌, arith, w64, FitsSigned, subst, ℤ, Ok, ◌∙◌, sym, ap}
 use Rattle.sqlite.specs.Held.{state}
 use Rattle.std.proofs.lemmas.Int.{to_z-of_z, ints, clamps}
 use Rattle.records.specs.Contents.{top}
 use Rattle.sql_tables.specs.Rows.{content_in}
 use Rattle.archive.specs.Store.{Asks}
 use Rattle.sql_archive.specs.Kept.{Kept, store_of}
+use Rattle.sql_archive.proofs.RefusedLemmas.{broken_not_refused}
 use Rattle.sql_archive.proofs.StoreLemmas.{Laws, refuses, tells}
 use Rattle.sql_archive.proofs.store.SqlArchiveArchive.top.Goals as goal
 
@@ -47,3 +48,8 @@ returns-clause-asks g c =
     (IsAnswer x)) c.self.view_is
     (tells g.S.Store laws a c.self.inside.latest.tick (IsAnswer a) c.self.invariant c.if-self.false
     (λ clean all. all.remembered.newest)))
+
+pub returns-then-self-clause-refused : goal.returns-then-self-clause-refused
+returns-then-self-clause-refused g c clean refused =
+    let used = sym (ap (λ (k : Kept _). k.broken) c.self.view_is) ∙ c.if-self.true in
+    absurd (broken_not_refused c.refuse.result (c.refuse.ensures.ended used) refused)

@@ -1,10 +1,11 @@
-use Rattle.std.proofs.Common.{◌≡◌, subst, List, ℕ, Ok}
+use Rattle.std.proofs.Common.{◌≡◌, subst, List, ℕ, Ok, ◌∙◌, sym, ap}
 use Rattle.sqlite.specs.Held.{state}
 use Rattle.stamp.specs.Numbers.{number_of}
 use Rattle.records.specs.Contents.{vec}
 use Rattle.sql_tables.specs.Rows.{content_in}
 use Rattle.archive.specs.Store.{Asks}
 use Rattle.sql_archive.specs.Kept.{Kept, store_of}
+use Rattle.sql_archive.proofs.RefusedLemmas.{broken_not_refused}
 use Rattle.sql_archive.proofs.StoreLemmas.{Laws, refuses, tells}
 use Rattle.sql_archive.proofs.store.SqlArchiveArchive.vector.Goals as goal
 
@@ -45,3 +46,8 @@ returns-clause-asks g c =
     (IsAnswer x)) c.self.view_is
     (tells g.S.Store laws a c.self.inside.latest.numbers
     (IsAnswer a) c.self.invariant c.if-self.false (λ clean all. all.remembered.lasts))
+
+pub returns-then-self-clause-refused : goal.returns-then-self-clause-refused
+returns-then-self-clause-refused g c clean refused =
+    let used = sym (ap (λ (k : Kept _). k.broken) c.self.view_is) ∙ c.if-self.true in
+    absurd (broken_not_refused c.refuse.result (c.refuse.ensures.ended used) refused)
