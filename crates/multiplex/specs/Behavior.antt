@@ -9,6 +9,8 @@ use Rattle.multiplex.specs.declared.stay.Stay.{Stay}
 pub record Behavior (H V E : Type 0) : Type 1 where
   -- it is this time, the longest turn so far took so long, and the world was told
   pub passes : V → (now longest_turn : ℕ) → V → Type 0
+  -- nobody is to be served over this world any more
+  pub is_over : V → Bool
   -- nothing came yet on a connection that was accepted and came from there, and the world was told
   pub begins : Origin → V → H → V → Type 0
   -- a callee of this number was called over the world; none where that can't be

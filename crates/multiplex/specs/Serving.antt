@@ -36,8 +36,8 @@ AsksWhoComes most accepted asked (turn ∷ turns) =
 module _ {S H R W V E : Type 0} (source : Effects S R W) (input : Input R) (output : Output W)
     (handler : Behavior H V E) (limits : Limits) where
   -- a server took its turns, in rounds; where it is done it accepted all that it was to, and each
-  -- slot is free, and else it was waited as often as it was to be
-  pub record HasServed (old new : Loop S H R W V E) (done : Bool) : Type 0 where
+  -- slot is free; or its world is over; and else it was waited as often as it was to be
+  pub record HasServed (old new : Loop S H R W V E) (done over : Bool) : Type 0 where
     pub turns : List (LoopTurn E)
     pub execution : AreTurns source input output handler limits old turns new
     pub rounds : AreInRounds (length old.slots) turns
@@ -45,7 +45,8 @@ module _ {S H R W V E : Type 0} (source : Effects S R W) (input : Input R) (outp
     pub most : IfSome limits.connections (λ most. count_accepted turns ≤ most)
     pub ended : done ≡ true
         → (limits.connections ≡ Some (count_accepted turns)) × AreAllFree new.slots
-    pub spent : done ≡ false → count_waits turns ≡ limits.rounds
+    pub stops : over ≡ true → handler.is_over new.world ≡ true
+    pub spent : done ≡ false → over ≡ false → count_waits turns ≡ limits.rounds
 
   -- it was asked who comes, unless all had come before
   abbrev pub HasAsked : (before accepted : ℕ) → Loop S H R W V E → Loop S H R W V E → Type 0

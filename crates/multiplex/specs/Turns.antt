@@ -63,10 +63,11 @@ count_accepted turns = count_by is_accepted turns
 
 module _ {S H R W V E : Type 0} (source : Effects S R W) (input : Input R) (output : Output W)
     (handler : Behavior H V E) (limits : Limits) where
-  -- it was waited, and the world was told the time; where nothing was to be done at once, each
-  -- connection was at rest
+  -- it was waited, since somebody is still to be served, and the world was told the time; where
+  -- nothing was to be done at once, each connection was at rest
   pub record IsWait (old : Loop S H R W V E) (busy : Bool) (now : ℕ)
       (new : Loop S H R W V E) : Type 0 where
+    pub goes_on : handler.is_over old.world ≡ false
     pub rest : busy ≡ false → (k : ℕ)
         → IsAtRestAt handler (has_room limits.waiting_bytes old.slots) old.slots k
     pub waited : source.waited old.source busy now new.source

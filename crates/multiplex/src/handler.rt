@@ -52,6 +52,10 @@ pub trait Handler: Drop {
     fn pass(world: &mut Self::World, now: u64, longest_turn: u64)
         ensures { behavior.passes world.old now longest_turn world.new };
 
+    /// Whether nobody is to be served over this world any more.
+    fn is_over(world: &Self::World) -> bool
+        ensures { result ≡ behavior.is_over world.now };
+
     /// The handler of a connection that was accepted and came from there, before its first byte.
     fn begin(alloc: Global, origin: Origin, world: &mut Self::World) -> Self
         ensures { behavior.begins origin world.old result world.new };

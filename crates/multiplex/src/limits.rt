@@ -20,8 +20,10 @@ pub struct Limits {
 /// What came of serving.
 #[derive(Clone, Copy, Debug, PartialEq, Eq)]
 pub struct ServeReport {
-    /// Whether all connections were accepted and closed; else the rounds were over before.
+    /// Whether all connections were accepted and closed; else the world or the rounds were over before.
     pub is_done: bool,
+    /// Whether the world was over before.
+    pub is_over: bool,
     /// The longest time that one turn of a connection took, in milliseconds, by the source's clock.
     pub longest_turn: u64,
 }

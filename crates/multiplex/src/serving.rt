@@ -172,9 +172,11 @@ fn call_next<S: Source, H: Handler>(
 }
 
 /// Serves connections over a world, each in its turn, in one thread. It accepts no more than `limits` say, and ends when
-/// the last of them is closed and each slot is free, or when its rounds are over.
+/// the last of them is closed and each slot is free, when the world is over, or when its rounds are over. A world that is
+/// over is found at the end of the round that made it so.
 ///
-/// A connection that a slot holds already is served too. Bytes that wait when the rounds are over stay with its slot.
+/// A connection that a slot holds already is served too. Bytes that wait when the world or the rounds are over stay with
+/// its slot.
 pub fn serve<S: Source, H: Handler>(
     alloc: Global,
     source: &mut S,
@@ -185,7 +187,7 @@ pub fn serve<S: Source, H: Handler>(
     ensures { (first : ℕ) → (last : ℕ)
         × HasServed S.effects S.Reader.input S.Writer.output H.behavior limits
         (state source.old slots.old world.old first) (state source.new slots.new world.new last)
-        result.is_done }
+        result.is_done result.is_over }
 {
     let mut busy = true;
     let mut accepted = 0;
@@ -194,6 +196,14 @@ pub fn serve<S: Source, H: Handler>(
         if is_done(slots, accepted, limits) {
             return ServeReport {
                 is_done: true,
+                is_over: false,
+                longest_turn,
+            };
+        }
+        if H::is_over(world) {
+            return ServeReport {
+                is_done: false,
+                is_over: true,
                 longest_turn,
             };
         }
@@ -212,6 +222,7 @@ pub fn serve<S: Source, H: Handler>(
     }
     ServeReport {
         is_done: false,
+        is_over: false,
         longest_turn,
     }
 }

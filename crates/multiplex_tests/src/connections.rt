@@ -584,7 +584,8 @@ fn is_as_said(alloc: Global, row: &Row) -> Result<bool, AllocError> {
     let told = are_told(played.world.ends.as_slice(), row);
     let answered = played.world.answers.as_slice() == row.answers;
     let failed = played.world.failed.as_slice() == row.failed;
-    Ok(played.report.is_done == row.is_done && told && answered && failed)
+    let over = !played.report.is_over;
+    Ok(played.report.is_done == row.is_done && over && told && answered && failed)
 }
 
 #[test]
@@ -617,5 +618,29 @@ fn a_connection_knows_when_it_began_and_how_often_it_was_answered(
     };
     let played = play(rt.alloc(), &clients, limits, 4, 0, 1)?;
     assert!(rt; played.world.stays.as_slice() == [(2, 0), (3, 7)].as_slice());
+    Ok(())
+}
+
+#[test]
+fn a_world_that_is_over_ends_its_round_and_all(rt: HostRuntime) -> Result<(), Fail> {
+    let clients = [
+        Client {
+            text: b"^\nb\n",
+            ..PLAIN
+        },
+        Client {
+            text: b"c\nd\n",
+            ..PLAIN
+        },
+    ];
+    let limits = Limits {
+        connections: Some(2),
+        ..WIDE
+    };
+    let played = play(rt.alloc(), &clients, limits, 4, 0, 1)?;
+    assert!(rt; played.report.is_over && !played.report.is_done);
+    assert!(rt; played.world.answers.as_slice().len() <= 4);
+    assert!(rt; played.world.answers.as_slice().starts_with(b"0^"));
+    assert!(rt; played.closed.is_empty());
     Ok(())
 }

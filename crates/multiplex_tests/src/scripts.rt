@@ -232,6 +232,8 @@ pub struct Notes {
     pub stays: Vec<(u64, u64)>,
     /// The time.
     pub now: u64,
+    /// Whether a line told that nobody is to be served any more.
+    pub over: bool,
 }
 
 impl Notes {
@@ -243,6 +245,7 @@ impl Notes {
             failed: Vec::new(alloc),
             stays: Vec::new(alloc),
             now: 0,
+            over: false,
         }
     }
 }
@@ -272,6 +275,7 @@ impl Handler for Echo {
 
     ghost behavior = { record {
       passes = λ v now longest_turn w. Unit {0};
+      is_over = λ v. v.over;
       begins = λ origin v h w. Unit {0};
       calls = λ callee v made h w. Unit {0};
       receives = λ old bytes made end new. Unit {0};
@@ -297,6 +301,10 @@ impl Handler for Echo {
 
     fn pass(world: &mut Notes, now: u64, _longest_turn: u64) {
         world.now = now;
+    }
+
+    fn is_over(world: &Notes) -> bool {
+        world.over
     }
 
     fn begin(alloc: Global, origin: Origin, _world: &mut Notes) -> Echo {
@@ -336,6 +344,9 @@ impl Handler for Echo {
             self.established = true;
         }
         self.delay = if first == b'~' { 1_000 } else { 0 };
+        if first == b'^' {
+            world.over = true;
+        }
         let made = out.extend_from_slice(&self.came[..=at]);
         self.came.drain(..=at);
         match made {

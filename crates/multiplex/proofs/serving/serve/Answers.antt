@@ -34,7 +34,25 @@ returns-then-is_done g c first =
         ended = λ done.
             let (all, free) = c.if-is_done.ensures refl in
             (all ∙ ap (λ n. Some n) (sym far.accepts), free);
+        stops = λ over. absurd (true≢false (sym over));
         spent = λ undone. absurd (true≢false undone);
+      },
+    )
+
+pub returns-then-is_over : goal.returns-then-is_over
+returns-then-is_over g c first =
+    let (last, far) = c.loop.invariant.far first in (
+      last,
+      record {
+        turns = far.turns;
+        execution = far.execution;
+        rounds = far.rounds;
+        asks = far.asks;
+        most = subst (λ n. IfSome c.args.limits.connections (λ most. n ≤ most)) (sym far.accepts)
+            c.loop.invariant.most;
+        ended = λ done. absurd (true≢false (sym done));
+        stops = λ over. sym c.is_over.ensures ∙ c.if-is_over.true;
+        spent = λ undone going. absurd (true≢false going);
       },
     )
 
@@ -74,6 +92,7 @@ loop-preserved g c = record {
             (state c.serve_round-busy.new.source c.serve_round-busy.new.slots
             c.serve_round-busy.new.world now)
             before (record {
+              goes_on = sym c.is_over.ensures ∙ c.if-is_over.false;
               rest = c.loop.invariant.rest;
               waited = c.wait-now.ensures;
               longest_turn = c.loop.longest_turn;
@@ -108,6 +127,7 @@ returns g c first =
         most = subst (λ n. IfSome c.args.limits.connections (λ most. n ≤ most)) (sym far.accepts)
             c.loop.invariant.most;
         ended = λ done. absurd (true≢false (sym done));
-        spent = λ undone. far.waited ∙ omega (arith, c.loop.auto.counter-end, c.loop-test.false);
+        stops = λ over. absurd (true≢false (sym over));
+        spent = λ undone going. far.waited ∙ omega (arith, c.loop.auto.counter-end, c.loop-test.false);
       },
     )
