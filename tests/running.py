@@ -15,6 +15,7 @@ STATED = [
     (2, r"settings file can't be read\n(uahist: [^\n]{1,80}\n)?"),
     (2, r"settings refused \([1-6]\)\n(uahist: [^\n]{1,180}\n){0,2}"),
     (3, r"store refused \([1-4]\)\n(uahist: [^\n]{1,80}\n)?"),
+    (3, r"store broken\nuahist: [^\n]{1,80}\n"),
     (2, r"bad hex\n"),
     (1, r"(door's |)address refused\nuahist: [^\n]{1,80}\n"),
     (1, r"peer's address refused \(\d+\)\nuahist: [^\n]{1,80}\n"),

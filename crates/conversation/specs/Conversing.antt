@@ -1,5 +1,5 @@
 -- What is said on a connection, as the loop over many of them knows it.
-use Rattle.std.specs.Prelude.{◌≡◌, ℤ, List, [], Option, if◌then◌else◌}
+use Rattle.std.specs.Prelude.{◌≡◌, ◌&&◌, ℤ, List, [], Bool, Option, if◌then◌else◌}
 use Rattle.archive.specs.Store.{Store}
 use Rattle.multiplex.specs.Behavior.{Behavior}
 use Rattle.multiplex.specs.declared.stay.Origin.{Origin}
@@ -20,12 +20,18 @@ abbrev pub first_end : (from : Option (List Network)) → Origin → OtherEnd
 first_end from origin =
     if is_stranger from origin then Stranger else Unknown (door_of_listener origin.listener) []
 
+-- the store is broken, and the settings say that nobody is served then
+abbrev pub is_over : {A C L : Type 0} → (A → Store) → World A C L → Bool
+is_over state w =
+    w.server.settings.ends_broken && (state w.server.replica.archive).broken
+
 -- a connection begins with a stranger or with nobody known at its other end, at the door of its
 -- listener, or is a call of a peer; no answer waits, and nothing hangs on the time
 abbrev pub behavior_over : {A C L : Type 0} → (A → Store) → (C → List ℤ → C → Type 0)
     → LogCalls L → Behavior OtherEnd (World A C L) ConversationEnding
 behavior_over state gave log = record {
   passes = λ v now longest_turn w. w ≡ v;
+  is_over = is_over state;
   begins = λ origin v other w. (other ≡ first_end v.from origin) × (w ≡ v);
   calls = StartsCall state log;
   receives = TakesBytes;

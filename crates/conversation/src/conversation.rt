@@ -56,6 +56,11 @@ impl<A: Archive, C: Clock, L: Log> Handler for Conversation<A, C, L> {
     /// Nothing hangs on the time.
     fn pass(world: &mut World<A, C, L>, now: u64, longest_turn: u64) {}
 
+    /// Whether the store is broken, and the settings say that nobody is served then.
+    fn is_over(world: &World<A, C, L>) -> bool {
+        world.server.settings.ends_broken() && world.server.replica.archive.is_broken()
+    }
+
     /// Nothing came yet, and nobody is known, but for strangers at the door of peers. It takes no memory.
     fn begin(alloc: Global, origin: Origin, world: &mut World<A, C, L>) -> Self {
         let other = if is_stranger(&world.from, origin) {

@@ -4,6 +4,8 @@
 #[cfg(test)]
 mod admitting;
 #[cfg(test)]
+mod broken;
+#[cfg(test)]
 mod conversations;
 #[cfg(test)]
 mod scripts;

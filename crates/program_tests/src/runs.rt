@@ -1336,6 +1336,7 @@ fn is_told(alloc: Global, ending: Result<(), ProgramFault>, said: &str, status: 
 #[test]
 fn tells_each_fault(rt: HostRuntime) {
     for (fault, said, status) in [
+        (ProgramFault::StoreBroken, "uahist: store broken\n", 3),
         (
             ProgramFault::Connection(ServeFault::Read),
             "uahist: connection ended (1)\n",

@@ -41,6 +41,7 @@ module _ {C E : Type 0} (known : KnownMachine) (gave : Readings C) (told : Known
   no-address (program.Settings fault place) none same stays = absurd none
   no-address (program.Store fault) none same stays = absurd none
   no-address program.BadHex none same stays = absurd none
+  no-address program.StoreBroken none same stays = absurd none
   no-address (program.Connection fault) none same stays = absurd none
   no-address (program.Call fault) none same stays = absurd none
   no-address (program.Exchange fault) none same stays = absurd none
@@ -88,6 +89,7 @@ none-serving settings program.File none = absurd none
 none-serving settings (program.Settings fault place) none = absurd none
 none-serving settings (program.Store fault) none = absurd none
 none-serving settings program.BadHex none = absurd none
+none-serving settings program.StoreBroken none = absurd none
 none-serving settings (program.Connection fault) none = absurd none
 none-serving settings (program.Call fault) none = absurd none
 none-serving settings (program.Exchange fault) none = absurd none

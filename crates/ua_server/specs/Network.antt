@@ -16,7 +16,7 @@ use Rattle.conversation.specs.Closing.{log_calls}
 use Rattle.conversation.specs.Conversing.{behavior_over}
 use Rattle.ua_server.specs.declared.log.ErrorLog.{ErrorLog}
 use Rattle.ua_server.specs.declared.program.ProgramFault.{ProgramFault}
-use Rattle.ua_server.specs.declared.program.ProgramFault.TheVariants.{Address, DoorAddress, DoorNetwork, PeerAddress, Connection}
+use Rattle.ua_server.specs.declared.program.ProgramFault.TheVariants.{Address, DoorAddress, DoorNetwork, PeerAddress, StoreBroken, Connection}
 use Rattle.ua_server.specs.Host.{KnownMachine}
 use Rattle.ua_server.specs.Listening.{IsFrom, networks_at}
 use Rattle.ua_server.specs.Telling.{Known, fresh_log, LogsFault, LogsFailed, LogsCall}
@@ -75,9 +75,10 @@ pub record IsAround {C E : Type 0} (known : KnownMachine)
   pub clock : loop.world.clock ≡ around.clock
   pub errors : loop.world.log.errors ≡ around.errors
 
--- connections were served that came from a source, each in its turn, from when there was none
+-- connections were served that came from a source, each in its turn, from when there was none, to
+-- their end, or till the store was broken and the settings said that nobody is served then
 pub record ServesMany {C E : Type 0} (known : KnownMachine) (gave : Readings C) (told : Known E)
-    (settings : SettingsValues) (count : ℕ) (source : known.Source)
+    (settings : SettingsValues) (count : ℕ) (source : known.Source) (broken : Bool)
     (old new : Serving known.Host known.Archive C E) : Type 0 where
   pub first : ServingLoop known C E
   pub last : ServingLoop known C E
@@ -90,9 +91,10 @@ pub record ServesMany {C E : Type 0} (known : KnownMachine) (gave : Readings C) 
   pub peers_from : IsFrom (networks_at settings) first.world.from
   pub free : AreAllFree first.slots
   pub served : HasServed known.effects known.input known.output (conversations known.held gave told)
-      (limits_of settings count) first last done
+      (limits_of settings count) first last done broken
 
--- nothing could be had at an address of the settings, or memory was wanting before
+-- nothing could be had at an address of the settings, or memory was wanting before; or the store
+-- broke
 abbrev pub IsServingFault : ProgramFault → Type 0
 IsServingFault fault =
     elim fault [
@@ -100,6 +102,7 @@ IsServingFault fault =
       | DoorAddress ↦ Unit {0}
       | DoorNetwork number ↦ Unit {0}
       | PeerAddress number ↦ Unit {0}
+      | StoreBroken ↦ Unit {0}
       | Connection OutOfMemory ↦ Unit {0}
       | _ ↦ ⊥
     ]

@@ -9,7 +9,7 @@ use Rattle.toml.specs.Parse.{parse_document}
 use Rattle.counted_io.specs.declared.fault.ServeFault.TheVariants.{Write, OutOfMemory}
 use Rattle.ua_server.specs.declared.hexed.HexFault.{HexFault}
 use Rattle.ua_server.specs.declared.program.ProgramFault.{ProgramFault}
-use Rattle.ua_server.specs.declared.program.ProgramFault.TheVariants.{Line, File, Settings, Address, Connection}
+use Rattle.ua_server.specs.declared.program.ProgramFault.TheVariants.{Line, File, Settings, Address, StoreBroken, Connection}
 use Rattle.ua_server.specs.declared.program.ProgramFault.TheVariants as program
 use Rattle.ua_server.specs.declared.dumps.DumpFault.{DumpFault}
 use Rattle.counted_io.specs.Bytes.{AppendsPart}
@@ -177,13 +177,15 @@ IsUnreachable had text old new =
     (((address : SocketAddr) → IsSocketText text address → ⊥) × (new ≡ old))
     ⊎ ((address : SocketAddr) × IsSocketText text address × had address None new)
 
--- connections were served that came to the addresses of the settings
+-- connections were served that came to the addresses of the settings, to their end, or till the
+-- store broke
 abbrev pub ListensAt : {C E : Type 0} → (known : KnownMachine) → Readings C → Known E
-    → SettingsValues → ℕ → (old new : Serving known.Host known.Archive C E) → Type 0
-ListensAt known gave told settings count old new =
+    → SettingsValues → ℕ → (broken : Bool) → (old new : Serving known.Host known.Archive C E)
+    → Type 0
+ListensAt known gave told settings count broken old new =
     (listening : Listening) × IsListening settings listening
     × ((source : known.Source) × known.machine.listens old.host listening (Ok source) new.host
-    × ServesMany known gave told settings count source old new)
+    × ServesMany known gave told settings count source broken old new)
 
 -- an address of the settings can't be listened at, as this fault tells
 abbrev pub IsRefusedPlace : (known : KnownMachine) → SettingsValues → ProgramFault
@@ -201,13 +203,16 @@ FindsNoPlace known settings fault old new =
     ⊎ IsRefusedPlace known settings fault old.host new.host)
     × (new ≡ record old { host = new.host })
 
--- connections were served that came to the addresses of the settings; or memory was wanting before,
--- or nothing is had at one of them; no other fault ends it
+-- connections were served that came to the addresses of the settings, to their end, or till the
+-- store broke; or memory was wanting before, or nothing is had at one of them; no other fault ends
+-- it
 abbrev pub Listens : {C E : Type 0} → (known : KnownMachine) → Readings C → Known E
     → SettingsValues → ℕ → (old new : Serving known.Host known.Archive C E)
     → Result (Unit {0}) ProgramFault → Type 0
 Listens known gave told settings count old new (Ok done) =
-    ListensAt known gave told settings count old new
+    ListensAt known gave told settings count false old new
+Listens known gave told settings count old new (Err StoreBroken) =
+    ListensAt known gave told settings count true old new
 Listens known gave told settings count old new (Err (Connection OutOfMemory)) = new ≡ old
 Listens known gave told settings count old new (Err fault) =
     FindsNoPlace known settings fault old new

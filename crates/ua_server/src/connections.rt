@@ -88,7 +88,7 @@ fn listen_at<H: Host>(
 }
 
 /// Serves so many connections at the address of a server's settings, many at once, and calls the peers of these settings when
-/// they are due, till all connections have ended.
+/// they are due, till all connections have ended; or, where the settings say so, till the store is broken, which is a fault.
 pub(crate) fn serve_at<H: Host, C: Clock, E: Write>(
     world: &mut World<H::Archive, C, ErrorLog<E>>,
     connections: u32,
@@ -110,12 +110,15 @@ pub(crate) fn serve_at<H: Host, C: Clock, E: Write>(
     };
     let (mut source, from) = listen_at(alloc, &world.server.settings, host)?;
     world.from = from;
-    serve::<H::Source, Conversation<H::Archive, C, ErrorLog<E>>>(
+    let report = serve::<H::Source, Conversation<H::Archive, C, ErrorLog<E>>>(
         alloc,
         &mut source,
         world,
         slots.as_mut_slice(),
         limits,
     );
+    if report.is_over {
+        return Err(ProgramFault::StoreBroken);
+    }
     Ok(())
 }

@@ -62,6 +62,8 @@ pub enum ProgramFault {
     DoorNetwork(u64),
     /// The address of the peer of this number in the settings, from 1, is none.
     PeerAddress(u64),
+    /// The store broke while connections were served, and the settings say that nobody is served then.
+    StoreBroken,
     /// A connection met a fault.
     Connection(ServeFault),
     /// The connection with a peer that was called met a fault.
@@ -104,6 +106,7 @@ impl ProgramFault {
             ProgramFault::DoorAddress => "door's address refused",
             ProgramFault::DoorNetwork(_) => "door's network refused",
             ProgramFault::PeerAddress(_) => "peer's address refused",
+            ProgramFault::StoreBroken => "store broken",
             ProgramFault::Connection(_) | ProgramFault::Call(_) => "connection ended",
             ProgramFault::Exchange(_) | ProgramFault::Peer(_) => "exchange ended",
             ProgramFault::BadOption(fault) => fault.text(),
@@ -136,6 +139,7 @@ impl ProgramFault {
             | ProgramFault::BadHex
             | ProgramFault::Address
             | ProgramFault::DoorAddress
+            | ProgramFault::StoreBroken
             | ProgramFault::BadOption(_)
             | ProgramFault::NoText
             | ProgramFault::BadUser
@@ -161,6 +165,7 @@ impl ProgramFault {
             | ProgramFault::DoorAddress
             | ProgramFault::DoorNetwork(_)
             | ProgramFault::PeerAddress(_)
+            | ProgramFault::StoreBroken
             | ProgramFault::Connection(_)
             | ProgramFault::Call(_)
             | ProgramFault::Exchange(_)
@@ -677,7 +682,7 @@ pub fn report<W: Write>(ending: Result<(), ProgramFault>, errors: &mut Counted<W
         | ProgramFault::BadUser
         | ProgramFault::NoStore
         | ProgramFault::NoHeader => 2,
-        ProgramFault::Store(_) => 3,
+        ProgramFault::Store(_) | ProgramFault::StoreBroken => 3,
         ProgramFault::Address
         | ProgramFault::DoorAddress
         | ProgramFault::DoorNetwork(_)

@@ -9,7 +9,7 @@ use Rattle.uuid.specs.Text.{parsed}
 use Rattle.ua_settings.specs.declared.keys.Section.{Section}
 use Rattle.ua_settings.specs.declared.keys.Section.TheVariants.{Document, Archive, Server, User, Folder, Variable, Peer, Door}
 use Rattle.ua_settings.specs.declared.keys.Holds.{Holds}
-use Rattle.ua_settings.specs.declared.keys.Holds.TheVariants.{Text, Id, Replica, UpTo, Truth, NodeName, UserName, FolderId, Access, PasswordFile, Texts, Replicas, OneTable, Tables}
+use Rattle.ua_settings.specs.declared.keys.Holds.TheVariants.{Text, Id, Replica, UpTo, Truth, NodeName, UserName, FolderId, Access, AfterBreak, PasswordFile, Texts, Replicas, OneTable, Tables}
 use Rattle.ua_settings.specs.declared.keys.Wrong.{Wrong}
 use Rattle.ua_settings.specs.declared.password.PasswordLine.{PasswordLine}
 use Rattle.ua_settings.specs.declared.keys.Wrong.TheVariants.{Unknown, Missing, Bad}
@@ -45,7 +45,7 @@ document_keys =
 abbrev pub archive_keys : List Rule
 archive_keys =
     required (codes "id") Id ∷ required (codes "replica") Replica ∷ optional (codes "store") Text
-    ∷ []
+    ∷ optional (codes "broken") AfterBreak ∷ []
 
 -- those of the table `server`
 abbrev pub server_keys : List Rule
@@ -178,6 +178,10 @@ is_folder names id = list_any (λ folder. pointwise nat_eq folder id) names.fold
 abbrev pub is_access : List ℕ → Bool
 is_access text = pointwise nat_eq text (codes "read") || pointwise nat_eq text (codes "write")
 
+-- what `serve` does once its store is broken, as it is spelled
+abbrev pub is_after_break : List ℕ → Bool
+is_after_break text = pointwise nat_eq text (codes "stop")
+
 -- the path of a password file whose first line isn't empty
 abbrev pub is_password_file : Names → List ℕ → Bool
 is_password_file names path = nat_le 1 (length (password_line names.passwords path))
@@ -207,6 +211,7 @@ fits names NodeName value = option_map_or is_name (as_str value) false
 fits names UserName value = option_map_or (is_user_name names) (as_str value) false
 fits names FolderId value = option_map_or (is_folder names) (as_str value) false
 fits names Access value = option_map_or is_access (as_str value) false
+fits names AfterBreak value = option_map_or is_after_break (as_str value) false
 fits names PasswordFile value = option_map_or (is_password_file names) (as_str value) false
 fits names Texts value = option_map_or (are_held Texts) (as_array value) false
 fits names Replicas value = option_map_or (are_held Replicas) (as_array value) false

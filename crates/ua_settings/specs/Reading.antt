@@ -144,7 +144,7 @@ listed_in lines document space = record {
 }
 
 -- what the tables `archive` and `server` give, with what others list; 64 connections at a time, and
--- 256 MiB, where the tables don't say
+-- 256 MiB, where the tables don't say, and no end once the store is broken
 abbrev pub values_of : (archive server : Members) → Listed → SettingsValues
 values_of archive server listed = record {
   archive = unwrap_or (parsed (text_at (codes "id") archive)) [];
@@ -159,6 +159,7 @@ values_of archive server listed = record {
   waiting = number_or 256 (codes "waiting") server;
   peers = listed.peers;
   door = listed.door;
+  ends_broken = pointwise nat_eq (text_at (codes "broken") archive) (codes "stop");
 }
 
 -- the settings of a document with these nodes

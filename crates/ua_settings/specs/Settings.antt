@@ -1,12 +1,13 @@
 -- What a server is set to.
-use Rattle.std.specs.Prelude.{◌≤◌, List, [], ℕ, length, replicate, codes, true, None}
+use Rattle.std.specs.Prelude.{◌≤◌, List, [], ℕ, length, replicate, codes, true, false, None}
 use Rattle.ua_session.specs.declared.identity.Access.TheVariants.{Write}
 use Rattle.ua_settings.specs.declared.settings.Parts.{Parts}
 
 -- the archive's id, the number of this replica of it, and the file of its store, none for memory;
 -- where the server listens, the URL of its endpoint, the URI of the application; who may use it;
 -- its nodes; how many connections it serves at a time, and how many MiB may wait to be written;
--- the peers that it calls, and where peers come to it, if not to the address where clients do
+-- the peers that it calls, and where peers come to it, if not to the address where clients do;
+-- whether it ends once its store is broken
 abbrev pub SettingsValues : Type 0
 SettingsValues = Parts
 
@@ -26,6 +27,7 @@ bare = record {
   waiting = 256;
   peers = [];
   door = None;
+  ends_broken = false;
 }
 
 -- a text of settings has at most 65,536 bytes

@@ -107,6 +107,7 @@ fn fits_text(known: &Known<'_>, holds: Holds, text: &str) -> bool
         Holds::UserName => is_user_name(known, text),
         Holds::FolderId => is_among(text, known.folders.as_slice()),
         Holds::Access => text == "read" || text == "write",
+        Holds::AfterBreak => text == "stop",
         Holds::PasswordFile => !line_of(known.passwords, text).is_empty(),
         Holds::Replica
         | Holds::UpTo(_)
@@ -210,6 +211,7 @@ fn fits(known: &Known<'_>, holds: Holds, value: &Value) -> bool
         | Holds::UserName
         | Holds::FolderId
         | Holds::Access
+        | Holds::AfterBreak
         | Holds::PasswordFile => match value.as_str() {
             Some(text) => fits_text(known, holds, text),
             None => false,

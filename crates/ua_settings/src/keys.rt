@@ -42,6 +42,8 @@ pub(crate) enum Holds {
     FolderId,
     /// `read` or `write`.
     Access,
+    /// `stop`.
+    AfterBreak,
     /// The path of a password file whose first line isn't empty.
     PasswordFile,
     /// An array of texts, each of at most 65,536 bytes.
@@ -143,10 +145,11 @@ static DOCUMENT: [Key; 7] = [
     key!("door", OneTable, optional),
 ];
 
-static ARCHIVE: [Key; 3] = [
+static ARCHIVE: [Key; 4] = [
     key!("id", Id),
     key!("replica", Replica),
     key!("store", Text, optional),
+    key!("broken", AfterBreak, optional),
 ];
 
 static SERVER: [Key; 8] = [

@@ -331,6 +331,7 @@ fn settings_of(
         waiting: number_or(server, "waiting", 65_536, WAITING),
         peers: listed.peers,
         door: listed.door,
+        ends_broken: text(archive, "broken") == "stop",
     }))
 }
 

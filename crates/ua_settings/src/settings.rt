@@ -56,6 +56,8 @@ pub struct Parts {
     pub peers: Peers,
     /// Where peers come to; none where they come to the address where clients do.
     pub door: Option<DoorSettings>,
+    /// Whether `serve` ends once its store is broken.
+    pub ends_broken: bool,
 }
 
 /// What a server is set to.
@@ -73,6 +75,7 @@ pub struct Settings {
     waiting: u32,
     peers: Peers,
     door: Option<DoorSettings>,
+    ends_broken: bool,
 }
 
 impl Model for Settings {
@@ -94,6 +97,7 @@ impl Model for Settings {
           waiting = s.waiting;
           peers = s.peers;
           door = s.door;
+          ends_broken = s.ends_broken;
         } };
 
     ghost invariant = { λ s. IsSettingsText s.url × IsSettingsText s.application };
@@ -135,6 +139,7 @@ impl Settings {
             waiting: WAITING,
             peers: Peers::new(alloc),
             door: None,
+            ends_broken: false,
         })
     }
 
@@ -185,6 +190,7 @@ impl Settings {
             waiting: parts.waiting,
             peers: parts.peers,
             door: parts.door,
+            ends_broken: parts.ends_broken,
         }
     }
 
@@ -261,6 +267,13 @@ impl Settings {
         ensures { result ≡ self.now.waiting }
     {
         self.waiting
+    }
+
+    /// Whether `serve` ends once its store is broken.
+    pub fn ends_broken(&self) -> bool
+        ensures { result ≡ self.now.ends_broken }
+    {
+        self.ends_broken
     }
 
     /// The peers that are called.

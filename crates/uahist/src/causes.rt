@@ -8,13 +8,14 @@ use ua_server::ProgramFault;
 use ua_settings::SettingsFault;
 
 /// What keys of the settings hold, for those whose value may be wrong.
-static WANTED: [(&str, &str); 18] = [
+static WANTED: [(&str, &str); 19] = [
     (
         "[archive] id",
         "want a UUID, as 3f2c8a10-5b1e-4c7d-9a60-2d8f4b6e7c90",
     ),
     ("id", "want a text of 1 to 256 bytes that is no other id"),
     ("replica", "want a whole number from 1 to 64"),
+    ("broken", "want \"stop\", or no such key"),
     ("anonymous", "want true or false"),
     ("anonymous_access", "want \"read\" or \"write\""),
     ("access", "want \"read\" or \"write\""),
@@ -45,7 +46,7 @@ static WANTED: [(&str, &str); 18] = [
 static KEYS: [(&str, &str); 7] = [
     (
         "[archive] ",
-        "there is no such key: want id, replica or store",
+        "there is no such key: want id, replica, store or broken",
     ),
     (
         "[server] ",
@@ -173,6 +174,7 @@ pub(crate) fn of_ending(
         ProgramFault::File => said,
         ProgramFault::Settings(fault, Some(place)) => of_settings(*fault, place.as_str()),
         ProgramFault::Store(fault) => of_refusal(*fault, said),
+        ProgramFault::StoreBroken => of_refusal(StoreFault::Broken, None),
         ProgramFault::Address | ProgramFault::DoorAddress | ProgramFault::PeerAddress(_) => {
             said.or(Some("not an address: want one as 127.0.0.1:4840"))
         }

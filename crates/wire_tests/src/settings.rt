@@ -42,7 +42,7 @@ const HEAD: &str =
     "[archive]\nid = '00000000000000000000000000000000'\nreplica = 1\n[server]\nlisten = ''\nurl = ''\napplication = ''\n";
 
 /// What goes on behind the start, and why it is refused, if it is.
-static ROWS: [(&str, Option<SettingsFault>); 54] = [
+static ROWS: [(&str, Option<SettingsFault>); 55] = [
     ("namespace = ''\nanonymous = true", None),
     ("namespace = ''\nanonymous =", Some(SettingsFault::NotToml)),
     (
@@ -155,6 +155,10 @@ static ROWS: [(&str, Option<SettingsFault>); 54] = [
     (
         "namespace = ''\nanonymous = true\nanonymous_access = true",
         Some(SettingsFault::BadValue),
+    ),
+    (
+        "namespace = ''\nanonymous = true\nbroken = 'stop'",
+        Some(SettingsFault::UnknownKey),
     ),
     (
         "namespace = ''\nanonymous = true\n[[user]]\nname = 'ann'\npassword = ''\naccess = ''",

@@ -1,4 +1,4 @@
-use Rattle.std.proofs.Common.{◌∙◌, Err, refl, ap, sym, subst}
+use Rattle.std.proofs.Common.{◌∙◌, Bool, Err, refl, ap, sym, subst, subst₂}
 use Rattle.std.specs.Prelude.{Result, IfErr}
 use Rattle.std.proofs.lemmas.Result.{err_from_is_err_and}
 use Rattle.multiplex.specs.declared.limits.Limits.{Limits}
@@ -15,10 +15,10 @@ use Rattle.ua_server.proofs.connections.serve_at.Goals as goal
 pub returns-clause-listens : goal.returns-clause-listens
 returns-clause-listens g c =
     let (listening, is, listens, from) = c.in_ok-source.ensures.ok in
-    let (last, served) = c.serve.ensures 0 in
+    let (last, served) = c.serve-report.ensures 0 in
     let world = record c.args.world.now { from = c.in_ok-source.from } in
     let begun = state c.in_ok-source.source c.as_mut_slice.result.now world 0 in
-    let ended = state c.serve.new.source c.serve.new.slots c.serve.new.world last in (
+    let ended = state c.serve-report.new.source c.serve-report.new.slots c.serve-report.new.world last in (
       listening,
       is,
       (
@@ -27,7 +27,7 @@ returns-clause-listens g c =
         record {
           first = begun;
           last = ended;
-          done = c.serve.result.is_done;
+          done = c.serve-report.result.is_done;
           begins = record { archive = refl; clock = refl; errors = refl };
           ends = record { archive = refl; clock = refl; errors = refl };
           settings_are = refl;
@@ -36,11 +36,46 @@ returns-clause-listens g c =
           peers_from = subst (IsFrom (networks_at c.args.world.now.server.settings)) (sym from)
               is.from;
           free = subst AreAllFree (sym c.as_mut_slice.ensures.value) c.in-Ok.ensures.0;
-          served = subst (λ (l : Limits).
+          served = subst₂ (λ (l : Limits) (broken : Bool).
               HasServed g.H.Source.Source.effects g.H.Source.Reader.NonBlockingRead.input
               g.H.Source.Writer.NonBlockingWrite.output
               (conversations g.H.Archive.Archive.state g.C.Clock.gave g.E.Write.contents) l begun
-              ended c.serve.result.is_done) c.limits_of-limits.ensures served;
+              ended c.serve-report.result.is_done broken) c.limits_of-limits.ensures
+              c.if-report.false served;
+        },
+      ),
+    )
+
+pub returns-then-report-clause-listens : goal.returns-then-report-clause-listens
+returns-then-report-clause-listens g c =
+    let (listening, is, listens, from) = c.in_ok-source.ensures.ok in
+    let (last, served) = c.serve-report.ensures 0 in
+    let world = record c.args.world.now { from = c.in_ok-source.from } in
+    let begun = state c.in_ok-source.source c.as_mut_slice.result.now world 0 in
+    let ended = state c.serve-report.new.source c.serve-report.new.slots c.serve-report.new.world last in (
+      listening,
+      is,
+      (
+        c.in_ok-source.source,
+        listens,
+        record {
+          first = begun;
+          last = ended;
+          done = c.serve-report.result.is_done;
+          begins = record { archive = refl; clock = refl; errors = refl };
+          ends = record { archive = refl; clock = refl; errors = refl };
+          settings_are = refl;
+          from = refl;
+          fresh = c.requires;
+          peers_from = subst (IsFrom (networks_at c.args.world.now.server.settings)) (sym from)
+              is.from;
+          free = subst AreAllFree (sym c.as_mut_slice.ensures.value) c.in-Ok.ensures.0;
+          served = subst₂ (λ (l : Limits) (broken : Bool).
+              HasServed g.H.Source.Source.effects g.H.Source.Reader.NonBlockingRead.input
+              g.H.Source.Writer.NonBlockingWrite.output
+              (conversations g.H.Archive.Archive.state g.C.Clock.gave g.E.Write.contents) l begun
+              ended c.serve-report.result.is_done broken) c.limits_of-limits.ensures
+              c.if-report.true served;
         },
       ),
     )

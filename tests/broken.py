@@ -1,0 +1,111 @@
+#!/usr/bin/env python3
+"""Serves over a store whose disk takes no more from some moment on, with `[archive] broken = "stop"` and without it.
+
+    tests/broken.py PROGRAM [ROUNDS]
+
+With the key the client is told 80040000, the program ends with `store broken` and status 3 within a second, other clients'
+connections are closed, and once the disk is well a new start has each insert that was answered Good, and at most the one that
+broke it. Without the key it goes on, and answers 80040000 to each insert, till it is started again. Needs gcc. A line a round.
+"""
+import os, socket, struct, subprocess, sys, tempfile, time
+import running, usage
+from opcua import EPOCH, Client, int32, node, value_at
+
+usage.shown(__doc__, 1)
+program = os.path.abspath(sys.argv[1])
+rounds = int(sys.argv[2]) if len(sys.argv) > 2 else 5
+folder = tempfile.mkdtemp()
+settings, store = os.path.join(folder, "settings.toml"), os.path.join(folder, "store.db")
+ill = os.path.join(folder, "ill")
+library = running.built("unsynced.c", "unsynced.so", folder)
+INSERTED, UNAVAILABLE = struct.pack("<I", 0x00A20000), struct.pack("<I", 0x80040000)
+SAID = "uahist: store broken\nuahist: a read or a write of its disk failed\n"
+
+
+class Connection:
+    """A client with a session of ann's."""
+
+    def __init__(self, port):
+        self.line, self.client = socket.create_connection(("127.0.0.1", port)), Client()
+        self.line.settimeout(10)
+        for sent in (self.client.hello(), self.client.open(), self.client.create_session(), self.client.activate("ann", b"pw")):
+            self.ask(sent)
+
+    def take(self, count):
+        taken = b""
+        while len(taken) < count:
+            more = self.line.recv(count - len(taken))
+            if not more:
+                raise ConnectionError
+            taken += more
+        return taken
+
+    def ask(self, sent):
+        self.line.sendall(sent)
+        head = self.take(8)
+        return head + self.take(struct.unpack_from("<I", head, 4)[0] - 8)
+
+    def insert(self, k):
+        return self.ask(self.client.update(node("T", 1), 1, [value_at(int32(k), EPOCH + k)]))
+
+    def is_closed(self):
+        """Whether the other end closes it."""
+        try:
+            return self.line.recv(1) == b""
+        except ConnectionResetError:
+            return True
+
+
+def started(key):
+    port = running.free_port()
+    running.write_settings(settings, "settings.toml", 1, port, store)
+    text = open(settings).read()
+    open(settings, "w").write(text.replace("[archive]\n", "[archive]\nbroken = 'stop'\n", 1) if key else text)
+    environment = dict(os.environ, LD_PRELOAD=library, UNSYNCED=ill)
+    server = subprocess.Popen([program, "serve", "--settings", settings], env=environment, stderr=subprocess.PIPE, text=True)
+    assert running.listens(port, server), server.stderr.read()
+    return server, port
+
+
+def dumped():
+    done = subprocess.run([program, "dump", "--settings", settings], stdout=subprocess.PIPE, text=True, check=True)
+    return len(done.stdout.splitlines())
+
+
+def main():
+    held = 0
+    for k in range(rounds):
+        server, port = started(True)
+        other, writer = Connection(port), Connection(port)
+        for n in range(10):
+            assert INSERTED in writer.insert(100 * k + n)
+        open(ill, "w").close()
+        begin = time.monotonic()
+        answer = writer.insert(100 * k + 50)
+        assert UNAVAILABLE in answer and INSERTED not in answer, answer.hex()
+        status = server.wait(10)
+        took = time.monotonic() - begin
+        assert (status, server.stderr.read()) == (3, SAID), status
+        assert other.is_closed() and took < 1, took
+        os.remove(ill)
+        found = dumped()
+        assert held + 10 <= found <= held + 11, (held, found)
+        print(f"round {k + 1}: 10 inserts answered Good, one 80040000; the program ended by itself after {took * 1000:.0f} ms, and {found - held} records more are there", flush=True)
+        held = found
+    server, port = started(False)
+    writer = Connection(port)
+    assert INSERTED in writer.insert(90)
+    open(ill, "w").close()
+    answers = [writer.insert(91 + n) for n in range(5)]
+    os.remove(ill)
+    answers += [writer.insert(96)]
+    assert all(UNAVAILABLE in answer for answer in answers) and not running.is_over(server)
+    server.kill()
+    server.wait()
+    found = dumped()
+    assert held + 1 <= found <= held + 2, (held, found)
+    print(f"without the key it goes on, and answers 80040000 to each of {len(answers)} inserts, also once the disk is well; started again it has {found - held} records more")
+
+
+if __name__ == "__main__":
+    main()
