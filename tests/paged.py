@@ -6,10 +6,11 @@
 Each round (5, unless told) makes a store of random values, as `tests/printed.py` does, among them texts with tags, quotes and
 letters that control a terminal, users with such names too, and a text of 64 KB. Of each variable a page of values and one of
 modifications is opened in Chromium, without a window: each row of its table has to have the fields of the CSV's row, the title and
-the heading have to be the node, no script may have run and nothing may be loaded. Where PICTURES is a folder, a picture of one page
-of each kind is left there. Exit status 1 where one differs, or where there is no Chromium.
+the heading have to be the node, no script may have run and nothing may be loaded. The path of its drawing and the texts at its edges
+have to be those that a model of them here makes of the CSV; so do those of 20,000 numbers, some of which aren't good. Where PICTURES
+is a folder, a picture of one page of each kind is left there. Exit status 1 where one differs, or where there is no Chromium.
 """
-import csv, html.parser, io, os, random, shutil, subprocess, sys, tempfile
+import csv, datetime, html.parser, io, math, os, random, shutil, subprocess, sys, tempfile
 import printed, running, usage
 from printed import moment, NOW
 
@@ -27,11 +28,12 @@ def settings_in(folder):
 
 
 class Page(html.parser.HTMLParser):
-    """What a browser made of a page: its title, its heading, its rows, and the tags that it has."""
+    """What a browser made of a page: its title, its heading, its rows, its drawing's paths and edges, and the tags that it has."""
 
     def __init__(self, text):
         super().__init__(convert_charrefs=True)
         self.title, self.heading, self.rows, self.tags, self.within = "", "", [], set(), []
+        self.paths, self.edges = [], []
         self.feed(text)
         self.close()
 
@@ -41,6 +43,10 @@ class Page(html.parser.HTMLParser):
             self.rows.append([])
         if tag in ("td", "th"):
             self.rows[-1].append("")
+        if tag == "path":
+            self.paths.append(dict(attributes)["d"])
+        if tag == "span":
+            self.edges.append("")
         if tag not in ("meta", "link", "br"):
             self.within.append(tag)
 
@@ -56,6 +62,8 @@ class Page(html.parser.HTMLParser):
             self.heading += data
         if inside in ("td", "th"):
             self.rows[-1][-1] += data
+        if inside == "span":
+            self.edges[-1] += data
 
 
 def browse(path, *flags):
@@ -67,6 +75,55 @@ def browse(path, *flags):
 def shown(text):
     """A text as a page shows it: without letters that HTML has no place for."""
     return "".join("?" if ord(c) < 32 and c not in "\t\n" or ord(c) == 127 else "\u00bf" if 128 <= ord(c) < 160 else c for c in text)
+
+
+def ticks(text):
+    """The moment that a page's time says, in steps of 100 ns; its picoseconds are left out."""
+    at = datetime.datetime.strptime(text[:19], "%Y-%m-%dT%H:%M:%S") - datetime.datetime(1601, 1, 1)
+    return (at.days * 86_400 + at.seconds) * 10_000_000 + int(text[20:27])
+
+
+def number(value, status):
+    """The number that a row's value is, if it is drawn."""
+    if status != "Good" and int(status, 16) >= 0x40000000:
+        return None
+    try:
+        number = {"true": 1.0, "false": 0.0}.get(value)
+        number = float(value) if number is None else number
+    except ValueError:
+        return None
+    return number if math.isfinite(number) else None
+
+
+def drawing(rows):
+    """The paths and the edges that a page of these rows has."""
+    seen = [(ticks(time), number(value, status), time, value) for _, time, value, status in rows]
+    known = [row for row in seen if row[1] is not None]
+    if not known:
+        return [], []
+    low, high = min(known, key=lambda row: row[1]), max(known, key=lambda row: row[1])
+    first, whole = known[0][0], known[-1][0] - known[0][0]
+    half = high[1] * 0.5 - low[1] * 0.5
+
+    def depth(value):
+        return min(int((high[1] * 0.5 - value * 0.5) / half * 1000.0 + 0.5), 1000) if half > 0 else 500
+
+    columns = {}
+    for time, value, _, _ in seen:
+        place = 0 if time <= first else 999 if time - first >= whole else (time - first) * 999 // whole
+        columns.setdefault(place, []).append(None if value is None else depth(value))
+    path, pen = "", None
+    for place in sorted(columns):
+        steps = [step for step in columns[place] if step is not None]
+        if pen is not None:
+            path += f"H{place}"
+        if steps:
+            opens = columns[place][0] is None
+            path += f"M{place} {steps[0]}H{place}" if pen is None or opens else f"V{steps[0]}" if pen != steps[0] else ""
+            for before, step in zip((steps[0], max(steps), min(steps)), (max(steps), min(steps), steps[-1])):
+                path += f"V{step}" if before != step else ""
+        pen = None if columns[place][-1] is None else steps[-1]
+    return [path], [high[3], low[3], known[0][2], known[-1][2]]
 
 
 def rows_of(text):
@@ -84,6 +141,9 @@ def wrong(program, settings, folder, name, changes):
     page = Page(browse(path, "--dump-dom"))
     rows = [[shown(field) for field in row[1:]] for row in rows_of(plain.out.decode())]
     node = shown(f"ns=1;s={name}")
+    drawn = ([], []) if changes or name.startswith("text") else drawing(rows_of(plain.out.decode())[1:])
+    if (page.paths, page.edges) != drawn:
+        return f"{words}: drawn {page.paths} {page.edges}, not {drawn}"
     if page.rows != rows:
         return f"{words}: {page.rows}, not {rows}"
     if (page.title, page.heading) != (node, node):
@@ -96,6 +156,17 @@ def picture(program, settings, folder, name, changes, place):
     path = os.path.join(folder, "picture.html")
     open(path, "wb").write(running.run(words).out)
     browse(path, "--hide-scrollbars", "--window-size=900,700", f"--screenshot={place}")
+
+
+def many(program, folder, chance, count=20_000):
+    """What differs where so many numbers are drawn, some of which aren't good."""
+    settings, at, lines = settings_in(folder), NOW - 864_000_000_000, ["node,time,value,status"]
+    for place in range(count):
+        at += chance.choice([1, 10_000, 10_000_000])
+        status = chance.choice(["Good"] * 50 + ["80000000", "40000000", "00A20000"])
+        lines.append(f"ns=1;s=number,{moment(at)},{chance.gauss(0, 1) + math.sin(place / 2_000) * 10},{status}")
+    running.run([program, "import", "--settings", settings, "--user", "ann"], ("\n".join(lines) + "\n").encode())
+    return wrong(program, settings, folder, "number", False)
 
 
 def main():
@@ -119,6 +190,8 @@ def main():
                         place = os.path.join(os.path.abspath(sys.argv[3]), f"{name.split(',')[0]}-{'changes' if changes else 'values'}.png")
                         picture(program, settings, folder, name, changes, place)
             running.forget(os.path.join(folder, "one.db"))
+        asked += 1
+        faults += filter(None, [many(program, folder, chance)])
     for fault in faults[:5]:
         print(fault[:2000])
     print(f"{asked} pages in {os.path.basename(BROWSER)}, {len(faults)} differ")

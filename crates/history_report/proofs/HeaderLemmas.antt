@@ -4,7 +4,7 @@ use Rattle.history_csv.specs.Nodes.{node_text}
 use Rattle.history_csv.specs.Rows.{value_names, change_names, time_of}
 use Rattle.history_text.specs.Times.{IsTimeText}
 use Rattle.history_report.specs.declared.report.Report.{Report}
-use Rattle.history_report.specs.Html.{escaped, head_row, page_begin, page_middle, IsBound, IsStretch, IsPageHeader}
+use Rattle.history_report.specs.Html.{escaped, head_row, page_begin, page_middle, table_top, IsBound, IsStretch, IsDrawing, IsPageHeader}
 use Rattle.history_report.specs.Paging.{IsPut}
 
 pub bound-put : (word old one new moment shown : List ℕ) (bound : Option ℤ) (time : ℤ)
@@ -39,45 +39,40 @@ stretch-put report old one two new word (from, behind, is_from) (to, last, is_to
 five : (o a b c d e : List ℕ) → o ++ a ++ b ++ c ++ d ++ e ≡ o ++ (a ++ b ++ c ++ d ++ e)
 five o a b c d e = simp append_assoc
 
-three : (o a b c : List ℕ) → o ++ a ++ b ++ c ≡ o ++ (a ++ b ++ c)
-three o a b c = simp append_assoc
+four : (m p d o n b : List ℕ) → m ++ p ++ d ++ o ++ n ++ b ≡ m ++ (p ++ d ++ (o ++ n ++ b))
+four m p d o n b = simp append_assoc
 
--- what stands above the stretch, and what stands below it
+parts : (a s p d t : List ℕ) → a ++ s ++ (p ++ d ++ t) ≡ a ++ s ++ p ++ d ++ t
+parts a s p d t = simp append_assoc
+
+-- what stands above the stretch
 abbrev above : (name : List ℕ) → List ℕ
 above name = page_begin ++ escaped name ++ page_middle ++ escaped name ++ codes "</h1>\n<p>"
 
-abbrev below : Report → List ℕ
-below report =
-    codes "</p>\n<table>\n<thead>\n"
-    ++ head_row (if report.changes then change_names else value_names)
-    ++ codes "</thead>\n<tbody>\n"
-
-six : (a b c d e s f g h : List ℕ) → a ++ b ++ c ++ d ++ e ++ s ++ (f ++ g ++ h)
-    ≡ a ++ b ++ c ++ d ++ e ++ s ++ f ++ g ++ h
-six a b c d e s f g h = simp append_assoc
-
-pub header-put : (report : Report) (name old top middle new : List ℕ)
-    → name ≡ node_text report.node
+pub header-put : (report : Report) (name drawing old top middle new : List ℕ)
+    → name ≡ node_text report.node → IsDrawing report drawing
     → top ≡ old ++ page_begin ++ escaped name ++ page_middle ++ escaped name ++ codes "</h1>\n<p>"
     → IsPut top middle (IsStretch report)
-    → new ≡ middle ++ codes "</p>\n<table>\n<thead>\n"
+    → new ≡ middle ++ codes "</p>\n" ++ drawing ++ codes "<table>\n<thead>\n"
     ++ head_row (if report.changes then change_names else value_names)
     ++ codes "</thead>\n<tbody>\n"
     → IsPut old new (IsPageHeader report)
-header-put report name old top middle new named first (stretch, behind, is) last =
+header-put report name drawing old top middle new named drawn first (stretch, behind, is) last =
     let heading = codes "</h1>\n<p>" in
-    let opens = codes "</p>\n<table>\n<thead>\n" in
+    let ends = codes "</p>\n" in
+    let opens = codes "<table>\n<thead>\n" in
     let names = head_row (if report.changes then change_names else value_names) in
     let begins = codes "</thead>\n<tbody>\n" in (
-      above name ++ stretch ++ below report,
-      behind_three old (above name) stretch (below report) top middle new
+      above name ++ stretch ++ (ends ++ drawing ++ table_top report),
+      behind_three old (above name) stretch (ends ++ drawing ++ table_top report) top middle new
           (first ∙ five old page_begin (escaped name) page_middle (escaped name) heading) behind
-          (last ∙ three middle opens names begins),
+          (last ∙ four middle ends drawing opens names begins),
       (
         stretch,
+        drawing,
         is,
-        six page_begin (escaped name) page_middle (escaped name) heading stretch opens names begins
-            ∙ ap (λ n. page_begin ++ escaped n ++ page_middle ++ escaped n ++ heading ++ stretch
-            ++ opens ++ names ++ begins) named,
+        drawn,
+        parts (above name) stretch ends drawing (table_top report)
+            ∙ ap (λ n. above n ++ stretch ++ ends ++ drawing ++ table_top report) named,
       ),
     )

@@ -1,9 +1,9 @@
 -- What a text in a page says, and that no byte of it is markup.
-use Rattle.std.proofs.Common.{◌≡◌, ℕ, ◌==◌, ◌||◌, Bool, true, false, cond, List, [], ◌∷◌, ◌++◌, append-nil, append_assoc, codes, Some, None, refl, sym, ap, ◌∙◌, subst}
-use Rattle.std.specs.List.{flat_map, list_any}
+use Rattle.std.proofs.Common.{◌≡◌, ℕ, ◌==◌, ◌||◌, ◌&&◌, Bool, true, false, cond, List, [], ◌∷◌, ◌++◌, append-nil, append_assoc, codes, Some, None, refl, sym, ap, ◌∙◌, subst}
+use Rattle.std.specs.List.{flat_map, list_any, list_all}
 use Rattle.std.proofs.lemmas.Bool.{eqb-true}
 use Rattle.std.proofs.lemmas.List.Folds.{list_any-append}
-use Rattle.history_report.specs.Html.{is_forbidden, printable_after, entity, escaped, is_markup, has_forbidden, said, data_cell, page_row, texts_within, texts_in}
+use Rattle.history_report.specs.Html.{is_forbidden, printable_after, entity, escaped, is_markup, is_path_byte, IsPath, has_forbidden, said, data_cell, page_row, texts_within, texts_in}
 
 or_none : (a b : Bool) → (a || b) ≡ false → (a ≡ false) × (b ≡ false)
 or_none true b e = absurd cc
@@ -78,6 +78,24 @@ all_plain (b ∷ text) =
 
 pub escaped_plain : (text : List ℕ) → list_any is_markup (escaped text) ≡ false
 escaped_plain text = all_plain (printable_after 0 text)
+
+-- ---- a path
+
+both_of : (a b : Bool) → (a && b) ≡ true → (a ≡ true) × (b ≡ true)
+both_of true b e = (refl, e)
+both_of false b e = absurd cc
+
+-- a byte of a path is no markup
+step_plain : (b : ℕ) → is_path_byte b ≡ true → is_markup b ≡ false
+step_plain = by_name (λ b. is_path_byte b ≡ true → is_markup b ≡ false) (λ e. refl)
+    (λ e. absurd cc) (λ e. absurd cc) (λ e. absurd cc) (λ e. absurd cc)
+    (λ b n m l k j e. rw (m, l, k, j) refl)
+
+pub path_plain : (path : List ℕ) → IsPath path → list_any is_markup path ≡ false
+path_plain [] is = refl
+path_plain (b ∷ path) is =
+    let parts = both_of (is_path_byte b) (list_all is_path_byte path) is in
+    ap (λ t. t || list_any is_markup path) (step_plain b parts.0) ∙ path_plain path parts.1
 
 -- ---- a row
 

@@ -1,5 +1,7 @@
+pub mod DrawingLemmas
 pub mod HeaderLemmas
 pub mod HtmlLemmas
 pub mod LineLemmas
 pub mod PageLemmas
 pub mod PrintingLemmas
+pub mod WalkLemmas

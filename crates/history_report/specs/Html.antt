@@ -1,6 +1,6 @@
 -- How a history is written as a page of HTML.
-use Rattle.std.specs.Prelude.{◌≡◌, ℕ, ℤ, ◌==◌, ◌||◌, ◌&&◌, not, nat_lt, Bool, false, List, [], ◌∷◌, ◌++◌, codes, drop, Option, Some, None, if◌then◌else◌}
-use Rattle.std.specs.List.{flat_map}
+use Rattle.std.specs.Prelude.{◌≡◌, ◌⊎◌, ℕ, ℤ, ◌==◌, ◌||◌, ◌&&◌, not, nat_lt, nat_le, Bool, true, false, List, [], ◌∷◌, ◌++◌, codes, drop, Option, Some, None, if◌then◌else◌}
+use Rattle.std.specs.List.{flat_map, list_all}
 use Rattle.std.specs.Str.{bytes_eq}
 use Rattle.history_csv.specs.Nodes.{node_text}
 use Rattle.history_csv.specs.Rows.{value_names, change_names, time_of}
@@ -87,8 +87,8 @@ page_style =
     ++ codes "h1,td{white-space:pre-wrap;overflow-wrap:anywhere}\ntr{break-inside:avoid}\n"
     ++ codes "tr:nth-child(even) td{background:#8882}\n@media print{th{position:static}}\n"
 
--- how cells look: times stand on one line, and modifications behind a bar, whose color says what was
--- done
+-- how cells look: times stand on one line, and modifications behind a bar, whose color says what
+-- was done
 unfoldable pub cell_style : List ℕ
 cell_style =
     codes "td:first-child,td:nth-child(5){white-space:nowrap}\n"
@@ -97,10 +97,29 @@ cell_style =
     ++ codes ".delete td:first-child{box-shadow:inset .25rem 0 #c33}\n"
     ++ codes ".delete td:nth-child(2){text-decoration:line-through}\n"
 
+-- where the texts of a drawing's edges stand: the highest and the lowest number at its left, the
+-- first and the last time below it
+unfoldable pub edge_style : List ℕ
+edge_style =
+    codes "span:nth-of-type(1){grid-area:1/1;text-align:right}\n"
+    ++ codes "span:nth-of-type(2){grid-area:2/1;text-align:right;align-self:end}\n"
+    ++ codes "span:nth-of-type(3){grid-area:3/2}\n"
+    ++ codes "span:nth-of-type(4){grid-area:3/3;text-align:right}\n"
+
+-- how a drawing looks: a line of one width, in the color of texts
+unfoldable pub figure_style : List ℕ
+figure_style =
+    codes "figure{display:grid;grid-template-columns:auto 1fr 1fr;gap:.25rem .75rem;"
+    ++ codes "max-width:60rem}\nfigure{margin:1rem 0;font-size:.85rem;"
+    ++ codes "font-variant-numeric:tabular-nums;break-inside:avoid}\n"
+    ++ codes "svg{grid-area:1/2/3/4;width:100%;height:12rem;overflow:visible}\n"
+    ++ codes "path{fill:none;stroke:currentColor;stroke-width:1.5px;stroke-linecap:round}\n"
+    ++ codes "path{stroke-linejoin:round;vector-effect:non-scaling-stroke}\n" ++ edge_style
+
 -- from the title to the heading
 abbrev pub page_middle : List ℕ
 page_middle =
-    codes "</title>\n<style>\n" ++ page_style ++ cell_style
+    codes "</title>\n<style>\n" ++ page_style ++ cell_style ++ figure_style
     ++ codes "</style>\n</head>\n<body>\n<h1>"
 
 -- a moment that is asked for behind a word, nothing where none is
@@ -119,15 +138,67 @@ IsStretch report text =
     × (text ≡ (if report.changes then codes "Modifications" else codes "Values") ++ from ++ to)
     × IsBound (codes " from ") report.from from × IsBound (codes " before ") report.to to
 
--- the part of a page above its rows: the node as title and heading, the stretch, the columns' names
+-- the byte is of a path: a digit, a blank, or the letter of a step: M to a place, H across, V along
+abbrev pub is_path_byte : ℕ → Bool
+is_path_byte b = nat_le 48 b && nat_le b 57 || b == 32 || b == 77 || b == 72 || b == 86
+
+-- the text has the bytes of a path and no others
+abbrev pub IsPath : List ℕ → Type 0
+IsPath text = list_all is_path_byte text ≡ true
+
+-- what a drawing begins by, up to its path
+unfoldable pub figure_begin : List ℕ
+figure_begin =
+    codes "<figure>\n<svg viewBox=\"0 0 999 1000\" preserveAspectRatio=\"none\" role=\"img\""
+    ++ codes " aria-label=\"The numbers over time\"><path d=\""
+
+-- a text at an edge of a drawing
+abbrev pub edge : List ℕ → List ℕ
+edge text = codes "<span>" ++ escaped text ++ codes "</span>"
+
+-- such a text
+abbrev pub IsEdge : List ℕ → Type 0
+IsEdge shown = (text : List ℕ) × (shown ≡ edge text)
+
+-- the texts at the edges: the highest and the lowest number, the first and the last time
+abbrev pub AreEdges : List ℕ → Type 0
+AreEdges shown =
+    (high : List ℕ) × (low : List ℕ) × (first : List ℕ) × (last : List ℕ)
+    × (shown ≡ edge high ++ edge low ++ edge first ++ edge last)
+
+-- a drawing up to the texts at its edges: its path
+abbrev pub IsPlot : List ℕ → Type 0
+IsPlot shown =
+    (path : List ℕ) × IsPath path × (shown ≡ figure_begin ++ path ++ codes "\"/></svg>\n")
+
+-- a drawing: its path, and the texts at its edges
+abbrev pub IsFigure : List ℕ → Type 0
+IsFigure shown =
+    (plot : List ℕ) × (edges : List ℕ) × IsPlot plot × AreEdges edges
+    × (shown ≡ plot ++ edges ++ codes "\n</figure>\n")
+
+-- nothing, or of a page of values a drawing
+abbrev pub IsDrawing : Report → List ℕ → Type 0
+IsDrawing report drawing =
+    (drawing ≡ []) ⊎ ((report.changes ≡ false) × IsFigure drawing)
+
+-- a page up to the stretch: the node as its title and its heading
+abbrev pub page_top : Report → List ℕ
+page_top report =
+    page_begin ++ escaped (node_text report.node) ++ page_middle
+    ++ escaped (node_text report.node) ++ codes "</h1>\n<p>"
+
+-- a page's table up to its rows: the columns' names
+abbrev pub table_top : Report → List ℕ
+table_top report =
+    codes "<table>\n<thead>\n" ++ head_row (if report.changes then change_names else value_names)
+    ++ codes "</thead>\n<tbody>\n"
+
+-- the part of a page above its rows: the node, the stretch, a drawing, the columns' names
 abbrev pub IsPageHeader : Report → List ℕ → Type 0
 IsPageHeader report header =
-    (stretch : List ℕ) × IsStretch report stretch
-    × (header ≡ page_begin ++ escaped (node_text report.node) ++ page_middle
-    ++ escaped (node_text report.node) ++ codes "</h1>\n<p>" ++ stretch
-    ++ codes "</p>\n<table>\n<thead>\n"
-    ++ head_row (if report.changes then change_names else value_names)
-    ++ codes "</thead>\n<tbody>\n")
+    (stretch : List ℕ) × (drawing : List ℕ) × IsStretch report stretch × IsDrawing report drawing
+    × (header ≡ page_top report ++ stretch ++ codes "</p>\n" ++ drawing ++ table_top report)
 
 -- the part of a page below its rows: by it a reader sees that the page is whole
 abbrev pub page_footer : List ℕ

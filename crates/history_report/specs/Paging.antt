@@ -22,7 +22,7 @@ use Rattle.history_report.specs.declared.fault.ReportFault.{ReportFault}
 use Rattle.history_report.specs.declared.fault.ReportFault.TheVariants as fault
 use Rattle.history_report.specs.declared.pages.Pages.{Pages}
 use Rattle.history_report.specs.declared.report.Report.{Report}
-use Rattle.history_report.specs.Reports.{AreLines, IsAt, report_faults, IsHeader, StopsShort, IsValueLine, IsChangeLine}
+use Rattle.history_report.specs.Reports.{AreLines, IsAt, report_faults, ReadsFor, IsHeader, StopsShort, IsValueLine, IsChangeLine}
 
 -- ---- the times of records
 
@@ -121,6 +121,15 @@ abbrev pub Printing : {X : Type 0} → (X → List ℕ → Type 0) → Store →
     → (all rest : Content → List X) → (before now : Option (List ℕ)) → Type 0
 Printing IsLine old new all rest before now =
     Transitions old new [] (λ marks R S. (S ≡ R) × IsSoFar IsLine (all R) (rest R) before now)
+
+-- ---- a walk
+
+-- an archive was asked, which stays as it is: without a fault, or its store met the fault that
+-- ended this, if that is one of the store's, and no other
+abbrev pub Walks : {A : Type 0} → Store → Store → Result A ReportFault → Type 0
+Walks old new result =
+    MatchResult result (λ done. Transitions old new [] (λ marks R S. S ≡ R))
+    (λ why. (why ≡ fault.NoText → ⊥) × ReadsFor old new (Err why) (λ R. Unit {0}))
 
 -- ---- the parts of a report
 

@@ -6,7 +6,7 @@ ghost use Rattle.std.specs.Int.RustNames.{FitsSigned};
 ghost use Rattle.history_csv.specs.Nodes.{node_text};
 ghost use Rattle.history_csv.specs.Rows.{value_names, change_names, time_of};
 ghost use Rattle.history_text.specs.Times.{IsTimeText};
-ghost use Rattle.history_report.specs.Html.{is_forbidden, printable_byte, entity, escaped, data_cell, page_row, head_row, page_begin, page_middle, page_footer, IsBound, IsStretch, IsPageHeader};
+ghost use Rattle.history_report.specs.Html.{is_forbidden, printable_byte, entity, escaped, data_cell, page_row, head_row, page_begin, page_middle, page_footer, IsBound, IsStretch, IsDrawing, IsPageHeader};
 ghost use Rattle.history_report.specs.Paging.{IsPut};
 
 use crate::report::Report;
@@ -54,7 +54,7 @@ fn put_byte(out: &mut Vec<u8>, byte: u8) -> Result<(), AllocError>
 }
 
 /// Appends a text that no byte of which is read as markup.
-fn put_escaped(out: &mut Vec<u8>, text: &[u8]) -> Result<(), AllocError>
+pub(crate) fn put_escaped(out: &mut Vec<u8>, text: &[u8]) -> Result<(), AllocError>
     ensures { OnOk result (out.new.items ≡ out.old.items ++ escaped text.now) }
 {
     let mut before = 0;
@@ -143,7 +143,7 @@ fn page_begin() -> &'static [u8]
 }
 
 /// What stands between a page's title and its heading: how it looks.
-#[tactic(auto, unfolding(crate::specs::Html::page_style, crate::specs::Html::cell_style))]
+#[tactic(auto, unfolding(crate::specs::Html::page_style, crate::specs::Html::cell_style, crate::specs::Html::figure_style, crate::specs::Html::edge_style))]
 fn page_middle() -> &'static [u8]
     ensures { result.now ≡ page_middle }
 {
@@ -162,6 +162,15 @@ fn page_middle() -> &'static [u8]
       .replace td:first-child,.update td:first-child{box-shadow:inset .25rem 0 #d90}\n\
       .delete td:first-child{box-shadow:inset .25rem 0 #c33}\n\
       .delete td:nth-child(2){text-decoration:line-through}\n\
+      figure{display:grid;grid-template-columns:auto 1fr 1fr;gap:.25rem .75rem;max-width:60rem}\n\
+      figure{margin:1rem 0;font-size:.85rem;font-variant-numeric:tabular-nums;break-inside:avoid}\n\
+      svg{grid-area:1/2/3/4;width:100%;height:12rem;overflow:visible}\n\
+      path{fill:none;stroke:currentColor;stroke-width:1.5px;stroke-linecap:round}\n\
+      path{stroke-linejoin:round;vector-effect:non-scaling-stroke}\n\
+      span:nth-of-type(1){grid-area:1/1;text-align:right}\n\
+      span:nth-of-type(2){grid-area:2/1;text-align:right;align-self:end}\n\
+      span:nth-of-type(3){grid-area:3/2}\n\
+      span:nth-of-type(4){grid-area:3/3;text-align:right}\n\
       </style>\n</head>\n<body>\n<h1>"
 }
 
@@ -201,7 +210,7 @@ fn parts_of(moment: Moment) -> Time
 }
 
 /// A moment's text.
-fn moment_text(alloc: Global, moment: Moment) -> Result<Vec<u8>, AllocError>
+pub(crate) fn moment_text(alloc: Global, moment: Moment) -> Result<Vec<u8>, AllocError>
     ensures { IfOk result (λ text. IsTimeText (time_of moment) text.items) }
 {
     let text = time_text(alloc, parts_of(moment))?;
@@ -255,13 +264,16 @@ fn put_top(node: &[u8], out: &mut Vec<u8>) -> Result<(), AllocError>
     out.extend_from_slice(b"</h1>\n<p>")
 }
 
-/// Appends a page's table, up to its rows.
-fn put_head(changes: bool, out: &mut Vec<u8>) -> Result<(), AllocError>
-    ensures { OnOk result (out.new.items ≡ out.old.items ++ codes "</p>\n<table>\n<thead>\n"
+/// Appends the end of the stretch, a drawing, and a page's table up to its rows.
+fn put_head(changes: bool, drawing: &[u8], out: &mut Vec<u8>) -> Result<(), AllocError>
+    ensures { OnOk result (out.new.items ≡ out.old.items ++ codes "</p>\n" ++ drawing.now
+        ++ codes "<table>\n<thead>\n"
         ++ head_row (if changes then change_names else value_names)
         ++ codes "</thead>\n<tbody>\n") }
 {
-    out.extend_from_slice(b"</p>\n<table>\n<thead>\n")?;
+    out.extend_from_slice(b"</p>\n")?;
+    out.extend_from_slice(drawing)?;
+    out.extend_from_slice(b"<table>\n<thead>\n")?;
     out.extend_from_slice(head_row(changes))?;
     out.extend_from_slice(b"</thead>\n<tbody>\n")
 }
@@ -270,13 +282,15 @@ fn put_head(changes: bool, out: &mut Vec<u8>) -> Result<(), AllocError>
 pub(crate) fn put_page_header(
     alloc: Global,
     report: &Report,
+    drawing: &[u8],
     out: &mut Vec<u8>,
 ) -> Result<(), TextFault>
+    requires { IsDrawing report.now drawing.now }
     ensures { OnOk result (IsPut out.old.items out.new.items (IsPageHeader report.now)) }
 {
     let node = node_text(alloc, &report.node)?;
     put_top(node.as_slice(), out)?;
     put_stretch(alloc, report, out)?;
-    put_head(report.changes, out)?;
+    put_head(report.changes, drawing, out)?;
     Ok(())
 }

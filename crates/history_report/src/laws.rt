@@ -2,12 +2,14 @@
 
 ghost use Rattle.std.specs.Prelude.{◌≡◌, ◌∷◌, [], ℕ, List, false};
 ghost use Rattle.std.specs.List.{list_any};
-ghost use Rattle.history_report.specs.Html.{escaped, is_markup, has_forbidden, printable_after, said, page_row, texts_in};
+ghost use Rattle.history_report.specs.Html.{escaped, is_markup, IsPath, has_forbidden, printable_after, said, page_row, texts_in};
 
-/// No text in a page has a byte that begins or ends a tag, or an attribute's value.
-#[tactic(auto, using(crate::proofs::HtmlLemmas::escaped_plain))]
+/// No text in a page has a byte that begins or ends a tag, or an attribute's value, and neither has
+/// a drawing's path.
+#[tactic(auto, using(crate::proofs::HtmlLemmas::escaped_plain, crate::proofs::HtmlLemmas::path_plain))]
 pub fn a_pages_text_holds_no_markup()
-    ensures { (text : List ℕ) → list_any is_markup (escaped text) ≡ false }
+    ensures texts { (text : List ℕ) → list_any is_markup (escaped text) ≡ false }
+    ensures paths { (path : List ℕ) → IsPath path → list_any is_markup path ≡ false }
 {}
 
 /// A text in a page says that text, with its forbidden controls replaced, whatever it is; and so it

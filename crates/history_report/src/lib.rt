@@ -1,16 +1,21 @@
 //! A node's history, printed for people and for programs.
 #![tactic(auto)]
 
+mod drawing;
 mod fault;
+mod figure;
 mod html;
 mod laws;
 mod lines;
+mod number;
 mod pages;
+mod path;
 mod printing;
 mod report;
 mod rows;
 mod span;
 mod table;
+mod trend;
 
 pub use fault::ReportFault;
 pub use laws::{

@@ -4,7 +4,7 @@ ghost use Rattle.std.specs.Prelude.{◌≡◌, ◌++◌, ◌∷◌, [], ℕ, Lis
 ghost use Rattle.csv.specs.Writing.{default_writer, row_text};
 ghost use Rattle.history_csv.specs.Rows.{value_names, change_names, AreReadFields, AreChangeFields, IsTextless, ShowsTextless};
 ghost use Rattle.history_report.specs.Tables.{table_line};
-ghost use Rattle.history_report.specs.Html.{page_row};
+ghost use Rattle.history_report.specs.Html.{page_row, IsDrawing};
 ghost use Rattle.history_report.specs.Reports.{IsHeader, IsValueLine, IsChangeLine, footer_of};
 ghost use Rattle.history_report.specs.Paging.{IsPut, IsWhy};
 
@@ -41,14 +41,20 @@ fn put_table_header(alloc: Global, changes: bool, out: &mut Vec<u8>) -> Result<(
     Ok(())
 }
 
-/// Appends the header.
-pub(crate) fn put_header(alloc: Global, report: &Report, out: &mut Vec<u8>) -> Result<(), TextFault>
+/// Appends the header, a page's with this drawing.
+pub(crate) fn put_header(
+    alloc: Global,
+    report: &Report,
+    drawing: &[u8],
+    out: &mut Vec<u8>,
+) -> Result<(), TextFault>
+    requires { IsDrawing report.now drawing.now }
     ensures { OnOk result (IsPut out.old.items out.new.items (IsHeader report.now)) }
 {
     match report.form {
         Form::Table => put_table_header(alloc, report.changes, out),
         Form::Csv => put_csv_header(alloc, report.changes, out),
-        Form::Page => put_page_header(alloc, report, out),
+        Form::Page => put_page_header(alloc, report, drawing, out),
     }
 }
 

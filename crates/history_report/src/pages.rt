@@ -47,6 +47,7 @@ pub(crate) fn next_values<A: Archive>(
         (λ page. GivesPage (A.state archive.old) (A.state archive.new) page.items
         (values_left report.now.node pages.new) (values_left report.now.node pages.old))
         (λ why. Fails (A.state archive.old) (A.state archive.new) why) }
+    ensures same { pages.new.within ≡ pages.old.within }
     ensures asked { IsAskedWithin 100 (A.asked archive.old) (A.asked archive.new) }
 {
     let Span { from, to } = pages.span;

@@ -4,9 +4,11 @@ ghost use Rattle.std.specs.Prelude.{◌≡◌, [], IsErrOf};
 ghost use Rattle.archive.specs.Store.{IsAskedWithin};
 ghost use Rattle.counted_io.specs.Bytes.{counted};
 ghost use Rattle.history_csv.specs.Rows.{IsTextless, ShowsTextless};
+ghost use Rattle.history_report.specs.Html.{IsDrawing};
 ghost use Rattle.history_report.specs.Reports.{Prints, ReadsFor, IsValueLine, IsChangeLine, footer_of};
 ghost use Rattle.history_report.specs.Paging.{Printing, PrintsLines, PrintsRows, SendsHeader, SendsFooter, values_left, changes_left};
 
+use crate::drawing::put_drawing;
 use crate::fault::ReportFault;
 use crate::lines::{footer, put_header};
 use crate::pages::{Pages, next_changes, next_values};
@@ -18,12 +20,14 @@ use counted_io::Counted;
 use std::alloc::Global;
 use std::io::Write;
 
-/// Prints the header.
+/// Prints the header, a page's with this drawing.
 fn send_header<W: Write>(
     alloc: Global,
     report: &Report,
+    drawing: &[u8],
     output: &mut Counted<W>,
 ) -> Result<(), ReportFault>
+    requires { IsDrawing report.now drawing.now }
     ensures sends { SendsHeader report.now (W.contents output.old.inner)
         (W.contents output.new.inner) result }
     ensures write { IsErrOf result ReportFault.Write
@@ -31,7 +35,7 @@ fn send_header<W: Write>(
     ensures kept { (IsErrOf result ReportFault.Write → ⊥) → output.new.faults ≡ output.old.faults }
 {
     let mut text = Vec::new(alloc);
-    match put_header(alloc, report, &mut text) {
+    match put_header(alloc, report, drawing, &mut text) {
         Ok(()) => {}
         Err(_) => return Err(ReportFault::OutOfMemory),
     }
@@ -174,15 +178,22 @@ pub fn print_report<A: Archive, W: Write>(
         Ok(within) => within,
         Err(fault) => return Err(ReportFault::Store(fault)),
     };
-    match send_header(alloc, report, output) {
-        Ok(()) => {}
-        Err(fault) => return Err(fault),
-    }
-    let pages = Pages {
+    let mut pages = Pages {
         within,
         span: span_of(report),
         after: None,
     };
+    let mut drawing = Vec::new(alloc);
+    match put_drawing(alloc, archive, report, &mut pages, &mut drawing) {
+        Ok(()) => {}
+        Err(fault) => return Err(fault),
+    }
+    match send_header(alloc, report, drawing.as_slice(), output) {
+        Ok(()) => {}
+        Err(fault) => return Err(fault),
+    }
+    pages.span = span_of(report);
+    pages.after = None;
     match print_rows(alloc, archive, report, pages, output) {
         Ok(()) => send_footer(report, output),
         Err(fault) => Err(fault),

@@ -10,4 +10,6 @@ mod node_ids;
 #[cfg(test)]
 mod reports;
 #[cfg(test)]
+mod trends;
+#[cfg(test)]
 mod values;

@@ -57,7 +57,7 @@ static ROWS: [Row; 9] = [
 ];
 
 /// A node by its text.
-fn node_of(alloc: Global, text: &str) -> Result<NodeId, StoreFault> {
+pub(crate) fn node_of(alloc: Global, text: &str) -> Result<NodeId, StoreFault> {
     match read_node(alloc, text) {
         Ok(node) => Ok(node),
         Err(_) => Err(StoreFault::OutOfMemory),
@@ -120,7 +120,7 @@ fn learn<A: Archive>(
 }
 
 /// An archive that holds nothing.
-fn empty_archive(alloc: Global) -> Result<ListArchive, StoreFault> {
+pub(crate) fn empty_archive(alloc: Global) -> Result<ListArchive, StoreFault> {
     match ReplicaNo::new(1) {
         Some(one) => Ok(ListArchive::new(alloc, Uuid::nil(), one)),
         None => Err(StoreFault::WrongReplica),
@@ -276,6 +276,15 @@ static MIDDLE: &[u8] = b"</title>\n\
     .replace td:first-child,.update td:first-child{box-shadow:inset .25rem 0 #d90}\n\
     .delete td:first-child{box-shadow:inset .25rem 0 #c33}\n\
     .delete td:nth-child(2){text-decoration:line-through}\n\
+    figure{display:grid;grid-template-columns:auto 1fr 1fr;gap:.25rem .75rem;max-width:60rem}\n\
+    figure{margin:1rem 0;font-size:.85rem;font-variant-numeric:tabular-nums;break-inside:avoid}\n\
+    svg{grid-area:1/2/3/4;width:100%;height:12rem;overflow:visible}\n\
+    path{fill:none;stroke:currentColor;stroke-width:1.5px;stroke-linecap:round}\n\
+    path{stroke-linejoin:round;vector-effect:non-scaling-stroke}\n\
+    span:nth-of-type(1){grid-area:1/1;text-align:right}\n\
+    span:nth-of-type(2){grid-area:2/1;text-align:right;align-self:end}\n\
+    span:nth-of-type(3){grid-area:3/2}\n\
+    span:nth-of-type(4){grid-area:3/3;text-align:right}\n\
     </style>\n\
     </head>\n\
     <body>\n\
@@ -362,7 +371,7 @@ static PAGES: [PageCase; 4] = [
 ];
 
 /// So many seconds behind noon.
-fn moment_of(second: i64) -> Moment {
+pub(crate) fn moment_of(second: i64) -> Moment {
     Moment::at(NOON.saturating_add(SECOND.saturating_mul(second)))
 }
 
@@ -386,7 +395,7 @@ fn is_printed<A: Archive>(alloc: Global, archive: &mut A, case: &Case<'_>) -> bo
 }
 
 /// A page, whose title stands twice.
-fn page_of(alloc: Global, title: &[u8], rest: &[u8]) -> Result<Vec<u8>, AllocError> {
+pub(crate) fn page_of(alloc: Global, title: &[u8], rest: &[u8]) -> Result<Vec<u8>, AllocError> {
     let mut page = Vec::new(alloc);
     for part in [BEGIN, title, MIDDLE, title, rest] {
         page.extend_from_slice(part)?;
