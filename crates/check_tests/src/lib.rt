@@ -3,3 +3,5 @@
 
 #[cfg(test)]
 mod settings;
+#[cfg(test)]
+mod stores;

@@ -83,8 +83,8 @@ module _ (m : Option (Text × List Row)) (rows : List Row) where
   no-import is none _ h = name-differs m (codes "import") _ rows h.0 is h.1 refl
 
   pub no-check : m ≡ Some (codes "check", rows) → NoLine (IsCheck rows) → NoLine (IsLine m)
-  no-check is none (Check path) h = none (Check path)
-      (subst (λ (r : List Row). IsCheck r (Check path))
+  no-check is none (Check path flag) h = none (Check path flag)
+      (subst (λ (r : List Row). IsCheck r (Check path flag))
       (one-list m (codes "check") (codes "check") rows h.0 is h.1) h.2)
   no-check is none _ h = name-differs m (codes "check") _ rows h.0 is h.1 refl
 

@@ -82,9 +82,10 @@ import_command =
     command (codes "import")
     (needed (codes "settings") ∷ needed (codes "user") ∷ option (codes "perform") ∷ [])
 
--- `check --settings FILE`
+-- `check --settings FILE [--store]`
 abbrev pub check_command : App
-check_command = command (codes "check") (needed (codes "settings") ∷ [])
+check_command =
+    command (codes "check") (needed (codes "settings") ∷ flag (codes "store") ∷ [])
 
 -- the program with no commands yet: it has a version, which its commands have too
 abbrev pub program : App
@@ -209,7 +210,11 @@ IsImportCommand rows line =
 -- what the rows of `check` give
 abbrev pub IsCheck : List Row → Line → Type 0
 IsCheck rows line =
-    elim line [ Check path ↦ first_of (codes "settings") rows ≡ Some path.now | _ ↦ ⊥ ]
+    elim line [
+      | Check path flag ↦ (first_of (codes "settings") rows ≡ Some path.now)
+          × IsFlag (one_of (codes "store") rows) flag
+      | _ ↦ ⊥
+    ]
 
 -- the matches name this command, and its rows give this line
 abbrev pub NamesCommand : Option (Text × List Row) → Text → (List Row → Line → Type 0) → Line
@@ -227,7 +232,7 @@ IsLine m (Dump path) = NamesCommand m (codes "dump") IsDump (Dump path)
 IsLine m (Sync path peer) = NamesCommand m (codes "sync") IsSync (Sync path peer)
 IsLine m (History path it) = NamesCommand m (codes "history") IsHistoryCommand (History path it)
 IsLine m (Import path it) = NamesCommand m (codes "import") IsImportCommand (Import path it)
-IsLine m (Check path) = NamesCommand m (codes "check") IsCheck (Check path)
+IsLine m (Check path flag) = NamesCommand m (codes "check") IsCheck (Check path flag)
 
 -- no line is so
 abbrev pub NoLine : (Line → Type 0) → Type 0
@@ -242,7 +247,7 @@ Asks faults matches (Shown text) = MayAskForText faults
 -- the usage of the program, in one line
 abbrev pub usage : List ℕ
 usage =
-    codes "usage: uahist answer [--settings FILE] [--hex] [--now N] | serve --settings FILE [--connections N] | dump --settings FILE | sync --settings FILE --peer ADDRESS | history --settings FILE --node ID [--from T] [--to T] [--changes] [--csv] [--html] | import --settings FILE --user NAME [--perform insert|replace|update] | check --settings FILE"
+    codes "usage: uahist answer [--settings FILE] [--hex] [--now N] | serve --settings FILE [--connections N] | dump --settings FILE | sync --settings FILE --peer ADDRESS | history --settings FILE --node ID [--from T] [--to T] [--changes] [--csv] [--html] | import --settings FILE --user NAME [--perform insert|replace|update] | check --settings FILE [--store]"
 
 -- the text that tells a refused command line
 abbrev pub line_text_of : LineFault → List ℕ

@@ -61,9 +61,10 @@ pub enum Line<'a> {
         settings: &'a str,
         asked: ImportWords<'a>,
     },
-    /// Tell what the file at `settings` says.
+    /// Tell what the file at `settings` says, and where `store` is set what the archive that it sets holds.
     Check {
         settings: &'a str,
+        store: bool,
     },
 }
 
@@ -131,7 +132,7 @@ impl LineFault {
     {
         match self {
             LineFault::Words =>
-                "usage: uahist answer [--settings FILE] [--hex] [--now N] | serve --settings FILE [--connections N] | dump --settings FILE | sync --settings FILE --peer ADDRESS | history --settings FILE --node ID [--from T] [--to T] [--changes] [--csv] [--html] | import --settings FILE --user NAME [--perform insert|replace|update] | check --settings FILE",
+                "usage: uahist answer [--settings FILE] [--hex] [--now N] | serve --settings FILE [--connections N] | dump --settings FILE | sync --settings FILE --peer ADDRESS | history --settings FILE --node ID [--from T] [--to T] [--changes] [--csv] [--html] | import --settings FILE --user NAME [--perform insert|replace|update] | check --settings FILE [--store]",
             LineFault::OutOfMemory => "memory ran out before the command began",
         }
     }
@@ -406,16 +407,28 @@ fn import_command<'a>(alloc: Global) -> Result<Command<'a>, AllocError>
     Ok(command)
 }
 
-/// The command `check` and its option.
+/// The option `--store`.
+fn store_option<'a>(alloc: Global) -> Arg<'a>
+    ensures rule { rule_of result ≡ flag (codes "store") }
+    ensures local { result.global ≡ false }
+{
+    Arg::new(alloc, "store")
+        .long("store")
+        .help("Tells what the archive holds too")
+        .action(ArgAction::SetTrue)
+}
+
+/// The command `check` and its options.
 fn check_command<'a>(alloc: Global) -> Result<Command<'a>, AllocError>
     ensures app { IfOk result (λ command. app_of command ≡ check_command) }
     ensures local { IfOk result (λ command. (out-Command command).has_globals ≡ false) }
 {
     let settings = settings_option(alloc).required(true);
+    let store = store_option(alloc);
     let command = Command::new(alloc, "check").about(
         "Tells what the settings say, and warns of what is unwise",
     );
-    let command = command.arg(settings)?;
+    let command = command.arg(settings)?.arg(store)?;
     Ok(command)
 }
 
@@ -627,13 +640,14 @@ fn read_import<'a>(import: &ArgMatches<'a>) -> Result<Line<'a>, LineFault>
     }
 }
 
-/// Reads the option of `check`.
+/// Reads the options of `check`.
 fn read_check<'a>(check: &ArgMatches<'a>) -> Result<Line<'a>, LineFault>
     ensures ok { IfOk result (IsCheck (rows_of (found_of check.now))) }
     ensures words { OnErr result (NoLine (IsCheck (rows_of (found_of check.now)))) }
 {
+    let store = check.get_flag("store");
     match check.get_str("settings") {
-        Some(settings) => Ok(Line::Check { settings }),
+        Some(settings) => Ok(Line::Check { settings, store }),
         None => Err(LineFault::Words),
     }
 }

@@ -15,7 +15,7 @@ use ua_server::{
 use uuid::Uuid;
 
 /// Command lines, and what they are.
-static LINES: [(&[&str], Result<Line<'static>, LineFault>); 49] = [
+static LINES: [(&[&str], Result<Line<'static>, LineFault>); 50] = [
     (
         &[
             "uahist",
@@ -105,7 +105,17 @@ static LINES: [(&[&str], Result<Line<'static>, LineFault>); 49] = [
     ),
     (
         &["uahist", "check", "--settings", "a"],
-        Ok(Line::Check { settings: "a" }),
+        Ok(Line::Check {
+            settings: "a",
+            store: false,
+        }),
+    ),
+    (
+        &["uahist", "check", "--store", "--settings", "a"],
+        Ok(Line::Check {
+            settings: "a",
+            store: true,
+        }),
     ),
     (&["uahist", "check"], Err(LineFault::Words)),
     (
@@ -630,7 +640,7 @@ static RUNS: [(&[&str], &[u8], usize, &str, &str, u8); 59] = [
         b"",
         1000,
         "",
-        "uahist: usage: uahist answer [--settings FILE] [--hex] [--now N] | serve --settings FILE [--connections N] | dump --settings FILE | sync --settings FILE --peer ADDRESS | history --settings FILE --node ID [--from T] [--to T] [--changes] [--csv] [--html] | import --settings FILE --user NAME [--perform insert|replace|update] | check --settings FILE\n",
+        "uahist: usage: uahist answer [--settings FILE] [--hex] [--now N] | serve --settings FILE [--connections N] | dump --settings FILE | sync --settings FILE --peer ADDRESS | history --settings FILE --node ID [--from T] [--to T] [--changes] [--csv] [--html] | import --settings FILE --user NAME [--perform insert|replace|update] | check --settings FILE [--store]\n",
         2,
     ),
     (
@@ -988,8 +998,52 @@ const TOLD: &str = "archive 00000000-0000-0000-0000-000000000000, replica 1\n\
     warning: there is no [door], so whoever reaches the clients' address can exchange records\n\
     warning: the store's path is relative: from another folder it makes a new, empty archive\n";
 
+/// What is told of settings with a variable, and of an archive that holds nothing.
+const TOLD_EMPTY: &str = "archive 00000000-0000-0000-0000-000000000000, replica 1\n\
+    no store: values are kept in memory and lost at the end\n\
+    listens at ; clients are told \n\
+    there are no users with a name; without a name: allowed, may write\n\
+    1 variable, 0 folders\n\
+    0 peers are called; peers come to the clients' address\n\
+    warning: url doesn't begin with opc.tcp://, so clients can't use what they are told\n\
+    warning: who gives no name may write\n\
+    warning: there is no [door], so whoever reaches the clients' address can exchange records\n\
+    T: no values\n";
+
 /// The same of checks, and of a page.
-static CHECKS: [(&[&str], &[u8], usize, &str, &str, u8); 6] = [
+static CHECKS: [(&[&str], &[u8], usize, &str, &str, u8); 10] = [
+    (
+        &["uahist", "check", "--settings", "kept", "--store"],
+        b"",
+        1000,
+        TOLD,
+        "",
+        0,
+    ),
+    (
+        &["uahist", "check", "--store", "--settings", "valued"],
+        b"",
+        1000,
+        TOLD_EMPTY,
+        "",
+        0,
+    ),
+    (
+        &["uahist", "check", "--settings", "others", "--store"],
+        b"",
+        1000,
+        "",
+        "uahist: store refused (4)\n",
+        3,
+    ),
+    (
+        &["uahist", "check", "--settings", "unmade", "--store"],
+        b"",
+        1000,
+        "archive 00000000-0000-0000-0000-000000000000, replica 1\nstore none.db\n",
+        "",
+        0,
+    ),
     (
         &["uahist", "check", "--settings", "kept"],
         b"",
@@ -1047,7 +1101,11 @@ static CHECKS: [(&[&str], &[u8], usize, &str, &str, u8); 6] = [
 ];
 
 /// Settings files that are kept in memory: their names, and their texts.
-static FILES: [(&str, &str); 25] = [
+static FILES: [(&str, &str); 26] = [
+    (
+        "valued",
+        "[archive]\nid = '00000000000000000000000000000000'\nreplica = 1\n[server]\nlisten = ''\nurl = ''\napplication = ''\nnamespace = ''\nanonymous = true\n[[variable]]\nid = 'T'\nname = ''\ntype = 'Double'\n",
+    ),
     (
         "kept",
         "[archive]\nid = '00000000000000000000000000000000'\nreplica = 1\nstore = 'own.db'\n[server]\nlisten = ''\nurl = ''\napplication = ''\nnamespace = ''\nanonymous = true\n",

@@ -1,2 +1,4 @@
 mod TextLemmas
 mod NodeLemmas
+mod StoredLemmas
+mod ValueLemmas

@@ -3,3 +3,4 @@ pub mod Nodes
 pub mod Facts
 pub mod Warnings
 pub mod Checks
+pub mod Stored

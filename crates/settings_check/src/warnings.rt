@@ -26,21 +26,21 @@ fn put_warned(out: &mut Vec<u8>, given: bool, words: &[u8]) -> Result<(), AllocE
     Ok(())
 }
 
-/// Appends a warning of these words and an address, where it is given.
-fn put_warned_of(
+/// Appends a warning of these words and a name, where it is given.
+pub(crate) fn put_warned_of(
     out: &mut Vec<u8>,
     given: bool,
     words: &[u8],
-    address: &str,
+    name: &str,
 ) -> Result<(), AllocError>
     ensures { OnOk result
         (out.new.items
-        ≡ out.old.items ++ text_of (warned given (words.now ++ legible address.now))) }
+        ≡ out.old.items ++ text_of (warned given (words.now ++ legible name.now))) }
 {
     if given {
         out.extend_from_slice(b"warning: ")?;
         out.extend_from_slice(words)?;
-        put_shown(out, address)?;
+        put_shown(out, name)?;
         out.push(b'\n')?;
     }
     Ok(())

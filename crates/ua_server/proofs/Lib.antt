@@ -14,3 +14,4 @@ pub mod Hexing
 pub mod SingleParts
 pub mod FromWhere
 pub mod Passwords
+pub mod CheckingParts

@@ -31,7 +31,7 @@ use Rattle.history_import.specs.Rows.{may_write}
 use Rattle.ua_server.specs.Importing.{import_refusal, import_told}
 use Rattle.settings_check.specs.declared.fault.CheckFault.{CheckFault}
 use Rattle.settings_check.specs.declared.fault.CheckFault.TheVariants as check
-use Rattle.ua_server.specs.Checking.{check_fault}
+use Rattle.ua_server.specs.Checking.{check_fault, TellsBehind, TellsCheck}
 use Rattle.command_line.specs.declared.line.Line.{Line as CommandLine}
 use Rattle.command_line.specs.declared.line.LineFault.{LineFault}
 use Rattle.command_line.specs.declared.line.LineFault.TheVariants.{Words, OutOfMemory as NoMemory}
@@ -227,8 +227,24 @@ refused-line _ settings why fault is same = absurd cc
 checked-line : (told : Result (Unit {0}) CheckFault) (line : LineFault)
     → Err (Line line) ≡ result_map_both (λ done. done) check_fault told → ⊥
 checked-line (Ok done) line same = cc
+checked-line (Err (check.Store fault)) line same = cc
 checked-line (Err check.Write) line same = cc
 checked-line (Err check.OutOfMemory) line same = cc
+
+behind-line : {A : Type 0} (held : A → Store) (settings : SettingsValues) (store : Bool)
+    (first last : A) (before after : Option (List ℕ)) (line : LineFault)
+    → TellsBehind held settings store first last before after (Err (Line line)) → ⊥
+behind-line held settings true first last before after line (told, prints, is) =
+    checked-line told line is
+behind-line held settings false first last before after line (is, stays, kept) = absurd cc
+
+told-line : {A : Type 0} (held : A → Store) (settings : SettingsValues) (store : Bool)
+    (first last : A) (before after : Option (List ℕ)) (line : LineFault)
+    → TellsCheck held settings store first last before after (Err (Line line)) → ⊥
+told-line held settings store first last before after line (Ok done, between, prints, behind) =
+    behind-line held settings store first last between after line behind
+told-line held settings store first last before after line
+    (Err fault, between, prints, (is, stays, kept)) = checked-line (Err fault) line is
 
 synced-line : (old written : Option (List ℕ)) (synced : Result Synced SyncFault) (line : LineFault)
     → PrintsSynced old written synced (Err (Line line)) → ⊥
@@ -276,8 +292,8 @@ never-line known gave told (History path words) settings first last old new faul
     history-line known.held words first last old.written new.written fault so
 never-line known gave told (Import path words) settings first last old new fault
     (same, (reading, given, ended, imports, is)) = imported-line ended fault is
-never-line known gave told (Check path) settings first last old new fault
-    (stays, same, (checked, prints, is)) = checked-line checked fault is
+never-line known gave told (Check path store) settings first last old new fault (same, so) =
+    told-line known.held settings store first last old.written new.written fault so
 
 -- a line that ends as a refused one: its settings were refused so, and nothing was done
 by-line : {C E : Type 0} (known : KnownMachine) (gave : Readings C) (told : Known E)

@@ -1,5 +1,5 @@
 -- What a run of the program does.
-use Rattle.std.specs.Prelude.{◌≡◌, ℕ, ℤ, List, [], Option, None, Some, IfSome, option_copied, Result, Ok, Err, IfOk, Bool, true, false, ◌⊎◌}
+use Rattle.std.specs.Prelude.{◌≡◌, ℕ, ℤ, List, [], Option, None, Some, IfSome, option_copied, Result, Ok, Err, IfOk, Bool, true, false, ◌⊎◌, if◌then◌else◌}
 use Rattle.std.specs.Result.{result_map_both}
 use Rattle.std.specs.Io.KnownBytes.{Appends}
 use Rattle.std.specs.declared.net.socket_addr.SocketAddr.{SocketAddr}
@@ -49,7 +49,7 @@ use Rattle.command_line.specs.declared.line.HistoryWords.{HistoryWords}
 use Rattle.command_line.specs.declared.line.ImportWords.{ImportWords}
 use Rattle.ua_server.specs.Histories.{PrintsHistory}
 use Rattle.ua_server.specs.Importing.{Importing, WritesRows, import_refusal}
-use Rattle.ua_server.specs.Checking.{TellsSettings}
+use Rattle.ua_server.specs.Checking.{TellsCheck}
 use Rattle.ua_server.specs.declared.program.StoreUse.{StoreUse}
 use Rattle.ua_server.specs.declared.program.StoreUse.TheVariants.{Leaves, Opens, Makes}
 use Rattle.ua_session.specs.Users.{IsUserName}
@@ -350,12 +350,13 @@ DoesImporting known gave settings words first last old new result =
     × WritesRows known.held gave settings words (importing_in first old) (importing_in last new)
     result
 
--- `check`: what the settings say is told
-abbrev pub DoesChecking : {A H C E : Type 0} → SettingsValues → (first last : A)
-    → (old new : Scene H C E) → Result (Unit {0}) ProgramFault → Type 0
-DoesChecking settings first last old new result =
-    (last ≡ first) × (new ≡ record old { written = new.written })
-    × TellsSettings settings old.written new.written result
+-- `check`: what the settings say is told, and what the archive holds where that is asked for
+abbrev pub DoesChecking : {C E : Type 0} → (known : KnownMachine) → SettingsValues → (store : Bool)
+    → (first last : known.Archive) → (old new : Scene known.Host C E)
+    → Result (Unit {0}) ProgramFault → Type 0
+DoesChecking known settings store first last old new result =
+    (new ≡ record old { written = new.written })
+    × TellsCheck known.held settings store first last old.written new.written result
 
 -- the path of a command's settings
 abbrev pub settings_path : CommandLine → Option (List ℕ)
@@ -367,7 +368,7 @@ settings_path line =
       | Sync path peer ↦ Some path.now
       | History path words ↦ Some path.now
       | Import path words ↦ Some path.now
-      | Check path ↦ Some path.now
+      | Check path store ↦ Some path.now
     ]
 
 -- what a command does with its store: those that only print make none, and one that only tells of
@@ -377,7 +378,7 @@ store_use line =
     elim line [
       | Dump path ↦ Opens
       | History path words ↦ Opens
-      | Check path ↦ Leaves
+      | Check path store ↦ if store then Opens else Leaves
       | _ ↦ Makes
     ]
 
@@ -403,7 +404,7 @@ DoesCommand known gave told line settings first last old new result =
       | Sync path peer ↦ DoesSyncing known peer.now first last old new result
       | History path words ↦ DoesHistory known words first last old new result
       | Import path words ↦ DoesImporting known gave settings words first last old new result
-      | Check path ↦ DoesChecking settings first last old new result
+      | Check path store ↦ DoesChecking known settings store first last old new result
     ]
 
 -- a command is done over an archive, which is closed then

@@ -421,7 +421,7 @@ fn settings_path<'a>(line: &Line<'a>) -> Option<&'a str>
         Line::Sync { settings, .. } => Some(settings),
         Line::History { settings, .. } => Some(settings),
         Line::Import { settings, .. } => Some(settings),
-        Line::Check { settings } => Some(settings),
+        Line::Check { settings, .. } => Some(settings),
     }
 }
 
@@ -432,7 +432,13 @@ fn store_use(line: &Line<'_>) -> StoreUse
 {
     match line {
         Line::Dump { .. } | Line::History { .. } => StoreUse::Opens,
-        Line::Check { .. } => StoreUse::Leaves,
+        Line::Check { store, .. } => {
+            if *store {
+                StoreUse::Opens
+            } else {
+                StoreUse::Leaves
+            }
+        }
         Line::Answer { .. } | Line::Serve { .. } | Line::Sync { .. } | Line::Import { .. } => {
             StoreUse::Makes
         }
@@ -497,7 +503,7 @@ fn do_command<H: Host, C: Clock, R: Read, W: Write, E: Write>(
         Line::Import { asked, .. } => {
             import_over(&mut world.server, &mut world.clock, asked, input, output)
         }
-        Line::Check { .. } => check_over(&world.server, output),
+        Line::Check { store, .. } => check_over(&mut world.server, store, output),
     }
 }
 

@@ -120,7 +120,7 @@ returns-in-Check-clause-does g c =
     g.H.Reader.Read.remaining g.H.Writer.Write.contents in
     let P : CommandLine → Type 0 = λ line.
     DoesCommand known g.C.Clock.gave g.E.Write.contents line c.args.world.now.server.settings
-    c.args.world.now.server.replica.archive c.args.world.now.server.replica.archive
+    c.args.world.now.server.replica.archive c.check_over.new.server.replica.archive
     (scene_of (g.R.Read.remaining c.args.input.now.inner)
     (g.W.Write.contents c.args.output.now.inner) c.args.host.now c.args.world.now.clock
     c.args.world.now.log.errors)
@@ -128,4 +128,4 @@ returns-in-Check-clause-does g c =
     (g.W.Write.contents c.check_over.new.output.inner) c.args.host.now c.args.world.now.clock
     c.args.world.now.log.errors)
     c.check_over.result in
-    subst P (sym c.in-Check.is) (refl, refl, c.check_over.ensures.tells)
+    subst P (sym c.in-Check.is) (refl, c.check_over.ensures.tells)

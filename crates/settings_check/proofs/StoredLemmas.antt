@@ -1,0 +1,220 @@
+-- An archive that is asked, and what was found there.
+use Rattle.std.proofs.Common.{◌≡◌, ◌≢◌, ℕ, ℤ, pos, Bool, true, cond, List, [], ◌∷◌, ◌++◌, filter, take, slice_get, append_assoc, None, Some, Ok, Err, refl, sym, ap, ◌∙◌, subst, arith, inl, inr}
+use Rattle.std.specs.Prelude.{⊤, Option, Result, MatchResult}
+use Rattle.std.specs.Option.{option_map}
+use Rattle.std.specs.Io.KnownBytes.{Appends}
+use Rattle.std.proofs.KnownBytes.{Appends-nil}
+use Rattle.std.proofs.lemmas.Int.{ints}
+use Rattle.stamp.specs.Numbers.{number_of}
+use Rattle.ua_binary.specs.declared.values.NodeId.{NodeId}
+use Rattle.ua_variant.specs.declared.value.ValueType.{ValueType}
+use Rattle.ua_space.specs.declared.layout.Layout.{Layout}
+use Rattle.records.specs.Lists.{Has}
+use Rattle.records.specs.Contents.{Content, vec, cut}
+use Rattle.records.specs.Records.{live_value}
+use Rattle.records.specs.Moments.{whole_again, pico_within}
+use Rattle.records.specs.declared.shown.Held.{Held}
+use Rattle.records.proofs.CutLemmas.{cut_whole}
+use Rattle.records.proofs.LatestLemmas.{story_has}
+use Rattle.archive.specs.Reading.{times, lives, is_between, range_of, in_direction}
+use Rattle.archive.specs.Store.{Store, StepResult, StoreFailed, Asks, IsLawfulContent, faults_of}
+use Rattle.archive.specs.Steps.{Transitions}
+use Rattle.archive.specs.declared.fault.StoreFault.{StoreFault}
+use Rattle.archive.specs.declared.reading.Direction.{Direction}
+use Rattle.archive.proofs.Acting.{there-behind, moves-none, moves-stays, moves-as, moves-then, left-before, faults-append}
+use Rattle.archive.proofs.Calls.{in_use}
+use Rattle.archive.proofs.Ranges.{between_from}
+use Rattle.archive.proofs.Timing.{current_from}
+use Rattle.archive.proofs.Turning.{has_from_filter_map}
+use Rattle.history_report.specs.Paging.{greatest_time, IsTime, IsPut}
+use Rattle.settings_check.specs.declared.asking.Seen.{Seen}
+use Rattle.settings_check.specs.declared.fault.CheckFault.{CheckFault}
+use Rattle.settings_check.specs.declared.fault.CheckFault.TheVariants as fault
+use Rattle.settings_check.specs.Texts.{text_of}
+use Rattle.settings_check.specs.Nodes.{variable_ids}
+use Rattle.settings_check.specs.Stored.{Reads, IsVectorOf, PrintsStored, TellsStore, TellsVariables, record_lines, check_faults, seen_of, end_of}
+
+-- ---- what was asked
+
+-- nothing was asked
+pub reads-none : (s : Store) (P : Content → Type 0) → ((R : Content) → P R) → Reads s s [] P
+reads-none s P holds =
+    ([], moves-none s (λ marks R S. (S ≡ R) × (([] ≡ []) × P R)) (λ R. (refl, (refl, holds R))))
+
+-- what was found says something else
+pub reads-as : (s t : Store) (faults : List StoreFault) (P Q : Content → Type 0)
+    → ((R : Content) → P R → Q R) → Reads s t faults P → Reads s t faults Q
+reads-as s t faults P Q says (used, reads) = (
+  used,
+  moves-as s t used (λ marks R S. (S ≡ R) × ((faults_of used ≡ faults) × P R))
+      (λ marks R S. (S ≡ R) × ((faults_of used ≡ faults) × Q R))
+      (λ ms R S p. (p.0, (p.1.0, says R p.1.1))) reads,
+)
+
+-- behind calls without a fault others were made
+pub reads-then : (s t u : Store) (faults : List StoreFault) (P Q : Content → Type 0)
+    → Reads s t [] P → Reads t u faults Q → Reads s u faults (λ R. P R × Q R)
+reads-then s t u faults P Q (us, first) (vs, then_more) = (
+  us ++ vs,
+  moves-then s t u us vs (λ marks R S. (S ≡ R) × ((faults_of us ≡ []) × P R))
+      (λ marks R S. (S ≡ R) × ((faults_of vs ≡ faults) × Q R))
+      (λ marks R S. (S ≡ R) × ((faults_of (us ++ vs) ≡ faults) × (P R × Q R)))
+      (λ ms ns R S T p q. (
+        q.0 ∙ p.0,
+        (
+          faults-append us vs ∙ (ap (λ l. l ++ faults_of vs) p.1.0 ∙ q.1.0),
+          (p.1.1, subst Q p.0 q.1.1),
+        ),
+      )) first then_more,
+)
+
+-- an answer, in terms of what is held
+pub reads-answer : {A : Type 0} (t u : Store) (IsAnswer : Content → A → Type 0) (a : A)
+    → Asks t u (Ok a) (IsAnswer t.content)
+    → Reads t u [] (λ R. IsLawfulContent R × IsAnswer R a)
+reads-answer t u IsAnswer a asks = (
+  [],
+  moves-stays t u [] (λ marks R S. (S ≡ R) × (([] ≡ []) × (IsLawfulContent R × IsAnswer R a)))
+      asks.leaves.passes asks.stays (there-behind t u None asks.leaves) (λ honest R h.
+      let is : t.content ≡ R = left-before t u R asks.leaves honest h in
+      let rests =
+      asks.leaves.before (asks.leaves.passes.honest honest) (in_use t u asks.leaves) in (
+        refl,
+        (
+          refl,
+          (
+            subst IsLawfulContent is rests.lawful,
+            subst (λ C. IsAnswer C a) is (asks.answer honest),
+          ),
+        ),
+      )),
+)
+
+-- a fault of its store
+pub reads-fault : {A : Type 0} (t u : Store) (why : StoreFault) (P : A → Type 0)
+    → Asks {A = A} t u (Err why) P → Reads t u (why ∷ []) (λ R. ⊤)
+reads-fault t u why P asks = (
+  StoreFailed why ∷ [],
+  moves-stays t u (StoreFailed why ∷ [])
+      (λ marks R S. (S ≡ R) × ((faults_of (StoreFailed why ∷ []) ≡ why ∷ []) × ⊤))
+      asks.leaves.passes asks.stays (there-behind t u (Some why) asks.leaves)
+      (λ honest R h. (refl, (refl, tt))),
+)
+
+-- ---- the first and the last value
+
+-- a content within its own vector is the whole of it
+pub cut-own : (R : Content) (v : List ℕ) → IsLawfulContent R → IsVectorOf v R
+    → cut R (number_of v) ≡ R
+cut-own R v lawful same = ap (cut R) (λ i o. same o i) ∙ cut_whole R lawful.closed
+
+first-taken : {X : Type 0} (xs : List X) → slice_get (take 1 xs) 0 ≡ slice_get xs 0
+first-taken [] = refl
+first-taken (x ∷ xs) = refl
+
+filter-whole : {X : Type 0} (p : X → Bool) (xs : List X) → ((x : X) → Has xs x → p x ≡ true)
+    → filter p xs ≡ xs
+filter-whole p [] all = refl
+filter-whole p (x ∷ xs) all =
+    ap (λ b. cond b (x ∷ filter p xs) (filter p xs)) (all x (inl refl))
+    ∙ ap (λ l. x ∷ l) (filter-whole p xs (λ y h. all y (inr h)))
+
+-- the time of a live value is one that a record may have
+live_time : (R : Content) (node : NodeId) (h : Held) → IsLawfulContent R → Has (lives R node) h
+    → IsTime h.time
+live_time R node h lawful k =
+    let t = has_from_filter_map (live_value R node) (times R node) h k in
+    let r = current_from R node t.0 h t.2 in
+    let of_record = (lawful.records r.0 ((story_has R node t.0 r.0).0 r.1).0).time in
+    subst IsTime r.2 (
+      omega (arith, ints, of_record.0, whole_again r.0.time, pico_within r.0.time),
+      omega (arith, ints, of_record.1, whole_again r.0.time, pico_within r.0.time),
+    )
+
+all_between : (t : ℤ) → IsTime t → is_between (pos 0) greatest_time t ≡ true
+all_between t (low, high) =
+    between_from (pos 0) greatest_time t (omega (arith, ints, low)) high
+
+-- all live values are in the range from the first moment to the last
+whole-range : (R : Content) (node : NodeId) (way : Direction) → IsLawfulContent R
+    → range_of R node (pos 0) greatest_time way ≡ in_direction way (lives R node)
+whole-range R node way lawful =
+    ap (in_direction way) (filter-whole (λ h. is_between (pos 0) greatest_time h.time)
+    (lives R node) (λ h k. all_between h.time (live_time R node h lawful k)))
+
+-- what is told of the first of a range of one is told of the first live value
+pub end-is : (R : Content) (node : NodeId) (wanted : Option ValueType) (way : Direction)
+    (within : List ℕ) (from to : ℤ) (values : List Held) → from ≡ pos 0 → to ≡ greatest_time
+    → IsLawfulContent R → IsVectorOf within R
+    → values ≡ take 1 (range_of (cut R (number_of within)) node from to way)
+    → option_map (seen_of wanted) (slice_get values 0) ≡ end_of R node wanted way
+end-is R node wanted way within from to values low high lawful same is =
+    ap (option_map (seen_of wanted))
+    (ap (λ (l : List Held). slice_get l 0) is
+    ∙ (first-taken (range_of (cut R (number_of within)) node from to way)
+    ∙ ap (λ (l : List Held). slice_get l 0)
+    (ap (λ (C : Content). range_of C node from to way) (cut-own R within lawful same)
+    ∙ (ap (λ (t : ℤ). range_of R node t to way) low
+    ∙ (ap (λ (t : ℤ). range_of R node (pos 0) t way) high
+    ∙ whole-range R node way lawful)))))
+
+-- ---- what is printed
+
+-- nothing was printed
+pub unprinted : (space : Layout) (before : Option (List ℕ)) (why : CheckFault) (R : Content)
+    → why ≢ fault.Write → PrintsStored space before before (Err why) R
+unprinted space before (fault.Store store) R other = Appends-nil before
+unprinted space before fault.OutOfMemory R other = Appends-nil before
+unprinted space before fault.Write R other = absurd (other refl)
+
+-- ---- lines of what is held
+
+-- an archive was asked, and then nothing more
+pub reads-both : (s t u : Store) (faults : List StoreFault) (P Q T : Content → Type 0)
+    → ((R : Content) → P R → Q R → T R) → Reads s t [] P → Reads t u faults Q
+    → Reads s u faults T
+reads-both s t u faults P Q T says first more =
+    reads-as s u faults (λ R. P R × Q R) T (λ R p. says R p.0 p.1)
+    (reads-then s t u faults P Q first more)
+
+-- what was put for the replicas and then for the variables tells what is held
+pub store-put : (space : Layout) (R : Content) (within : List ℕ) (old now new : List ℕ)
+    → IsVectorOf within R → now ≡ old ++ text_of (record_lines (number_of within))
+    → IsPut now new (TellsVariables space R (variable_ids space))
+    → IsPut old new (TellsStore space R)
+store-put space R within old now new same first (values, puts, tells) = (
+  text_of (record_lines (vec R)) ++ values,
+  puts
+      ∙ (ap (λ t. t ++ values) (first
+      ∙ ap (λ (v : ℕ → ℕ). old ++ text_of (record_lines v)) (λ i o. same o i))
+      ∙ append_assoc old (text_of (record_lines (vec R))) values),
+  (values, refl, tells),
+)
+
+-- the same where the variables are told, or that ended before
+pub store-told : (result : Result (Unit {0}) CheckFault) (s t u : Store) (space : Layout)
+    (within : List ℕ) (old now new : List ℕ)
+    → Reads s t [] (λ R. IsLawfulContent R × IsVectorOf within R)
+    → now ≡ old ++ text_of (record_lines (number_of within))
+    → MatchResult result
+    (λ done. Reads t u [] (λ R. IsVectorOf within R
+    → IsPut now new (TellsVariables space R (variable_ids space))))
+    (λ why. (why ≢ fault.Write) × Reads t u (check_faults (Err why)) (λ R. ⊤))
+    → MatchResult result (λ done. Reads s u [] (λ R. IsPut old new (TellsStore space R)))
+    (λ why. (why ≢ fault.Write) × Reads s u (check_faults (Err why)) (λ R. ⊤))
+store-told (Ok done) s t u space within old now new counts first told =
+    reads-both s t u [] (λ R. IsLawfulContent R × IsVectorOf within R)
+    (λ R. IsVectorOf within R → IsPut now new (TellsVariables space R (variable_ids space)))
+    (λ R. IsPut old new (TellsStore space R))
+    (λ R p q. store-put space R within old now new p.1 first (q p.1)) counts told
+store-told (Err why) s t u space within old now new counts first (other, stops) = (
+  other,
+  reads-both s t u (check_faults (Err why)) (λ R. IsLawfulContent R × IsVectorOf within R)
+      (λ R. ⊤) (λ R. ⊤) (λ R p q. tt) counts stops,
+)
+
+-- what was put into an empty text is the text
+pub whole-text : (space : Layout) (R : Content) (old new : List ℕ) → old ≡ []
+    → IsPut old new (TellsStore space R) → TellsStore space R new
+whole-text space R old new empty (text, puts, tells) =
+    subst (TellsStore space R) (sym (puts ∙ ap (λ t. t ++ text) empty)) tells
