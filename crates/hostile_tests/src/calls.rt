@@ -153,64 +153,42 @@ fn is_short_data(value: &DataValue) -> bool
     close && value.server_pico.is_none() && value.size() < 0x8000_0000
 }
 
-/// A value that the bytes spell, read again where memory was wanting.
-fn value_of(alloc: Global, bytes: &[u8]) -> Result<Variant, VariantFault> {
-    let mut cursor = Cursor::new(bytes);
-    match read_variant(alloc, &mut cursor) {
-        Err(VariantFault::OutOfMemory) if cursor.rest() == bytes => {
-            read_variant(alloc, &mut cursor)
-        }
-        read => read,
-    }
-}
-
-/// A value is written so.
-fn is_value_written(alloc: Global, value: &Variant, bytes: &[u8]) -> bool {
-    if !is_short_variant(value) {
-        return false;
-    }
-    let mut out = Vec::new(alloc);
-    let written = put_variant(&mut out, value).is_ok()
-        || (out.is_empty() && put_variant(&mut out, value).is_ok());
-    written && out.as_slice() == bytes
-}
-
 /// The bytes spell a value, which is written so.
 fn is_value(alloc: Global, bytes: &[u8]) -> bool {
-    match value_of(alloc, bytes) {
-        Ok(value) => is_value_written(alloc, &value, bytes),
-        Err(_) => false,
-    }
-}
-
-/// A data value that the bytes spell, read again where memory was wanting.
-fn data_of(alloc: Global, bytes: &[u8]) -> Result<DataValue, VariantFault> {
     let mut cursor = Cursor::new(bytes);
-    match read_data_value(alloc, &mut cursor) {
-        Err(VariantFault::OutOfMemory) if cursor.rest() == bytes => {
-            read_data_value(alloc, &mut cursor)
-        }
-        read => read,
+    let mut read = read_variant(alloc, &mut cursor);
+    if read == Err(VariantFault::OutOfMemory) && cursor.rest() == bytes {
+        read = read_variant(alloc, &mut cursor);
     }
-}
-
-/// A data value with these picoseconds is written in so many bytes.
-fn is_data_written(alloc: Global, value: &DataValue, count: usize, pico: Option<u16>) -> bool {
-    if !is_short_data(value) {
+    let Ok(value) = read else {
+        return false;
+    };
+    if !is_short_variant(&value) {
         return false;
     }
     let mut out = Vec::new(alloc);
-    let written = put_data_value(&mut out, value).is_ok()
-        || (out.is_empty() && put_data_value(&mut out, value).is_ok());
-    written && value.source_pico == pico && out.len() == count
+    let written = put_variant(&mut out, &value).is_ok()
+        || (out.is_empty() && put_variant(&mut out, &value).is_ok());
+    written && out.as_slice() == bytes
 }
 
 /// The bytes spell a data value with these picoseconds, which is written in as many bytes.
 fn is_data(alloc: Global, bytes: &[u8], pico: Option<u16>) -> bool {
-    match data_of(alloc, bytes) {
-        Ok(value) => is_data_written(alloc, &value, bytes.len(), pico),
-        Err(_) => false,
+    let mut cursor = Cursor::new(bytes);
+    let mut read = read_data_value(alloc, &mut cursor);
+    if read == Err(VariantFault::OutOfMemory) && cursor.rest() == bytes {
+        read = read_data_value(alloc, &mut cursor);
     }
+    let Ok(value) = read else {
+        return false;
+    };
+    if !is_short_data(&value) {
+        return false;
+    }
+    let mut out = Vec::new(alloc);
+    let written = put_data_value(&mut out, &value).is_ok()
+        || (out.is_empty() && put_data_value(&mut out, &value).is_ok());
+    written && value.source_pico == pico && out.len() == bytes.len()
 }
 
 /// A body of 8,169 bytes is cut into 8,168 and 1.

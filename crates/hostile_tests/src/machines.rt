@@ -121,39 +121,25 @@ fn told(alloc: Global, machine: &mut Machine, now: i64, message: &[u8]) -> Optio
     answered.is_ok().then_some(body)
 }
 
-/// Whether want of memory is told somewhere in these bytes.
-fn is_want_told(bytes: &[u8]) -> bool {
+fn is_told(told: &Option<Vec<u8>>, want: &[u8]) -> bool {
+    match told {
+        Some(body) => body.as_slice() == want,
+        None => false,
+    }
+}
+
+/// Whether want of memory is told somewhere in an answer.
+fn wants(told: &Option<Vec<u8>>) -> bool {
+    let Some(body) = told else {
+        return true;
+    };
+    let bytes = body.as_slice();
     for at in 0..bytes.len() {
         if bytes[at..].starts_with(&[0, 0, 3, 0x80]) {
             return true;
         }
     }
     false
-}
-
-/// How an answer is.
-#[derive(Clone, Copy, Debug, PartialEq, Eq)]
-enum Telling {
-    /// As it is with ample memory.
-    Wanted,
-    /// Want of memory is told, or there was none for it.
-    Starved,
-    /// Anything else.
-    Other,
-}
-
-/// How a message is answered.
-fn judged(alloc: Global, machine: &mut Machine, now: i64, message: &[u8], want: &[u8]) -> Telling {
-    let Some(body) = told(alloc, machine, now, message) else {
-        return Telling::Starved;
-    };
-    if body.as_slice() == want {
-        Telling::Wanted
-    } else if is_want_told(body.as_slice()) {
-        Telling::Starved
-    } else {
-        Telling::Other
-    }
 }
 
 /// Whether that is left where so many records were held before.
@@ -190,17 +176,19 @@ fn is_asked(
     left: Left,
 ) -> bool {
     let before = own(machine);
-    match judged(alloc, machine, now, message, want) {
-        Telling::Wanted => return is_left(machine, before, left),
-        Telling::Starved => {}
-        Telling::Other => return false,
+    let first = told(alloc, machine, now, message);
+    if is_told(&first, want) {
+        return is_left(machine, before, left);
+    }
+    if !wants(&first) {
+        return false;
     }
     if changes(left) && is_left(machine, before, left) {
         return true;
     }
     let unchanged = own(machine) == before;
-    let second = judged(alloc, machine, now, message, want) == Telling::Wanted;
-    (second || (changes(left) && !unchanged)) && is_left(machine, before, left)
+    let second = told(alloc, machine, now, message);
+    (is_told(&second, want) || (changes(left) && !unchanged)) && is_left(machine, before, left)
 }
 
 // ---- updates
@@ -215,8 +203,7 @@ fn request(alloc: Global, reading: i64) -> Option<Request> {
     })
 }
 
-/// Updates one value; nothing where there was no memory for it.
-fn update(
+fn operate(
     alloc: Global,
     machine: &mut Machine,
     request: &Request,
@@ -229,31 +216,12 @@ fn update(
         return None;
     }
     let archive = &mut machine.server.replica.archive;
-    Some(code_of(&update_data(alloc, archive, request, INT32, perform, &values)))
-}
-
-/// Deletes what there is at a time.
-fn delete(alloc: Global, machine: &mut Machine, request: &Request, time: i64) -> Option<Status> {
-    if !is_request(request) {
-        return None;
-    }
-    let archive = &mut machine.server.replica.archive;
-    Some(code_of(&delete_at(alloc, archive, request, &[Ticks(time)])))
-}
-
-fn operate(
-    alloc: Global,
-    machine: &mut Machine,
-    request: &Request,
-    perform: i32,
-    time: i64,
-    written: i32,
-) -> Option<Status> {
-    if perform == 4 {
-        delete(alloc, machine, request, time)
+    let told = if perform == 4 {
+        delete_at(alloc, archive, request, &[Ticks(time)])
     } else {
-        update(alloc, machine, request, perform, time, written)
-    }
+        update_data(alloc, archive, request, INT32, perform, &values)
+    };
+    Some(code_of(&told))
 }
 
 /// An operation has this code; where it was told want of memory nothing was changed, and then it has this code.
@@ -403,104 +371,48 @@ fn first_record(alloc: Global, machine: &mut Machine) -> Option<Record> {
     records.pop()
 }
 
-/// Whether something was found, which is this.
-fn is_found<T: PartialEq + Drop>(found: Option<T>, wanted: &T) -> bool {
-    match found {
-        Some(found) => found == *wanted,
-        None => false,
-    }
-}
-
-/// Whether the record in these bytes is written so; where memory was wanting what was written before stands. Nothing where there
-/// was no memory to read it.
-fn is_written(alloc: Global, bytes: &[u8]) -> Option<bool> {
-    let Ok(record) = read_record(alloc, bytes) else {
-        return None;
-    };
-    let mut out = Vec::new(alloc);
-    let written = put_record(&mut out, &record).is_ok()
-        || (out.is_empty() && put_record(&mut out, &record).is_ok());
-    Some(written && out.as_slice() == bytes)
-}
-
-/// Whether the record in these bytes is the first of all; nothing where there was no memory to read it.
+/// Whether the record in these bytes is held, and is written so; where memory was wanting what was written before stands.
 fn is_first(alloc: Global, machine: &mut Machine, bytes: &[u8]) -> Option<bool> {
-    match read_record(alloc, bytes) {
-        Ok(wanted) => Some(is_found(first_record(alloc, machine), &wanted)),
-        Err(_) => None,
-    }
+    let wanted = read_record(alloc, bytes).ok()?;
+    let mut out = Vec::new(alloc);
+    let written = put_record(&mut out, &wanted).is_ok()
+        || (out.is_empty() && put_record(&mut out, &wanted).is_ok());
+    Some(written && out.as_slice() == bytes && first_record(alloc, machine) == Some(wanted))
 }
 
 // ---- scripts
 
-/// A message in hex digits is answered so and leaves that.
-fn is_asked_in_hex(
-    alloc: Global,
-    machine: &mut Machine,
-    now: i64,
-    digits: (&str, &str),
-    left: Left,
-) -> Option<bool> {
-    let message = hex::decode(alloc, digits.0.as_bytes()).ok()?;
-    let want = hex::decode(alloc, digits.1.as_bytes()).ok()?;
-    Some(is_asked(
-        alloc,
-        machine,
-        now,
-        message.as_slice(),
-        want.as_slice(),
-        left,
-    ))
-}
-
-/// An operation of ann at a reading has this code.
-fn is_operated_at(
-    alloc: Global,
-    machine: &mut Machine,
-    reading: i64,
-    operation: (i32, i64, i32),
-    code: Status,
-) -> Option<bool> {
-    let request = request(alloc, reading)?;
-    let (perform, time, written) = operation;
-    Some(is_operated(alloc, machine, &request, perform, time, written, code))
-}
-
-/// A batch of these records comes to this.
-fn are_merged(
-    alloc: Global,
-    machine: &mut Machine,
-    rows: &[Row],
-    want: Result<u32, ExchangeFault>,
-) -> Option<bool> {
-    let batch = batch_of(alloc, rows)?;
-    Some(is_merged(&mut machine.server.replica, &batch, want))
-}
-
-/// The record in these hex digits is written so, and is the first of all.
-fn is_first_in_hex(alloc: Global, machine: &mut Machine, digits: &str) -> Option<bool> {
-    let bytes = hex::decode(alloc, digits.as_bytes()).ok()?;
-    let written = is_written(alloc, bytes.as_slice())?;
-    Some(is_first(alloc, machine, bytes.as_slice())? && written)
-}
-
 fn is_taken(alloc: Global, here: &mut Machine, there: &mut Machine, step: &Step) -> Option<bool> {
-    match step {
+    Some(match step {
         Step::Ask(now, message, want, left) => {
-            is_asked_in_hex(alloc, here, *now, (*message, *want), *left)
+            let message = hex::decode(alloc, message.as_bytes()).ok()?;
+            let want = hex::decode(alloc, want.as_bytes()).ok()?;
+            is_asked(
+                alloc,
+                here,
+                *now,
+                message.as_slice(),
+                want.as_slice(),
+                *left,
+            )
         }
         Step::Operate(reading, perform, time, written, code) => {
-            is_operated_at(alloc, here, *reading, (*perform, *time, *written), *code)
+            let request = request(alloc, *reading)?;
+            is_operated(alloc, here, &request, *perform, *time, *written, *code)
         }
-        Step::Merge(rows, want) => are_merged(alloc, here, rows, *want),
-        Step::Pull(count) => Some(is_pulled(alloc, here, there, *count)),
-        Step::Converse(frames) => Some(is_conversed(alloc, here, there, *frames)),
-        Step::Reload => Some(is_reloaded(here)),
-        Step::Holds(numbers, tick) => {
-            Some(held(&mut here.server.replica) == Some((*numbers, *tick)))
+        Step::Merge(rows, want) => {
+            let batch = batch_of(alloc, rows)?;
+            is_merged(&mut here.server.replica, &batch, *want)
         }
-        Step::First(digits) => is_first_in_hex(alloc, here, digits),
-    }
+        Step::Pull(count) => is_pulled(alloc, here, there, *count),
+        Step::Converse(frames) => is_conversed(alloc, here, there, *frames),
+        Step::Reload => is_reloaded(here),
+        Step::Holds(numbers, tick) => held(&mut here.server.replica) == Some((*numbers, *tick)),
+        Step::First(digits) => {
+            let bytes = hex::decode(alloc, digits.as_bytes()).ok()?;
+            is_first(alloc, here, bytes.as_slice())?
+        }
+    })
 }
 
 fn are_taken(
@@ -517,56 +429,6 @@ fn are_taken(
     Some(true)
 }
 
-/// Whether each step of a script comes to what it says, at these machines.
-fn are_played(
-    alloc: Global,
-    one: &mut Machine,
-    two: &mut Machine,
-    script: &[(u8, &[Step])],
-) -> Option<bool> {
-    for (at, steps) in script {
-        let same = if *at == 1 {
-            are_taken(alloc, one, two, steps)?
-        } else {
-            are_taken(alloc, two, one, steps)?
-        };
-        if !same {
-            return Some(false);
-        }
-    }
-    Some(true)
-}
-
-/// The same, besides how many calls of their stores were refused.
-fn are_played_to_the_end(
-    alloc: Global,
-    one: &mut Machine,
-    two: &mut Machine,
-    script: &[(u8, &[Step])],
-) -> Option<(bool, u64)> {
-    if !are_played(alloc, one, two, script)? {
-        return Some((false, 0));
-    }
-    let faults = one.server.replica.archive.faults();
-    Some((
-        true,
-        faults.saturating_add(two.server.replica.archive.faults()),
-    ))
-}
-
-/// The same beside a second machine that holds nothing, where its `call`-th call is refused.
-fn is_script_beside(
-    alloc: Global,
-    one: &mut Machine,
-    script: &[(u8, &[Step])],
-    call: u64,
-) -> Option<(bool, u64)> {
-    match make_machine(alloc, 2, call) {
-        Some(mut two) => are_played_to_the_end(alloc, one, &mut two, script),
-        None => None,
-    }
-}
-
 /// Whether each step of a script comes to what it says, at two machines that hold nothing, where the `call`-th call of a machine's
 /// store is refused. Besides how many were.
 pub(crate) fn is_script(
@@ -574,8 +436,21 @@ pub(crate) fn is_script(
     script: &[(u8, &[Step])],
     calls: (u64, u64),
 ) -> Option<(bool, u64)> {
-    match make_machine(alloc, 1, calls.0) {
-        Some(mut one) => is_script_beside(alloc, &mut one, script, calls.1),
-        None => None,
+    let mut one = make_machine(alloc, 1, calls.0)?;
+    let mut two = make_machine(alloc, 2, calls.1)?;
+    for (at, steps) in script {
+        let same = if *at == 1 {
+            are_taken(alloc, &mut one, &mut two, steps)?
+        } else {
+            are_taken(alloc, &mut two, &mut one, steps)?
+        };
+        if !same {
+            return Some((false, 0));
+        }
     }
+    let faults = one.server.replica.archive.faults();
+    Some((
+        true,
+        faults.saturating_add(two.server.replica.archive.faults()),
+    ))
 }

@@ -60,45 +60,7 @@ fn joined(alloc: Global, parts: &[&str]) -> Option<String> {
 }
 
 /// Whether a connection is answered so; where memory was wanting, whether that is told, nothing is held by it, and the same
-/// bytes are then answered so.
-fn is_served(
-    server: &mut Server<ScriptedArchive>,
-    text: &str,
-    want: &[&str],
-    ending: Served,
-    ends: &[&str],
-) -> bool {
-    let before = held(&mut server.replica);
-    let first = told(server, text);
-    if is_told(&first, want, ending) {
-        return true;
-    }
-    if !wants(&first, want, ends) || held(&mut server.replica) != before {
-        return false;
-    }
-    let second = told(server, text);
-    is_told(&second, want, ending)
-}
-
-/// The same at a server that holds nothing, and whose store refuses its `call`-th call. Besides how many were refused.
-fn is_served_anew(
-    alloc: Global,
-    text: &str,
-    want: &[&str],
-    ending: Served,
-    ends: &[&str],
-    call: u64,
-) -> Option<(bool, u64)> {
-    let mut server = Server {
-        alloc,
-        settings: Settings::bare(alloc).ok()?,
-        replica: replica_of(alloc, 1, call)?,
-    };
-    let same = is_served(&mut server, text, want, ending, ends);
-    Some((same, server.replica.archive.faults()))
-}
-
-/// The same of a connection in parts.
+/// bytes are then answered so. Besides how many calls of the store were refused.
 pub(crate) fn is_stream(
     alloc: Global,
     input: &[&str],
@@ -108,5 +70,17 @@ pub(crate) fn is_stream(
     call: u64,
 ) -> Option<(bool, u64)> {
     let text = joined(alloc, input)?;
-    is_served_anew(alloc, text.as_str(), want, ending, ends, call)
+    let mut server = Server {
+        alloc,
+        settings: Settings::bare(alloc).ok()?,
+        replica: replica_of(alloc, 1, call)?,
+    };
+    let before = held(&mut server.replica);
+    let first = told(&mut server, text.as_str());
+    let mut same = is_told(&first, want, ending);
+    if !same && wants(&first, want, ends) && held(&mut server.replica) == before {
+        let second = told(&mut server, text.as_str());
+        same = is_told(&second, want, ending);
+    }
+    Some((same, server.replica.archive.faults()))
 }

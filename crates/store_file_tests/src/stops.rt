@@ -2,13 +2,14 @@
 //! crashes, and what is left is opened again: it holds what was learned, or one record more.
 
 use crate::format_one::first_of_five;
-use crate::store_files::{FIVE, empty, learn_five, open_one};
+use crate::store_files::{FIVE, Opened, empty, learn_five, one, open};
 use archive::Archive;
 use history_rows::archives::learn;
 use sqlite::Files;
-use sqlite_disk::{Crash, Fuse, Memory};
+use sqlite_disk::{Crash, Disk, Fuse, Memory};
 use std::alloc::Global;
 use std::test::Fail;
+use uuid::Uuid;
 
 /// The file that is stopped.
 #[derive(Clone, Copy, Debug)]
@@ -49,6 +50,14 @@ fn fuse(files: Files<Memory>, fused: Fused, calls: u64) -> Files<Fuse<Memory>> {
     Files {
         log: Fuse::new(log, log_calls),
         db: Fuse::new(db, db_calls),
+    }
+}
+
+/// Opens the store of replica 1 in these files.
+fn open_one<D: Disk + Drop>(alloc: Global, files: Files<D>) -> Opened<D> {
+    match one() {
+        Ok(number) => open(alloc, files, Uuid::nil(), number),
+        Err(fault) => Err((fault, files)),
     }
 }
 
