@@ -8,6 +8,7 @@ mod fault;
 mod fields;
 mod laws;
 mod nodes;
+mod quoting;
 mod rows;
 mod texts;
 

@@ -10,8 +10,9 @@ ghost use Rattle.history_csv.specs.Rows.{Answers, row_of, value_names, change_na
 use crate::fault::RowFault;
 use crate::fields::{Fields, Row, row_in};
 use crate::nodes::node_text;
+use crate::quoting::row_text;
 use crate::texts::{ValueTexts, change_word, data_texts, moment_text, shown_texts, tick_text};
-use csv::{Error, StringRecord, WriterBuilder};
+use csv::StringRecord;
 use history_text::TextFault;
 use records::{Entry, Held};
 use std::alloc::Global;
@@ -64,19 +65,6 @@ pub fn read_row(alloc: Global, number: u8, record: &StringRecord) -> Result<Row,
 
 // ---- writing
 
-/// A row's text.
-fn row_text(alloc: Global, fields: &[&[u8]]) -> Result<Vec<u8>, Error>
-    ensures { IfOk result (λ text.
-        text.items ≡ row_text default_writer (map (λ field. field.now) fields.now)) }
-{
-    let mut writer = WriterBuilder::new().from_writer(Vec::new(alloc));
-    writer.write_fields(fields)?;
-    match writer.into_inner() {
-        Ok(text) => Ok(text),
-        Err(fault) => Err(fault.into_error()),
-    }
-}
-
 /// Appends a row.
 fn put_row(alloc: Global, out: &mut Vec<u8>, fields: &[&[u8]]) -> Result<(), TextFault>
     ensures put { OnOk result (out.new.items
@@ -84,13 +72,9 @@ fn put_row(alloc: Global, out: &mut Vec<u8>, fields: &[&[u8]]) -> Result<(), Tex
     ensures refused { IfErr result (λ e. e ≡ Why.OutOfMemory) }
     ensures kept { OnErr result (out.new.items ≡ out.old.items) }
 {
-    match row_text(alloc, fields) {
-        Ok(text) => {
-            out.extend_from_slice(text.as_slice())?;
-            Ok(())
-        }
-        Err(_) => Err(TextFault::OutOfMemory),
-    }
+    let text = row_text(alloc, fields)?;
+    out.extend_from_slice(text.as_slice())?;
+    Ok(())
 }
 
 /// Appends the header of a CSV of values, a row of `node`, `time`, `value` and `status`. The one
