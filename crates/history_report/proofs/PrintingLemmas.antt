@@ -21,7 +21,7 @@ use Rattle.history_report.specs.declared.report.Report.{Report}
 use Rattle.history_report.specs.declared.fault.ReportFault.{ReportFault}
 use Rattle.history_report.specs.declared.fault.ReportFault.TheVariants as fault
 use Rattle.history_report.specs.Reports.{AreLines, StopsShort, PrintsWhole, PrintsBehind, ReadsFor, PrintsReport, Prints, report_faults, IsHeader, footer_of, IsValueLine, IsChangeLine, values_asked, changes_asked}
-use Rattle.history_report.specs.Paging.{values_left, changes_left, IsPageOf, GivesPage, Fails, SendsLines, IsSoFar, Printing, PrintsLines, PrintsRows, SendsHeader, SendsFooter}
+use Rattle.history_report.specs.Paging.{values_left, changes_left, IsPageOf, GivesPage, Fails, SendsLines, IsSoFar, Printing, PrintsLines, PrintsRows, SendsHeader, SendsText}
 use Rattle.history_report.proofs.LineLemmas.{lines-append}
 use Rattle.history_report.proofs.PageLemmas.{IsSpanOf, values-all, changes-all}
 
@@ -238,7 +238,7 @@ module _ {X : Type 0} (IsLine : X → List ℕ → Type 0) (HasNoText : X → Ty
   pub footed : (header footer : List ℕ) (xs : List X) (before now middle after : Option (List ℕ))
       (result : Result (Unit {0}) ReportFault) → Appends before now header
       → PrintsLines IsLine HasNoText [] xs now middle (Ok tt)
-      → SendsFooter footer middle after result
+      → SendsText footer middle after result
       → PrintsWhole IsLine HasNoText header footer xs before after result
   footed header footer xs before now middle after (Ok done) first rows sent =
       let (lines, are, appended) =
@@ -411,7 +411,7 @@ module _ (report : Report) (t u w : Store) (numbers : List ℕ) (shown : AreShow
           (all_values (Err why) printed)
 
       end-by : (changes : Bool) (result : Result (Unit {0}) ReportFault)
-          → SendsFooter (footer_of report) middle after result
+          → SendsText (footer_of report) middle after result
           → RowsBy changes report pages R now middle (Ok tt)
           → BehindBy changes report header R before after result
       end-by true result sent printed = footed (IsChangeLine report) (λ e. ShowsTextless e.value)
@@ -422,13 +422,13 @@ module _ (report : Report) (t u w : Store) (numbers : List ℕ) (shown : AreShow
           (all_values (Ok tt) printed) sent
 
     quiet : (result : Result (Unit {0}) ReportFault)
-        → SendsFooter (footer_of report) middle after result → [] ≡ report_faults result
+        → SendsText (footer_of report) middle after result → [] ≡ report_faults result
     quiet (Ok done) sent = refl
     quiet (Err why) (is, part) = ap (λ w. report_faults (Err w)) (sym is)
 
     -- all was printed, or the footer broke off
     pub rows-end : (result : Result (Unit {0}) ReportFault)
-        → SendsFooter (footer_of report) middle after result
+        → SendsText (footer_of report) middle after result
         → ReadsFor u w (Ok tt) (λ R. PrintsRows report pages R now middle (Ok tt))
         → Prints report t w before after result
     rows-end result sent = joined (Ok tt) result (quiet result sent)

@@ -83,14 +83,6 @@ IsPut old new IsLine = (line : List ℕ) × (new ≡ old ++ line) × IsLine line
 abbrev pub IsWhy : (HasNoText : Type 0) → TextFault → Type 0
 IsWhy HasNoText why = (why ≡ Why.OutOfMemory) ⊎ (HasNoText × (why ≡ Why.NoText))
 
--- the lines of these were put behind a text, or of those before the first that isn't put
-abbrev pub PutsLines : {X : Type 0} → (X → List ℕ → Type 0) → (X → Type 0) → List X
-    → (old new : List ℕ) → Result (Unit {0}) TextFault → Type 0
-PutsLines IsLine HasNoText xs old new result =
-    MatchResult result (λ done. IsPut old new (AreLines IsLine xs))
-    (λ why. (k : ℕ) × IsPut old new (AreLines IsLine (take k xs))
-    × IsWhy (IsAt HasNoText xs k) why)
-
 -- what ends a report, by why a line isn't put
 abbrev pub fault_told : TextFault → ReportFault
 fault_told why = elim why [ Why.NoText ↦ fault.NoText | _ ↦ fault.OutOfMemory ]
@@ -98,6 +90,35 @@ fault_told why = elim why [ Why.NoText ↦ fault.NoText | _ ↦ fault.OutOfMemor
 -- the fault isn't one of the store's
 abbrev pub IsOwn : ReportFault → Type 0
 IsOwn why = report_faults (Err why) ≡ []
+
+-- a text was sent, or a first part of it
+abbrev pub SendsText : (text : List ℕ) → (before after : Option (List ℕ))
+    → Result (Unit {0}) ReportFault → Type 0
+SendsText text before after result =
+    MatchResult result (λ done. Appends before after text)
+    (λ why. (why ≡ fault.Write) × AppendsPart before after text)
+
+-- what stands before the rest of a text was sent, or a first part of the text
+abbrev pub SendsFirst : (text rest : List ℕ) → (before after : Option (List ℕ))
+    → Result (Unit {0}) ReportFault → Type 0
+SendsFirst text rest before after result =
+    MatchResult result
+    (λ done. (sent : List ℕ) × (text ≡ sent ++ rest) × Appends before after sent)
+    (λ why. (why ≡ fault.Write) × AppendsPart before after text)
+
+-- a text was sent before this fault, or a first part of it
+abbrev pub SendsBefore : ReportFault → (text : List ℕ) → (before after : Option (List ℕ))
+    → Result (Unit {0}) ReportFault → Type 0
+SendsBefore why text before after result =
+    ((result ≡ Err why) × Appends before after text)
+    ⊎ ((result ≡ Err fault.Write) × AppendsPart before after text)
+
+-- the lines of these were sent, but for this rest of their text
+abbrev pub SentUpTo : {X : Type 0} → (X → List ℕ → Type 0) → List X → (rest : List ℕ)
+    → (before now : Option (List ℕ)) → Type 0
+SentUpTo IsLine xs rest before now =
+    (lines : List ℕ) × (sent : List ℕ) × AreLines IsLine xs lines × (lines ≡ sent ++ rest)
+    × Appends before now sent
 
 -- the lines of these were sent, or a first part of them; before one without a text all of them
 abbrev pub SendsLines : {X : Type 0} → (X → List ℕ → Type 0) → (X → Type 0) → List X
@@ -161,10 +182,3 @@ SendsHeader report before after result =
     (λ why. ((why ≡ fault.OutOfMemory) × Appends before after [])
     ⊎ ((why ≡ fault.Write) × ((header : List ℕ) × IsHeader report header
     × AppendsPart before after header)))
-
--- the footer was sent, or a first part of it
-abbrev pub SendsFooter : (footer : List ℕ) → (before after : Option (List ℕ))
-    → Result (Unit {0}) ReportFault → Type 0
-SendsFooter footer before after result =
-    MatchResult result (λ done. Appends before after footer)
-    (λ why. (why ≡ fault.Write) × AppendsPart before after footer)

@@ -6,7 +6,7 @@ ghost use Rattle.counted_io.specs.Bytes.{counted};
 ghost use Rattle.history_csv.specs.Rows.{IsTextless, ShowsTextless};
 ghost use Rattle.history_report.specs.Html.{IsDrawing};
 ghost use Rattle.history_report.specs.Reports.{Prints, ReadsFor, IsValueLine, IsChangeLine, footer_of};
-ghost use Rattle.history_report.specs.Paging.{Printing, PrintsLines, PrintsRows, SendsHeader, SendsFooter, values_left, changes_left};
+ghost use Rattle.history_report.specs.Paging.{Printing, PrintsLines, PrintsRows, SendsHeader, SendsText, values_left, changes_left};
 
 use crate::drawing::put_drawing;
 use crate::fault::ReportFault;
@@ -140,7 +140,7 @@ fn print_rows<A: Archive, W: Write>(
 
 /// Prints the footer.
 fn send_footer<W: Write>(report: &Report, output: &mut Counted<W>) -> Result<(), ReportFault>
-    ensures sends { SendsFooter (footer_of report.now) (W.contents output.old.inner)
+    ensures sends { SendsText (footer_of report.now) (W.contents output.old.inner)
         (W.contents output.new.inner) result }
     ensures write { IsErrOf result ReportFault.Write
         → output.new.faults ≡ counted output.old.faults }
@@ -155,7 +155,8 @@ fn send_footer<W: Write>(report: &Report, output: &mut Counted<W>) -> Result<(),
 /// Prints a node's history: a header, a line for each live value, or for each modification, whose
 /// source time is at `from` or later and before `to`, in the order of time, of one time the newest
 /// modification first, and a footer. `form` says what these are: `Form` has them. The archive stays
-/// as it is. At most a hundred values are in memory at a time.
+/// as it is. At most a hundred values are in memory at a time, and of what is written of them 64 KiB
+/// and a line.
 ///
 /// Errors: `Store` where the archive met a fault of its store, `NoText` where the next value has no
 /// text (all lines before it stand), `Write` where a write failed (the writer's `faults` rose),

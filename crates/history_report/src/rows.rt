@@ -1,10 +1,10 @@
 //! What a line is printed of, and many of them at once.
 
-ghost use Rattle.std.specs.Prelude.{◌≡◌, IsErrOf};
+ghost use Rattle.std.specs.Prelude.{◌≡◌, ◌<◌, [], length, IsErrOf, OnOk};
 ghost use Rattle.counted_io.specs.Bytes.{counted};
 ghost use Rattle.history_csv.specs.Rows.{IsTextless, ShowsTextless};
 ghost use Rattle.history_report.specs.Reports.{IsValueLine, IsChangeLine};
-ghost use Rattle.history_report.specs.Paging.{PutsLines, SendsLines, fault_told};
+ghost use Rattle.history_report.specs.Paging.{SendsText, SendsFirst, SendsBefore, SendsLines, fault_told};
 
 use crate::fault::ReportFault;
 use crate::lines::{put_change_line, put_value_line};
@@ -14,6 +14,9 @@ use history_text::TextFault;
 use records::{Entry, Held};
 use std::alloc::Global;
 use std::io::Write;
+
+/// How long a text is made before it is printed.
+const LONG: usize = 65_536;
 
 /// A live value, or a modification.
 pub(crate) trait Row {
@@ -56,25 +59,6 @@ impl Row for Entry {
     }
 }
 
-/// Appends a line for each row, up to one that isn't put.
-fn put_rows<T: Row>(
-    alloc: Global,
-    report: &Report,
-    rows: &[T],
-    out: &mut Vec<u8>,
-) -> Result<(), TextFault>
-    ensures { PutsLines (T.is_line report.now) T.is_textless rows.now out.old.items out.new.items
-        result }
-{
-    for row in rows {
-        match row.put_line(alloc, report, out) {
-            Ok(()) => {}
-            Err(fault) => return Err(fault),
-        }
-    }
-    Ok(())
-}
-
 /// What ends a report, by why a text wasn't put.
 pub(crate) fn fault_of(fault: TextFault) -> ReportFault
     ensures { result ≡ fault_told fault }
@@ -85,7 +69,60 @@ pub(crate) fn fault_of(fault: TextFault) -> ReportFault
     }
 }
 
-/// Prints a line for each row, up to one that can't be put; `text` is where they are made.
+/// Prints a text, and empties it.
+fn send_text<W: Write>(text: &mut Vec<u8>, output: &mut Counted<W>) -> Result<(), ReportFault>
+    ensures sends { SendsText text.old.items (W.contents output.old.inner)
+        (W.contents output.new.inner) result }
+    ensures empty { OnOk result (text.new.items ≡ []) }
+    ensures write { IsErrOf result ReportFault.Write
+        → output.new.faults ≡ counted output.old.faults }
+    ensures kept { (IsErrOf result ReportFault.Write → ⊥) → output.new.faults ≡ output.old.faults }
+{
+    match output.send(text.as_slice()) {
+        Ok(()) => {
+            text.clear();
+            Ok(())
+        }
+        Err(_) => Err(ReportFault::Write),
+    }
+}
+
+/// Prints a text that has grown long, and empties it.
+fn send_long<W: Write>(text: &mut Vec<u8>, output: &mut Counted<W>) -> Result<(), ReportFault>
+    ensures sends { SendsFirst text.old.items text.new.items (W.contents output.old.inner)
+        (W.contents output.new.inner) result }
+    ensures short { OnOk result (length text.new.items < 65_536) }
+    ensures write { IsErrOf result ReportFault.Write
+        → output.new.faults ≡ counted output.old.faults }
+    ensures kept { (IsErrOf result ReportFault.Write → ⊥) → output.new.faults ≡ output.old.faults }
+{
+    if text.len() < LONG {
+        Ok(())
+    } else {
+        send_text(text, output)
+    }
+}
+
+/// Prints the text of the lines before one that isn't put, and tells why that isn't.
+fn send_before<W: Write>(
+    fault: TextFault,
+    text: &mut Vec<u8>,
+    output: &mut Counted<W>,
+) -> Result<(), ReportFault>
+    ensures sends { SendsBefore (fault_told fault) text.old.items (W.contents output.old.inner)
+        (W.contents output.new.inner) result }
+    ensures write { IsErrOf result ReportFault.Write
+        → output.new.faults ≡ counted output.old.faults }
+    ensures kept { (IsErrOf result ReportFault.Write → ⊥) → output.new.faults ≡ output.old.faults }
+{
+    match send_text(text, output) {
+        Ok(()) => Err(fault_of(fault)),
+        Err(fault) => Err(fault),
+    }
+}
+
+/// Prints a line for each row, up to one that can't be put. In `text` stands what is still to be
+/// printed: less than `LONG`, and one row.
 pub(crate) fn send_rows<T: Row, W: Write>(
     alloc: Global,
     report: &Report,
@@ -100,13 +137,15 @@ pub(crate) fn send_rows<T: Row, W: Write>(
     ensures kept { (IsErrOf result ReportFault.Write → ⊥) → output.new.faults ≡ output.old.faults }
 {
     text.clear();
-    let put = put_rows(alloc, report, rows, text);
-    match output.send(text.as_slice()) {
-        Ok(()) => {}
-        Err(_) => return Err(ReportFault::Write),
+    for row in rows {
+        match row.put_line(alloc, report, text) {
+            Ok(()) => {}
+            Err(fault) => return send_before(fault, text, output),
+        }
+        match send_long(text, output) {
+            Ok(()) => {}
+            Err(fault) => return Err(fault),
+        }
     }
-    match put {
-        Ok(()) => Ok(()),
-        Err(fault) => Err(fault_of(fault)),
-    }
+    send_text(text, output)
 }

@@ -4,6 +4,8 @@
 #[cfg(test)]
 mod csv_rows;
 #[cfg(test)]
+mod long_values;
+#[cfg(test)]
 mod moments;
 #[cfg(test)]
 mod node_ids;

@@ -19,16 +19,17 @@ const NOON: i64 = 134_168_400_000_000_000;
 /// A second.
 const SECOND: i64 = 10_000_000;
 
-/// What is written: a text, or the node of Objects, which has no text.
+/// What is written: a text, so many quotes, or the node of Objects, which has no text.
 #[derive(Clone, Copy)]
-enum Written {
+pub(crate) enum Written {
     Text(&'static str),
+    Quotes(u16),
     Objects,
     Nothing,
 }
 
 /// An update: its node, seconds behind noon, what was asked, and what is written.
-type Row = (&'static str, i64, HistoryUpdateType, Written);
+pub(crate) type Row = (&'static str, i64, HistoryUpdateType, Written);
 
 /// A node whose name would be markup.
 const MARKED: &str = "ns=1;s=<a href=\"x\">&";
@@ -64,11 +65,24 @@ pub(crate) fn node_of(alloc: Global, text: &str) -> Result<NodeId, StoreFault> {
     }
 }
 
+/// A text of so many quotes.
+fn quotes(alloc: Global, count: u16) -> Result<Text, AllocError> {
+    let mut text = String::new(alloc);
+    for _ in 0..count {
+        text.push('"')?;
+    }
+    Text::from_str(alloc, text.as_str())
+}
+
 /// What is written, as a value.
 fn variant_of(alloc: Global, written: Written) -> Result<Option<Variant>, StoreFault> {
     match written {
         Written::Text(text) => {
             let text = Text::from_str(alloc, text)?;
+            Ok(Some(Variant::Scalar(Scalar::String(Some(text)))))
+        }
+        Written::Quotes(count) => {
+            let text = quotes(alloc, count)?;
             Ok(Some(Variant::Scalar(Scalar::String(Some(text)))))
         }
         Written::Objects => Ok(Some(Variant::Scalar(Scalar::NodeId(NodeId::Numeric(0, 85))))),
@@ -105,7 +119,7 @@ fn record_of(alloc: Global, number: u64, row: &Row) -> Result<Record, StoreFault
 }
 
 /// What an archive answers to an update.
-fn learn<A: Archive>(
+pub(crate) fn learn<A: Archive>(
     alloc: Global,
     archive: &mut A,
     number: u64,
