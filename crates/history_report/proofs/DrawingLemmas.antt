@@ -2,7 +2,7 @@
 use Rattle.std.proofs.Common.{◌≡◌, ℕ, ◌&&◌, true, false, List, [], ◌∷◌, ◌++◌, append-nil, append_assoc, codes, refl, sym, ap, ◌∙◌, subst, inl, inr}
 use Rattle.std.proofs.lemmas.List.Folds.{list_all-append}
 use Rattle.history_report.specs.declared.report.Report.{Report}
-use Rattle.history_report.specs.Html.{is_path_byte, figure_begin, edge, IsPath, IsEdge, AreEdges, IsPlot, IsFigure, IsDrawing}
+use Rattle.history_report.specs.Html.{is_path_byte, figure_begin, edge, IsPath, IsEdge, AreEdges, IsFigureLine, AreMarks, IsPlot, IsFigure, IsDrawing}
 use Rattle.history_report.specs.Paging.{IsPut}
 
 -- ---- a path
@@ -50,12 +50,34 @@ edges-put old one two three new (a, p, (high, is_high)) (b, q, (low, is_low))
       ),
     )
 
-pub plot-put : (old one two new path : List ℕ) → IsPath path → one ≡ old ++ figure_begin
-    → two ≡ one ++ path → new ≡ two ++ codes "\"/></svg>\n" → IsPut old new IsPlot
-plot-put old one two new path is p q r = (
-  figure_begin ++ path ++ codes "\"/></svg>\n",
-  behind_three old figure_begin path (codes "\"/></svg>\n") one two new p q r,
+pub line-put : (old one two new path : List ℕ) → IsPath path → one ≡ old ++ figure_begin
+    → two ≡ one ++ path → new ≡ two ++ codes "\"/>" → IsPut old new IsFigureLine
+line-put old one two new path is p q r = (
+  figure_begin ++ path ++ codes "\"/>",
+  behind_three old figure_begin path (codes "\"/>") one two new p q r,
   (path, is, refl),
+)
+
+-- no marks
+pub unmarked-put : (old : List ℕ) → IsPut old old AreMarks
+unmarked-put old = ([], sym (append-nil old), inl refl)
+
+pub marks-put : (old one two new path : List ℕ) → IsPath path
+    → one ≡ old ++ codes "<path class=\"old\" d=\"" → two ≡ one ++ path
+    → new ≡ two ++ codes "\"><title>Corrected</title></path>" → IsPut old new AreMarks
+marks-put old one two new path is p q r = (
+  codes "<path class=\"old\" d=\"" ++ path ++ codes "\"><title>Corrected</title></path>",
+  behind_three old (codes "<path class=\"old\" d=\"") path
+      (codes "\"><title>Corrected</title></path>") one two new p q r,
+  inr (path, is, refl),
+)
+
+pub plot-put : (old one two new : List ℕ) → IsPut old one IsFigureLine → IsPut one two AreMarks
+    → new ≡ two ++ codes "</svg>\n" → IsPut old new IsPlot
+plot-put old one two new (line, p, is_line) (marks, q, are) r = (
+  line ++ marks ++ codes "</svg>\n",
+  behind_three old line marks (codes "</svg>\n") one two new p q r,
+  (line, marks, is_line, are, refl),
 )
 
 pub figure-put : (old one two new : List ℕ) → IsPut old one IsPlot → IsPut one two AreEdges

@@ -97,11 +97,12 @@ cell_style =
     ++ codes ".delete td:first-child{box-shadow:inset .25rem 0 #c33}\n"
     ++ codes ".delete td:nth-child(2){text-decoration:line-through}\n"
 
--- where the texts of a drawing's edges stand: the highest and the lowest number at its left, the
--- first and the last time below it
+-- the color of a drawing's marks, and where the texts of its edges stand: the highest and the
+-- lowest number at its left, the first and the last time below it
 unfoldable pub edge_style : List ℕ
 edge_style =
-    codes "span:nth-of-type(1){grid-area:1/1;text-align:right}\n"
+    codes ".old{stroke:#d90}\n"
+    ++ codes "span:nth-of-type(1){grid-area:1/1;text-align:right}\n"
     ++ codes "span:nth-of-type(2){grid-area:2/1;text-align:right;align-self:end}\n"
     ++ codes "span:nth-of-type(3){grid-area:3/2}\n"
     ++ codes "span:nth-of-type(4){grid-area:3/3;text-align:right}\n"
@@ -166,12 +167,24 @@ AreEdges shown =
     (high : List ℕ) × (low : List ℕ) × (first : List ℕ) × (last : List ℕ)
     × (shown ≡ edge high ++ edge low ++ edge first ++ edge last)
 
--- a drawing up to the texts at its edges: its path
+-- the line of a drawing: its path
+abbrev pub IsFigureLine : List ℕ → Type 0
+IsFigureLine shown = (path : List ℕ) × IsPath path × (shown ≡ figure_begin ++ path ++ codes "\"/>")
+
+-- the marks of a drawing, where values were corrected: nothing, or a path of its own
+abbrev pub AreMarks : List ℕ → Type 0
+AreMarks shown =
+    (shown ≡ []) ⊎ ((path : List ℕ) × IsPath path
+    × (shown ≡ codes "<path class=\"old\" d=\"" ++ path
+    ++ codes "\"><title>Corrected</title></path>"))
+
+-- a drawing up to the texts at its edges: its line and its marks
 abbrev pub IsPlot : List ℕ → Type 0
 IsPlot shown =
-    (path : List ℕ) × IsPath path × (shown ≡ figure_begin ++ path ++ codes "\"/></svg>\n")
+    (line : List ℕ) × (marks : List ℕ) × IsFigureLine line × AreMarks marks
+    × (shown ≡ line ++ marks ++ codes "</svg>\n")
 
--- a drawing: its path, and the texts at its edges
+-- a drawing: its line and its marks, and the texts at its edges
 abbrev pub IsFigure : List ℕ → Type 0
 IsFigure shown =
     (plot : List ℕ) × (edges : List ℕ) × IsPlot plot × AreEdges edges

@@ -1,13 +1,13 @@
 //! A drawing, with the texts at its edges.
 
 ghost use Rattle.std.specs.Prelude.{◌≡◌, ◌++◌, OnOk};
-ghost use Rattle.history_report.specs.Html.{figure_begin, edge, IsEdge, AreEdges, IsPlot, IsFigure};
+ghost use Rattle.history_report.specs.Html.{figure_begin, edge, IsEdge, AreEdges, IsFigureLine, AreMarks, IsPlot, IsFigure};
 ghost use Rattle.history_report.specs.Paging.{IsPut};
 
 use crate::html::{moment_text, put_escaped};
 use crate::number::{Number, number_text};
-use crate::path::path_of;
-use crate::trend::{Columns, Edges};
+use crate::path::{marks_of, path_of};
+use crate::trend::{Column, Columns, Edges};
 use history_text::TextFault;
 use records::Moment;
 use std::alloc::{AllocError, Global};
@@ -59,14 +59,38 @@ fn put_edges(alloc: Global, edges: Edges, out: &mut Vec<u8>) -> Result<(), TextF
     Ok(())
 }
 
-/// Appends a drawing's path, and what stands before and behind it.
-fn put_plot(alloc: Global, columns: &Columns, out: &mut Vec<u8>) -> Result<(), AllocError>
-    ensures { OnOk result (IsPut out.old.items out.new.items IsPlot) }
+/// Appends a drawing's marks, nothing where there are none.
+fn put_marks(alloc: Global, columns: &[Column], out: &mut Vec<u8>) -> Result<(), AllocError>
+    ensures { OnOk result (IsPut out.old.items out.new.items AreMarks) }
 {
-    let path = path_of(alloc, columns.columns.as_slice())?;
+    let marks = marks_of(alloc, columns)?;
+    if marks.is_empty() {
+        return Ok(());
+    }
+    out.extend_from_slice(b"<path class=\"old\" d=\"")?;
+    out.extend_from_slice(marks.as_slice())?;
+    out.extend_from_slice(b"\"><title>Corrected</title></path>")?;
+    Ok(())
+}
+
+/// Appends a drawing's path, and what stands before it.
+fn put_line(alloc: Global, columns: &[Column], out: &mut Vec<u8>) -> Result<(), AllocError>
+    ensures { OnOk result (IsPut out.old.items out.new.items IsFigureLine) }
+{
+    let path = path_of(alloc, columns)?;
     out.extend_from_slice(figure_begin())?;
     out.extend_from_slice(path.as_slice())?;
-    out.extend_from_slice(b"\"/></svg>\n")?;
+    out.extend_from_slice(b"\"/>")?;
+    Ok(())
+}
+
+/// Appends a drawing up to the texts at its edges: its path and its marks.
+fn put_plot(alloc: Global, columns: &[Column], out: &mut Vec<u8>) -> Result<(), AllocError>
+    ensures { OnOk result (IsPut out.old.items out.new.items IsPlot) }
+{
+    put_line(alloc, columns, out)?;
+    put_marks(alloc, columns, out)?;
+    out.extend_from_slice(b"</svg>\n")?;
     Ok(())
 }
 
@@ -78,7 +102,7 @@ pub(crate) fn put_figure(
 ) -> Result<(), TextFault>
     ensures { OnOk result (IsPut out.old.items out.new.items IsFigure) }
 {
-    put_plot(alloc, columns, out)?;
+    put_plot(alloc, columns.columns.as_slice(), out)?;
     put_edges(alloc, columns.edges, out)?;
     out.extend_from_slice(b"\n</figure>\n")?;
     Ok(())

@@ -167,6 +167,7 @@ fn page_middle() -> &'static [u8]
       svg{grid-area:1/2/3/4;width:100%;height:12rem;overflow:visible}\n\
       path{fill:none;stroke:currentColor;stroke-width:1.5px;stroke-linecap:round}\n\
       path{stroke-linejoin:round;vector-effect:non-scaling-stroke}\n\
+      .old{stroke:#d90}\n\
       span:nth-of-type(1){grid-area:1/1;text-align:right}\n\
       span:nth-of-type(2){grid-area:2/1;text-align:right;align-self:end}\n\
       span:nth-of-type(3){grid-area:3/2}\n\

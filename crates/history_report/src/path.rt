@@ -3,8 +3,11 @@
 ghost use Rattle.std.specs.Prelude.{◌≡◌, IfOk, OnOk};
 ghost use Rattle.history_report.specs.Html.{IsPath};
 
-use crate::trend::Column;
+use crate::trend::{Column, HEIGHT};
 use std::alloc::{AllocError, Global};
+
+/// To which depth a mark goes up from the lower edge.
+const MARK: u16 = 950;
 
 /// Appends a number's last digit.
 fn put_digit(path: &mut Vec<u8>, number: u16) -> Result<(), AllocError>
@@ -152,5 +155,48 @@ pub(crate) fn path_of(alloc: Global, columns: &[Column]) -> Result<Vec<u8>, Allo
 {
     let mut path = Vec::new(alloc);
     put_path(&mut path, columns)?;
+    Ok(path)
+}
+
+/// Appends a mark at the lower edge.
+fn put_mark(path: &mut Vec<u8>, place: u16) -> Result<(), AllocError>
+    ensures { OnOk result (IsPath path.old.items → IsPath path.new.items) }
+{
+    path.push(b'M')?;
+    put_number(path, place)?;
+    path.push(b' ')?;
+    put_number(path, HEIGHT)?;
+    put_along(path, HEIGHT, MARK)
+}
+
+/// Appends the mark of a column, where a value of it was corrected.
+fn put_marked(path: &mut Vec<u8>, place: u16, column: Column) -> Result<(), AllocError>
+    ensures { OnOk result (IsPath path.old.items → IsPath path.new.items) }
+{
+    if column.corrected {
+        put_mark(path, place)
+    } else {
+        Ok(())
+    }
+}
+
+/// Appends the marks of columns.
+fn put_marks(path: &mut Vec<u8>, columns: &[Column]) -> Result<(), AllocError>
+    ensures { OnOk result (IsPath path.old.items → IsPath path.new.items) }
+{
+    let mut place = 0u16;
+    for column in columns {
+        put_marked(path, place, *column)?;
+        place = place.saturating_add(1);
+    }
+    Ok(())
+}
+
+/// The marks of columns: a short step at the lower edge of each in which a value was corrected.
+pub(crate) fn marks_of(alloc: Global, columns: &[Column]) -> Result<Vec<u8>, AllocError>
+    ensures { IfOk result (λ path. IsPath path.items) }
+{
+    let mut path = Vec::new(alloc);
+    put_marks(&mut path, columns)?;
     Ok(path)
 }

@@ -155,8 +155,8 @@ fn send_footer<W: Write>(report: &Report, output: &mut Counted<W>) -> Result<(),
 /// Prints a node's history: a header, a line for each live value, or for each modification, whose
 /// source time is at `from` or later and before `to`, in the order of time, of one time the newest
 /// modification first, and a footer. `form` says what these are: `Form` has them. The archive stays
-/// as it is. At most a hundred values are in memory at a time, and of what is written of them 64 KiB
-/// and a line.
+/// as it is. At most a hundred values are in memory at a time, and of what is written of them
+/// 64 KiB and a line.
 ///
 /// Errors: `Store` where the archive met a fault of its store, `NoText` where the next value has no
 /// text (all lines before it stand), `Write` where a write failed (the writer's `faults` rose),

@@ -9,7 +9,7 @@ use std::num::saturating_f64_to_u16;
 const COLUMNS: u16 = 1000;
 
 /// How high a drawing is.
-const HEIGHT: u16 = 1000;
+pub(crate) const HEIGHT: u16 = 1000;
 
 /// What looks at live values, one after the other.
 pub(crate) trait Watch {
@@ -55,6 +55,11 @@ impl Edges {
         }
     }
 
+    /// Whether a time is between the first and the last.
+    fn include(self, time: Moment) -> bool {
+        self.first <= time && time <= self.last
+    }
+
     /// The column of a time.
     fn column(self, time: Moment) -> u16 {
         if time.ticks <= self.first.ticks {
@@ -98,9 +103,11 @@ impl Watch for Seen {
     }
 }
 
-/// What a column has of the numbers of its times.
+/// What a column has of the values of its times.
 #[derive(Clone, Copy)]
 pub(crate) struct Column {
+    /// One of its values was corrected: another record stands at its time.
+    pub(crate) corrected: bool,
     /// It has a number.
     pub(crate) drawn: bool,
     /// A gap is before its first number.
@@ -117,6 +124,7 @@ pub(crate) struct Column {
 impl Column {
     /// It has nothing.
     const EMPTY: Column = Column {
+        corrected: false,
         drawn: false,
         opens: false,
         closes: false,
@@ -125,6 +133,14 @@ impl Column {
         high: 0,
         last: 0,
     };
+
+    /// A value comes, and whether it was corrected.
+    fn with_mark(self, corrected: bool) -> Column {
+        Column {
+            corrected: self.corrected || corrected,
+            ..self
+        }
+    }
 
     /// A gap comes.
     fn with_gap(self) -> Column {
@@ -139,6 +155,7 @@ impl Column {
     fn with(self, depth: u16) -> Column {
         if !self.drawn {
             return Column {
+                corrected: self.corrected,
                 drawn: true,
                 opens: self.opens,
                 closes: false,
@@ -180,7 +197,7 @@ impl Watch for Columns {
     fn see(&mut self, held: &Held) {
         let place = usize::from(self.edges.column(held.time));
         if place < self.columns.len() {
-            let column = self.columns[place];
+            let column = self.columns[place].with_mark(held.extra && self.edges.include(held.time));
             self.columns[place] = match number_of(held) {
                 Some(number) => column.with(self.edges.depth(number)),
                 None => column.with_gap(),

@@ -69,8 +69,8 @@ fn whole_csv(alloc: Global) -> Result<Vec<u8>, AllocError> {
     Ok(text)
 }
 
-/// Prints the values of an archive to a writer with so much room: how it ends, how many writes failed,
-/// and what was written.
+/// Prints the values of an archive to a writer with so much room: how it ends, how many writes
+/// failed, and what was written.
 fn printed<A: Archive>(
     alloc: Global,
     archive: &mut A,

@@ -142,7 +142,7 @@ const BAD: u32 = 0x8000_0000;
 const UNCERTAIN: u32 = 0x4000_0000;
 
 /// Cases.
-static CASES: [Case; 8] = [
+static CASES: [Case; 11] = [
     // steps: a value holds until the next one
     (
         &[
@@ -215,6 +215,48 @@ static CASES: [Case; 8] = [
             (200, Kind::Double(1.7976931348623157e308), 0),
         ],
         b"d=\"M0 1000H0H499V500H999V0\"/></svg>",
+    ),
+    // a mark where a number was corrected
+    (
+        &[
+            (0, Kind::Double(0.0), 0),
+            (500, Kind::Double(7.0), 0),
+            (500, Kind::Double(5.0), 0),
+            (999, Kind::Double(10.0), 0),
+        ],
+        b"d=\"M0 1000H0H500V500H999V0\"/><path class=\"old\" d=\"M500 1000V950\">\
+          <title>Corrected</title></path></svg>\n<span>10.0</span>",
+    ),
+    // marks at the first and the last number, and at a gap, but not beyond these; one mark a column
+    (
+        &[
+            (0, Kind::Words, 0),
+            (0, Kind::Missing, 0),
+            (1, Kind::Double(9.0), 0),
+            (1, Kind::Double(1.0), 0),
+            (251_001, Kind::Double(1.5), 0),
+            (251_001, Kind::Words, 0),
+            (501_000, Kind::Double(4.0), 0),
+            (501_001, Kind::Double(4.0), BAD),
+            (501_001, Kind::Double(3.0), 0),
+            (501_002, Kind::Double(4.0), 0),
+            (501_002, Kind::Double(2.0), 0),
+            (999_001, Kind::Double(1.0), 0),
+            (999_001, Kind::Double(2.0), 0),
+            (999_002, Kind::Double(5.0), BAD),
+            (999_002, Kind::Double(6.0), BAD),
+        ],
+        b"<path class=\"old\" d=\"M0 1000V950M251 1000V950M501 1000V950M999 1000V950\"><title>",
+    ),
+    // no mark, where no value of a number was corrected
+    (
+        &[
+            (0, Kind::Words, 0),
+            (0, Kind::Missing, 0),
+            (1, Kind::Double(1.0), 0),
+            (2, Kind::Double(2.0), 0),
+        ],
+        b"d=\"M0 1000H0H999V0\"/></svg>",
     ),
     // nothing is drawn
     (
