@@ -1,0 +1,46 @@
+-- What is appended field by field is appended as a whole.
+use Rattle.std.proofs.Common.{◌≡◌, ℕ, List, ◌++◌, append_assoc, ap, ◌∙◌}
+use Rattle.std.specs.Prelude.{codes}
+use Rattle.std.specs.Fmt.{decimal}
+use Rattle.web_request.specs.Heads.{connection_text, facts, field, guards, kind_text}
+use Rattle.web_request.specs.declared.answer.Answer.{Answer}
+
+-- two steps are one
+joined : (o a c x y : List ℕ) → a ≡ o ++ x → c ≡ a ++ y → c ≡ o ++ (x ++ y)
+joined o a c x y p q = q ∙ (ap (λ l. l ++ y) p ∙ append_assoc o x y)
+
+-- three steps are one
+three : (o a b c x y z : List ℕ) → a ≡ o ++ x → b ≡ a ++ y → c ≡ b ++ z
+    → c ≡ o ++ ((x ++ y) ++ z)
+three o a b c x y z p q r = joined o b c (x ++ y) z (joined o a b x y p q) r
+
+-- the fields that tell of the body and of the connection
+pub told : (answer : Answer) (o a b c kind length connection : List ℕ)
+    → kind ≡ kind_text answer.kind → length ≡ decimal answer.length
+    → connection ≡ connection_text answer.keeps_open
+    → a ≡ o ++ field (codes "Content-Type") kind
+    → b ≡ a ++ field (codes "Content-Length") length
+    → c ≡ b ++ field (codes "Connection") connection → c ≡ o ++ facts answer
+told answer o a b c kind length connection k l n p q r =
+    three o a b c (field (codes "Content-Type") kind) (field (codes "Content-Length") length)
+    (field (codes "Connection") connection) p q r
+    ∙ (λ i. o ++ ((field (codes "Content-Type") (k i) ++ field (codes "Content-Length") (l i))
+    ++ field (codes "Connection") (n i)))
+
+-- the fields that every answer has
+pub guarded : (o a b c d e : List ℕ)
+    → a ≡ o ++ field (codes "Cache-Control") (codes "no-store")
+    → b ≡ a ++ field (codes "Content-Security-Policy")
+    (codes "default-src 'none'; style-src 'unsafe-inline'")
+    → c ≡ b ++ field (codes "X-Content-Type-Options") (codes "nosniff")
+    → d ≡ c ++ field (codes "X-Frame-Options") (codes "DENY")
+    → e ≡ d ++ field (codes "Referrer-Policy") (codes "no-referrer") → e ≡ o ++ guards
+unfolding guards
+guarded o a b c d e p q r s t =
+    let x = field (codes "Cache-Control") (codes "no-store") in
+    let y = field (codes "Content-Security-Policy")
+    (codes "default-src 'none'; style-src 'unsafe-inline'") in
+    let z = field (codes "X-Content-Type-Options") (codes "nosniff") in
+    let v = field (codes "X-Frame-Options") (codes "DENY") in
+    let w = field (codes "Referrer-Policy") (codes "no-referrer") in
+    three o c d e ((x ++ y) ++ z) v w (three o a b c x y z p q r) s t

@@ -1,0 +1,4 @@
+pub mod Appending
+pub mod Firsts
+pub mod Mapped
+pub mod Pairs
