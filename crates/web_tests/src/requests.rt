@@ -112,13 +112,19 @@ fn pages_are_asked_for(rt: HostRuntime) {
     }
 }
 
-/// What a history is asked by.
-fn question_in(alloc: Global, text: &str) -> Option<Question> {
-    match request_in(alloc, text)?.page {
+/// Which history a page is of.
+fn question_of(page: Page) -> Option<Question> {
+    match page {
         Page::History(question) => Some(question),
         Page::Csv(question) => Some(question),
         _ => None,
     }
+}
+
+/// What a history is asked by.
+fn question_in(alloc: Global, text: &str) -> Option<Question> {
+    let Request { page, .. } = request_in(alloc, text)?;
+    question_of(page)
 }
 
 /// Whether a moment is the one that a text says; no text says none.
