@@ -142,21 +142,51 @@ whole-range R node way lawful =
     ap (in_direction way) (filter-whole (λ h. is_between (pos 0) greatest_time h.time)
     (lives R node) (λ h k. all_between h.time (live_time R node h lawful k)))
 
--- what is told of the first of a range of one is told of the first live value
-pub end-is : (R : Content) (node : NodeId) (wanted : Option ValueType) (way : Direction)
-    (within : List ℕ) (from to : ℤ) (values : List Held) → from ≡ pos 0 → to ≡ greatest_time
+-- the first of a range of one is the first live value
+pub first-is : (R : Content) (node : NodeId) (way : Direction) (within : List ℕ) (from to : ℤ)
+    (values : List Held) → from ≡ pos 0 → to ≡ greatest_time
     → IsLawfulContent R → IsVectorOf within R
     → values ≡ take 1 (range_of (cut R (number_of within)) node from to way)
-    → option_map (seen_of wanted) (slice_get values 0) ≡ end_of R node wanted way
-end-is R node wanted way within from to values low high lawful same is =
-    ap (option_map (seen_of wanted))
-    (ap (λ (l : List Held). slice_get l 0) is
+    → slice_get values 0 ≡ slice_get (in_direction way (lives R node)) 0
+first-is R node way within from to values low high lawful same is =
+    ap (λ (l : List Held). slice_get l 0) is
     ∙ (first-taken (range_of (cut R (number_of within)) node from to way)
     ∙ ap (λ (l : List Held). slice_get l 0)
     (ap (λ (C : Content). range_of C node from to way) (cut-own R within lawful same)
     ∙ (ap (λ (t : ℤ). range_of R node t to way) low
     ∙ (ap (λ (t : ℤ). range_of R node (pos 0) t way) high
-    ∙ whole-range R node way lawful)))))
+    ∙ whole-range R node way lawful))))
+
+-- a range of one was asked for
+pub first-asked : {A : Type 0} (items : A → List Held) (old new : Store)
+    (result : Result A StoreFault) (node : NodeId) (way : Direction) (within : List ℕ)
+    (from to : ℤ) → from ≡ pos 0 → to ≡ greatest_time
+    → Asks old new result (λ v. items v
+    ≡ take 1 (range_of (cut old.content (number_of within)) node from to way))
+    → MatchResult result (λ v. Reads old new [] (λ R. IsVectorOf within R
+    → slice_get (items v) 0 ≡ slice_get (in_direction way (lives R node)) 0))
+    (λ why. Reads old new (why ∷ []) (λ R. ⊤))
+first-asked {A} items old new (Ok v) node way within from to low high asks =
+    let range = λ (R : Content). take 1 (range_of (cut R (number_of within)) node from to way) in
+    reads-as old new [] (λ R. IsLawfulContent R × (items v ≡ range R))
+    (λ R. IsVectorOf within R
+    → slice_get (items v) 0 ≡ slice_get (in_direction way (lives R node)) 0)
+    (λ R p same. first-is R node way within from to (items v) low high p.0 same p.1)
+    (reads-answer old new (λ R (a : A). items a ≡ range R) v asks)
+first-asked items old new (Err why) node way within from to low high asks =
+    reads-fault old new why _ asks
+
+-- what is told of the first of some values is told of the first live value
+pub seen-is : (R : Content) (node : NodeId) (wanted asked : Option ValueType) (way : Direction)
+    (values : List Held) (slice : List Held) (seen : Option Seen)
+    → seen ≡ option_map (seen_of wanted) (slice_get slice 0) → slice ≡ values → wanted ≡ asked
+    → slice_get values 0 ≡ slice_get (in_direction way (lives R node)) 0
+    → seen ≡ end_of R node asked way
+seen-is R node wanted asked way values slice seen told same is first =
+    told
+    ∙ (ap (λ (l : List Held). option_map (seen_of wanted) (slice_get l 0)) same
+    ∙ (ap (option_map (seen_of wanted)) first
+    ∙ ap (λ (t : Option ValueType). end_of R node t way) is))
 
 -- ---- what is printed
 

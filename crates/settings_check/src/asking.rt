@@ -2,10 +2,11 @@
 
 ghost use Rattle.std.specs.Prelude.{◌≡◌, [], ◌∷◌, ⊤, pos, slice_get, MatchResult};
 ghost use Rattle.std.specs.Option.{option_map};
+ghost use Rattle.archive.specs.Reading.{in_direction, lives};
 ghost use Rattle.archive.specs.Store.{IsAskedWithin};
 ghost use Rattle.history_report.specs.Paging.{greatest_time};
 ghost use Rattle.ua_space.specs.Space.{value_type_at};
-ghost use Rattle.settings_check.specs.Stored.{IsVectorOf, is_other, seen_of, end_of, ends_of, Reads};
+ghost use Rattle.settings_check.specs.Stored.{IsVectorOf, is_other, seen_of, ends_of, Reads};
 
 use archive::{Archive, Direction, StoreFault};
 use records::{Held, Moment};
@@ -89,27 +90,24 @@ fn first_seen(wanted: Option<ValueType>, values: &[Held]) -> Option<Seen>
     }
 }
 
-/// What is told of the live value of a node that comes first in a direction.
-fn end_of<A: Archive>(
+/// The live value of a node that comes first in a direction, if it has any.
+fn first_value<A: Archive>(
     alloc: Global,
     archive: &mut A,
     node: &NodeId,
-    wanted: Option<ValueType>,
     way: Direction,
     within: &Vector,
-) -> Result<Option<Seen>, StoreFault>
+) -> Result<Vec<Held>, StoreFault>
     ensures answers { MatchResult result
-        (λ end. Reads (A.state archive.old) (A.state archive.new) []
-        (λ R. IsVectorOf within.now R → end ≡ end_of R node.now wanted way))
+        (λ values. Reads (A.state archive.old) (A.state archive.new) []
+        (λ R. IsVectorOf within.now R
+        → slice_get values.items 0 ≡ slice_get (in_direction way (lives R node.now)) 0))
         (λ why. Reads (A.state archive.old) (A.state archive.new) (why ∷ []) (λ R. ⊤)) }
     ensures asked { IsAskedWithin 1 (A.asked archive.old) (A.asked archive.new) }
 {
     let from = first_moment();
     let to = last_moment();
-    match archive.range(alloc, node, from, to, way, 1, within) {
-        Ok(values) => Ok(first_seen(wanted, values.as_slice())),
-        Err(fault) => Err(fault),
-    }
+    archive.range(alloc, node, from, to, way, 1, within)
 }
 
 /// What is told of the first and the last live value of a variable.
@@ -127,13 +125,16 @@ pub(crate) fn ends_of<A: Archive>(
     ensures asked { IsAskedWithin 1 (A.asked archive.old) (A.asked archive.new) }
 {
     let wanted = type_of(space, node);
-    let first = match end_of(alloc, archive, node, wanted, Direction::Forward, within) {
+    let first = match first_value(alloc, archive, node, Direction::Forward, within) {
         Ok(first) => first,
         Err(fault) => return Err(fault),
     };
-    let last = match end_of(alloc, archive, node, wanted, Direction::Backward, within) {
+    let last = match first_value(alloc, archive, node, Direction::Backward, within) {
         Ok(last) => last,
         Err(fault) => return Err(fault),
     };
-    Ok(Ends { first, last })
+    Ok(Ends {
+        first: first_seen(wanted, first.as_slice()),
+        last: first_seen(wanted, last.as_slice()),
+    })
 }

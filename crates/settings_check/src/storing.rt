@@ -22,7 +22,6 @@ use ua_space::Space;
 
 /// Appends the lines of a variable.
 fn tell_variable<A: Archive>(
-    alloc: Global,
     archive: &mut A,
     space: &Space,
     node: &NodeId,
@@ -37,6 +36,7 @@ fn tell_variable<A: Archive>(
         × Reads (A.state archive.old) (A.state archive.new) (check_faults (Err why)) (λ R. ⊤)) }
     ensures asked { IsAskedWithin 1 (A.asked archive.old) (A.asked archive.new) }
 {
+    let alloc = *out.allocator();
     let ends = match ends_of(alloc, archive, space, node, within) {
         Ok(ends) => ends,
         Err(fault) => return Err(CheckFault::Store(fault)),
@@ -49,7 +49,6 @@ fn tell_variable<A: Archive>(
 
 /// Appends the lines of these variables.
 fn tell_each<A: Archive>(
-    alloc: Global,
     archive: &mut A,
     space: &Space,
     nodes: &[NodeId],
@@ -65,7 +64,7 @@ fn tell_each<A: Archive>(
     ensures asked { IsAskedWithin 1 (A.asked archive.old) (A.asked archive.new) }
 {
     for node in nodes {
-        match tell_variable(alloc, archive, space, node, within, out) {
+        match tell_variable(archive, space, node, within, out) {
             Ok(()) => {}
             Err(fault) => return Err(fault),
         }
@@ -93,7 +92,7 @@ fn tell_variables<A: Archive>(
         Ok(nodes) => nodes,
         Err(_) => return Err(CheckFault::OutOfMemory),
     };
-    tell_each(alloc, archive, space, nodes.as_slice(), within, out)
+    tell_each(archive, space, nodes.as_slice(), within, out)
 }
 
 /// Makes the lines that tell what is held, each with its end.
