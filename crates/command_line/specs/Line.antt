@@ -1,5 +1,5 @@
 -- The command line.
-use Rattle.std.specs.Prelude.{◌≡◌, ◌≢◌, ℤ, List, [], ◌∷◌, ℕ, Bool, true, false, ◌⊎◌, Option, None, Some, Ok, option_copied, codes, fold, nat_eq, if◌then◌else◌}
+use Rattle.std.specs.Prelude.{◌≡◌, ◌≢◌, ℤ, List, [], ◌∷◌, ◌++◌, ℕ, Bool, true, false, ◌⊎◌, Option, None, Some, Ok, option_copied, codes, fold, nat_eq, if◌then◌else◌}
 use Rattle.std.specs.Cmp.Lexicographic.{pointwise}
 use Rattle.std.specs.Int.{w64}
 use Rattle.std.specs.Str.Parse.{ParsesSigned, ParsesUnsigned}
@@ -244,10 +244,15 @@ abbrev pub Asks : Kinds → Option (Text × List Row) → Asked → Type 0
 Asks faults matches (Work line) = (faults ≡ []) × IsLine matches line
 Asks faults matches (Shown text) = MayAskForText faults
 
--- the usage of the program, in one line
+-- the usage of the program, in one line, a command after the other
 abbrev pub usage : List ℕ
 usage =
-    codes "usage: uahist answer [--settings FILE] [--hex] [--now N] | serve --settings FILE [--connections N] | dump --settings FILE | sync --settings FILE --peer ADDRESS | history --settings FILE --node ID [--from T] [--to T] [--changes] [--csv] [--html] | import --settings FILE --user NAME [--perform insert|replace|update] | check --settings FILE [--store]"
+    codes "usage: uahist answer [--settings FILE] [--hex] [--now N]"
+    ++ codes " | serve --settings FILE [--connections N]"
+    ++ codes " | dump --settings FILE | sync --settings FILE --peer ADDRESS"
+    ++ codes " | history --settings FILE --node ID [--from T] [--to T] [--changes] [--csv] [--html]"
+    ++ codes " | import --settings FILE --user NAME [--perform insert|replace|update]"
+    ++ codes " | check --settings FILE [--store]"
 
 -- the text that tells a refused command line
 abbrev pub line_text_of : LineFault → List ℕ
