@@ -4,7 +4,7 @@
     tests/door.py PROGRAM [CHECK ..]
 
 Servers are started with and without a `[door]`: forged records, clients at the door, servers that call each other's door, `sync`,
-from where peers are taken, whose records, and how far ahead of the clock, password files, readers and writers, wrong addresses and settings. Each line tells what held, or what was otherwise; the exit status is 1 then. All
+from where peers are taken, whose records, and how far ahead of the clock, password files, strict settings, readers and writers, wrong addresses and settings. Each line tells what held, or what was otherwise; the exit status is 1 then. All
 checks are run where none is named.
 """
 import os, socket, struct, subprocess, sys, tempfile, threading, time
@@ -402,6 +402,31 @@ def password_files():
         tell(told[0][0] == 0 and told[0][1][0] < 0x80000000 and refused == 0x80210000, f"{what}: ben is let in by it, and by no other password", (told, hex(refused)))
 
 
+def strict_files():
+    """Strict settings are taken where others have no hand in their files."""
+    server = Server(keys="strict = true\n", tables="\n[[user]]\nname = 'ben'\npassword_file = 'ben.password'\n")
+    secret = os.path.join(folder.name, "ben.password")
+    open(secret, "w").write("pw\n")
+    third = "uahist: want a file that its owner alone may write, and that not all may read if it has a password: chmod 640 it\n"
+    for mine, bens, file in [(0o600, 0o600, None), (0o640, 0o440, None), (0o660, 0o600, server.settings), (0o642, 0o600, server.settings), (0o644, 0o600, server.settings),
+                             (0o640, 0o644, "ben.password"), (0o640, 0o620, "ben.password"), (0o640, 0o602, "ben.password"), (0o664, 0o666, server.settings)]:
+        os.chmod(server.settings, mine), os.chmod(secret, bens)
+        for command in ("dump", "check"):
+            done = run([program, command, "--settings", server.settings])
+            told = f"uahist: settings refused (3)\nuahist: [server] strict, {file}"[:len("uahist: settings refused (3)\nuahist: ") + 180] + "\n" + third if file else ""
+            tell((done.status, done.said) == (2 if file else 0, told), f"{command}, settings {mine:o}, a password file {bens:o}: {'refused for ' + os.path.basename(file) if file else 'taken'}", (done.status, done.said))
+    text = open(server.settings).read()
+    for keys, what in (("strict = false\n", "not strict"), ("", "without the key")):
+        open(server.settings, "w").write(text.replace("strict = true\n", keys))
+        os.chmod(server.settings, 0o666), os.chmod(secret, 0o666)
+        done = run([program, "dump", "--settings", server.settings])
+        tell((done.status, done.said) == (0, ""), f"{what}: any mode is taken", (done.status, done.said))
+    open(server.settings, "w").write(text.replace("password = \"pw\"", "password_file = 'ben.password'"))
+    os.chmod(server.settings, 0o644), os.chmod(secret, 0o600)
+    done = run([program, "dump", "--settings", server.settings])
+    tell((done.status, done.said) == (0, ""), "settings without a password may be read by all", (done.status, done.said))
+
+
 def sync():
     """`uahist sync` calls the door."""
     server, other = Server(1).start(), Server(2, door=False)
@@ -556,7 +581,7 @@ def one_connection():
             tell(told.status == 0 and frames(told.out) == ["RXVF"] and len(dump.splitlines()) == 1, "answer, without a door: a peer's frame is learned", seen)
 
 
-checks = [a_forged_record, a_client_at_the_door, one_place, two_with_doors, a_call_of_the_wrong_address, from_networks, admitted_replicas, ticks_ahead, calls_that_refuse, password_files, sync, readers, addresses, settings, one_connection]
+checks = [a_forged_record, a_client_at_the_door, one_place, two_with_doors, a_call_of_the_wrong_address, from_networks, admitted_replicas, ticks_ahead, calls_that_refuse, password_files, strict_files, sync, readers, addresses, settings, one_connection]
 checks = [check for check in checks if not sys.argv[2:] or check.__name__ in sys.argv[2:]]
 for check in checks:
     try:

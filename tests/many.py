@@ -7,7 +7,7 @@ Clients that poll, update, stop in the midst of a message, read nothing or say n
 that call each other by themselves and are killed meanwhile; many idle connections. Each check prints a line with what was measured, the
 first that fails ends the script by an error; all are run where none is named. With --long each goes on longer: two and a half minutes of polls, twenty kills.
 """
-import multiprocessing, os, random, select, socket, subprocess, sys, tempfile, threading, time
+import multiprocessing, os, random, re, select, socket, subprocess, sys, tempfile, threading, time
 import usage
 from opcua import Client, int32, node, value_at
 
@@ -265,7 +265,40 @@ def an_absent_peer():
     return "told when it failed, when it worked again, and when it failed again"
 
 
-checks = [a_poll_beside_others, bad_company, a_full_house, idle, they_call_each_other, a_chain, an_absent_peer]
+def a_long_turn():
+    """A turn that takes long is told with `slow`, each longer one once; without the key none is."""
+    told = []
+    for keys in ("slow = 1\n", "slow = 60000\n", ""):
+        server = Server(1, store=False, keys=keys).start()
+        line = Line(server.port).begin()
+        for many in (1, 200, 1000, 1000):
+            values = [value_at(int32(k), 10 + k) for k in range(many)]
+            assert status(line.ask(line.client.update(T, 3, values))) == 0
+            polls(line, [])
+        time.sleep(0.7)
+        told.append(server.stop())
+    lines = told[0].splitlines()
+    turns = [int(re.fullmatch(r"uahist: a turn took (\d+) ms", line)[1]) for line in lines]
+    assert turns and turns == sorted(set(turns)) and told[1:] == ["", ""], told
+    return f"told as they grew: {turns} ms; none without the key, or below it"
+
+
+def few_descriptors():
+    """Where fewer descriptors may be open than may be wanted it is said, and served."""
+    server, told = Server(1, store=False).write(), []
+    for most in (200, 700):
+        words = ["bash", "-c", f"ulimit -n {most}; exec {program} serve --settings {server.settings} --connections 1"]
+        server.process = subprocess.Popen(words, stdin=subprocess.DEVNULL, stderr=subprocess.PIPE, text=True)
+        line = Line(server.port).begin()
+        polls(line, [])
+        line.socket.close()
+        told.append(server.process.communicate(timeout=10)[1])
+    said = "uahist: 200 descriptors are too few: up to 592 may be wanted (ulimit -n, or LimitNOFILE of the unit)\n"
+    assert told == [said, ""], told
+    return "200 are told to be too few for 592, 700 are enough"
+
+
+checks = [a_poll_beside_others, bad_company, a_full_house, idle, they_call_each_other, a_chain, an_absent_peer, a_long_turn, few_descriptors]
 named = [word for word in sys.argv[2:] if word != "--long"]
 checks = [check for check in checks if not named or check.__name__ in named]
 for check in checks:

@@ -1,5 +1,5 @@
 -- Lemmas: what answers do are moves of the world, and moves add up.
-use Rattle.std.proofs.Common.{◌≡◌, ◌∙◌, ℕ, ℤ, List, [], Option, None, Some, Result, Ok, Err, inl, inr, refl, sym, subst}
+use Rattle.std.proofs.Common.{◌≡◌, ◌∙◌, ℕ, ℤ, Bool, true, false, List, [], Option, None, Some, Result, Ok, Err, inl, inr, refl, sym, subst}
 use Rattle.archive.specs.Store.{Store}
 use Rattle.multiplex.specs.Behavior.{MovesAddUp}
 use Rattle.multiplex.specs.declared.handler.SlotEnd.{SlotEnd}
@@ -13,7 +13,7 @@ use Rattle.ua_peers.specs.declared.calling.SyncFault.TheVariants.{Exchange}
 use Rattle.ua_settings.specs.declared.peers.PeerCall.{PeerCall}
 use Rattle.conversation.specs.OtherEnds.{ConversationEnding}
 use Rattle.conversation.specs.Answering.{AnswersFirst}
-use Rattle.conversation.specs.Closing.{LogCalls, TellsCallOf, TellsFaultOf, TellsEnd, callee_of, connection_fault, call_outcome}
+use Rattle.conversation.specs.Closing.{LogCalls, TellsCallOf, TellsFaultOf, TellsEnd, TellsTurn, TellsTurnOf, callee_of, connection_fault, call_outcome, is_slow}
 use Rattle.conversation.specs.Starting.{AsksPeer, BeginsBy, StartsCall}
 use Rattle.conversation.specs.Moves.{OnlyGrows, Moves}
 use Rattle.conversation.specs.Conversing.{behavior_over}
@@ -95,13 +95,24 @@ module _ {A C L : Type 0} (state : A → Store) where
       call_moves calls callee v w (call_outcome ending) _ told
   end_moves calls None v w other ending told = fault_moves calls v w (connection_fault ending) told
 
+  -- how long a turn took
+  turn_told : (calls : LogCalls L) (v : World A C L) (longest : ℕ) (w : World A C L) (slow : Bool)
+      → TellsTurnOf calls v longest w slow → Moves state v w
+  turn_told calls v longest w true changed = log_moves v w changed.0
+  turn_told calls v longest w false same = same_moves v w same
+
+  turn_moves : (calls : LogCalls L) (v : World A C L) (longest : ℕ) (w : World A C L)
+      → TellsTurn calls v longest w → Moves state v w
+  turn_moves calls v longest w told =
+      turn_told calls v longest w (is_slow v.server.settings longest) told
+
   -- what answers do are moves, and moves add up
   pub moves_over : (gave : C → List ℤ → C → Type 0) (calls : LogCalls L)
       → MovesAddUp (behavior_over state gave calls)
   moves_over gave calls = record {
     none = none_moves;
     more = more_moves;
-    passes = λ v w now longest_turn same. same_moves v w same;
+    passes = λ v w now longest_turn told. turn_moves calls v longest_turn w told;
     begins = λ origin v w other begun. same_moves v w begun.1;
     answers = λ stay v w old new made ending a. answer_moves gave v w old new made ending a;
     closes = λ stay v w other ending told.

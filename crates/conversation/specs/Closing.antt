@@ -1,5 +1,7 @@
--- What is told of connections: how each ended, and that one failed before it could be used.
-use Rattle.std.specs.Prelude.{◌≡◌, ℕ, List, Option, None, Some, Result, Ok, Err, slice_get}
+-- What is told of connections: how each ended, that one failed before it could be used, and that a
+-- turn of one took long.
+use Rattle.std.specs.Prelude.{◌≡◌, ℕ, nat_le, Bool, true, false, List, Option, None, Some, Result, Ok, Err, slice_get}
+use Rattle.std.specs.Option.{option_map_or}
 use Rattle.multiplex.specs.declared.handler.SlotEnd.{SlotEnd}
 use Rattle.multiplex.specs.declared.handler.SlotEnd.TheVariants.{Finished, EndOfInput, ReadFailed, WriteFailed, IdleTimeout, Displaced}
 use Rattle.multiplex.specs.declared.stay.Party.{Party}
@@ -12,22 +14,20 @@ use Rattle.ua_peers.specs.declared.peers.PeerEnded.TheVariants as parted
 use Rattle.ua_peers.specs.declared.calling.SyncFault.{SyncFault}
 use Rattle.ua_peers.specs.declared.calling.SyncFault.TheVariants.{Connection, Exchange, Peer}
 use Rattle.ua_settings.specs.declared.peers.PeerCall.{PeerCall}
+use Rattle.ua_settings.specs.Settings.{SettingsValues}
 use Rattle.conversation.specs.declared.ended.Ended.TheVariants as ended
 use Rattle.conversation.specs.declared.other_end.OtherEnd.{OtherEnd}
 use Rattle.conversation.specs.declared.world.World.{World}
 use Rattle.conversation.specs.OtherEnds.{ConversationEnding}
 
 -- what the calls of a log do: it was told that a connection ended by this fault; that one failed at
--- this time before it could be used; and how a call of a peer ended, of this number and address
+-- this time before it could be used; how a call of a peer ended, of this number and address; and
+-- how many milliseconds the longest turn so far took
 pub record LogCalls (L : Type 0) : Type 1 where
   pub told : L → ServeFault → L → Type 0
   pub told_failed : L → (now : ℕ) → L → Type 0
   pub told_call : L → (callee : ℕ) → (address : List ℕ) → Result (Unit {0}) SyncFault → L → Type 0
-
--- the record of these three
-abbrev pub log_calls : {L : Type 0} → (L → ServeFault → L → Type 0) → (L → ℕ → L → Type 0)
-    → (L → ℕ → List ℕ → Result (Unit {0}) SyncFault → L → Type 0) → LogCalls L
-log_calls told failed call = record { told = told; told_failed = failed; told_call = call }
+  pub told_turn : L → (longest : ℕ) → L → Type 0
 
 -- the fault by which a connection ended, if it did; one that was silent for too long, or made place
 -- for another, ended as by a read that failed
@@ -96,3 +96,20 @@ TellsEnd calls None v other ending w = TellsFaultOf calls v w (connection_fault 
 abbrev pub TellsFailed : {A C L : Type 0} → LogCalls L → World A C L → (now : ℕ) → World A C L
     → Type 0
 TellsFailed calls v now w = ChangesLog (λ old new. calls.told_failed old now new) v w
+
+-- a turn of so many milliseconds is told by these settings: it takes as many as they say, or more
+abbrev pub is_slow : SettingsValues → (turn : ℕ) → Bool
+is_slow settings turn = option_map_or (λ least. nat_le least turn) settings.slow false
+
+-- how long the longest turn so far took was told, where it is slow
+abbrev pub TellsTurnOf : {A C L : Type 0} → LogCalls L → World A C L → (longest : ℕ)
+    → World A C L → (slow : Bool) → Type 0
+TellsTurnOf calls v longest w true =
+    ChangesLog (λ old new. calls.told_turn old longest new) v w
+TellsTurnOf calls v longest w false = w ≡ v
+
+-- the same, where the settings want a turn told that took so long
+abbrev pub TellsTurn : {A C L : Type 0} → LogCalls L → World A C L → (longest : ℕ) → World A C L
+    → Type 0
+TellsTurn calls v longest w =
+    TellsTurnOf calls v longest w (is_slow v.server.settings longest)

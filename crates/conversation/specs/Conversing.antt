@@ -11,7 +11,7 @@ use Rattle.conversation.specs.Doors.{door_of_listener, is_stranger}
 use Rattle.conversation.specs.OtherEnds.{ConversationEnding, is_established}
 use Rattle.conversation.specs.Receiving.{TakesBytes}
 use Rattle.conversation.specs.Answering.{IsIncomplete, AnswersFirst}
-use Rattle.conversation.specs.Closing.{LogCalls, callee_of, TellsEnd, TellsFailed}
+use Rattle.conversation.specs.Closing.{LogCalls, callee_of, TellsEnd, TellsFailed, TellsTurn}
 use Rattle.conversation.specs.Starting.{StartsCall}
 use Rattle.conversation.specs.Moves.{Moves}
 
@@ -21,17 +21,18 @@ first_end from origin =
     if is_stranger from origin then Stranger else Unknown (door_of_listener origin.listener) []
 
 -- the store is broken, and the settings say that nobody is served then
-abbrev pub is_over : {A C L : Type 0} → (A → Store) → World A C L → Bool
-is_over state w =
+abbrev pub serves_nobody : {A C L : Type 0} → (A → Store) → World A C L → Bool
+serves_nobody state w =
     w.server.settings.ends_broken && (state w.server.replica.archive).broken
 
 -- a connection begins with a stranger or with nobody known at its other end, at the door of its
--- listener, or is a call of a peer; no answer waits, and nothing hangs on the time
+-- listener, or is a call of a peer; no answer waits, and nothing hangs on the time but that a long
+-- turn is told
 abbrev pub behavior_over : {A C L : Type 0} → (A → Store) → (C → List ℤ → C → Type 0)
     → LogCalls L → Behavior OtherEnd (World A C L) ConversationEnding
 behavior_over state gave log = record {
-  passes = λ v now longest_turn w. w ≡ v;
-  is_over = is_over state;
+  passes = λ v now longest_turn w. TellsTurn log v longest_turn w;
+  is_over = serves_nobody state;
   begins = λ origin v other w. (other ≡ first_end v.from origin) × (w ≡ v);
   calls = StartsCall state log;
   receives = TakesBytes;

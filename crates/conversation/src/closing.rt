@@ -2,7 +2,7 @@
 
 ghost use Rattle.std.specs.Prelude.{◌≡◌};
 ghost use Rattle.conversation.specs.declared.other_end.OtherEnd.{OtherEnd};
-ghost use Rattle.conversation.specs.Closing.{log_calls, connection_fault, call_outcome, parted_outcome, TellsCall, TellsEnd};
+ghost use Rattle.conversation.specs.Closing.{connection_fault, call_outcome, parted_outcome, TellsCall, TellsEnd, TellsTurn, is_slow};
 
 use crate::ended::Ended;
 use crate::log::Log;
@@ -11,6 +11,7 @@ use counted_io::ServeFault;
 use exchange::ExchangeFault;
 use multiplex::SlotEnd;
 use ua_peers::{PeerEnded, SyncFault};
+use ua_settings::Settings;
 
 /// The fault by which a connection ended, if it did.
 fn connection_fault(ending: SlotEnd<Result<Ended, ServeFault>>) -> Option<ServeFault>
@@ -59,7 +60,7 @@ pub(crate) fn tell_call<A, C, L: Log>(
     callee: usize,
     outcome: Result<(), SyncFault>,
 )
-    ensures { TellsCall (log_calls L.told L.told_failed L.told_call) world.old callee outcome world.new }
+    ensures { TellsCall L.calls world.old callee outcome world.new }
 {
     if let Some(peer) = world.server.settings.peers().as_slice().get(callee) {
         world.log.tell_call(callee, peer.address.as_str(), outcome);
@@ -71,10 +72,29 @@ pub(crate) fn tell_end<A, C, L: Log>(
     world: &mut World<A, C, L>,
     ending: SlotEnd<Result<Ended, ServeFault>>,
 )
-    ensures { (other : OtherEnd)
-        → TellsEnd (log_calls L.told L.told_failed L.told_call) None world.old other ending world.new }
+    ensures { (other : OtherEnd) → TellsEnd L.calls None world.old other ending world.new }
 {
     if let Some(fault) = connection_fault(ending) {
         world.log.tell(fault);
+    }
+}
+
+/// Whether a turn of so many milliseconds is told by these settings.
+fn is_slow(settings: &Settings, turn: u64) -> bool
+    ensures { result ≡ is_slow settings.now turn }
+{
+    match settings.slow() {
+        None => false,
+        Some(least) => u64::from(least) <= turn,
+    }
+}
+
+/// Tells how long the longest turn so far took, in milliseconds, where the settings want a turn told that takes so long; else the
+/// world stays as it is. What was told before the log knows.
+pub fn tell_turn<A, C, L: Log>(world: &mut World<A, C, L>, longest: u64)
+    ensures { TellsTurn L.calls world.old longest world.new }
+{
+    if is_slow(&world.server.settings, longest) {
+        world.log.tell_turn(longest);
     }
 }

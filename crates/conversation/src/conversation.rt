@@ -2,7 +2,7 @@
 
 use crate::answering::{answer_first, is_established};
 use crate::calling::start_call;
-use crate::closing::{call_outcome, tell_call, tell_end};
+use crate::closing::{call_outcome, tell_call, tell_end, tell_turn};
 use crate::door::{Door, is_stranger};
 use crate::ended::Ended;
 use crate::log::Log;
@@ -43,18 +43,20 @@ impl<A, C, L> Model for Conversation<A, C, L> {
 impl<A: Archive, C: Clock, L: Log> Handler for Conversation<A, C, L> {
     ghost use Rattle.conversation.specs.Conversing.{behavior_over};
     ghost use Rattle.conversation.specs.Adding.{moves_over};
-    ghost use Rattle.conversation.specs.Closing.{log_calls, callee_of, TellsEnd};
+    ghost use Rattle.conversation.specs.Closing.{callee_of, TellsEnd};
 
     type World = World<A, C, L>;
 
     type End = Result<Ended, ServeFault>;
 
-    ghost behavior = { behavior_over A.state C.gave (log_calls L.told L.told_failed L.told_call) };
+    ghost behavior = { behavior_over A.state C.gave L.calls };
 
-    ghost moves_add_up = { moves_over A.state C.gave (log_calls L.told L.told_failed L.told_call) };
+    ghost moves_add_up = { moves_over A.state C.gave L.calls };
 
-    /// Nothing hangs on the time.
-    fn pass(world: &mut World<A, C, L>, now: u64, longest_turn: u64) {}
+    /// Tells how long the longest turn so far took, where the settings want it told. Nothing else hangs on the time.
+    fn pass(world: &mut World<A, C, L>, now: u64, longest_turn: u64) {
+        tell_turn(world, longest_turn);
+    }
 
     /// Whether the store is broken, and the settings say that nobody is served then.
     fn is_over(world: &World<A, C, L>) -> bool {
@@ -141,8 +143,7 @@ impl<A: Archive, C: Clock, L: Log> Handler for Conversation<A, C, L> {
         world: &mut World<A, C, L>,
         ending: SlotEnd<Result<Ended, ServeFault>>,
     )
-        ensures { TellsEnd (log_calls L.told L.told_failed L.told_call) (callee_of stay.party) world.old self
-            ending world.new }
+        ensures { TellsEnd L.calls (callee_of stay.party) world.old self ending world.new }
     {
         match stay.party {
             Party::Called(callee) => tell_call(world, callee, call_outcome(ending)),

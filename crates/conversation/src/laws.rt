@@ -3,7 +3,6 @@
 ghost use Rattle.std.specs.Prelude.{◌≡◌, []};
 ghost use Rattle.conversation.specs.Alone.{ClientAloneIsAnswered};
 ghost use Rattle.conversation.specs.ClientsDoors.{IsAtClientsDoor, NoPeerComes, NoPeerIsAnswered};
-ghost use Rattle.conversation.specs.Closing.{log_calls};
 ghost use Rattle.conversation.specs.Strangers.{StrangersAreTurnedAway, StrangersAreUnread};
 ghost use Rattle.conversation.specs.declared.door.Door.TheVariants.{Clients};
 ghost use Rattle.conversation.specs.declared.other_end.OtherEnd.TheVariants.{Unknown};
@@ -23,8 +22,7 @@ pub fn a_client_alone_is_answered<
     C: Clock,
     L: Log,
 >()
-    ensures { ClientAloneIsAnswered R.input W.output A.state C.gave
-        (log_calls L.told L.told_failed L.told_call) }
+    ensures { ClientAloneIsAnswered R.input W.output A.state C.gave L.calls }
 {}
 
 /// At the door of clients nobody is a peer: neither who comes there, whatever bytes are brought, nor who is answered. So no
@@ -32,15 +30,12 @@ pub fn a_client_alone_is_answered<
 pub fn a_clients_door_takes_no_peer<A: Archive, C: Clock, L: Log>()
     ensures begins { IsAtClientsDoor (Unknown Clients []) }
     ensures receives { NoPeerComes }
-    ensures answers { NoPeerIsAnswered A.state C.gave
-        (log_calls L.told L.told_failed L.told_call) }
+    ensures answers { NoPeerIsAnswered A.state C.gave L.calls }
 {}
 
 /// Who comes to the door of peers from where none is taken is turned away at the first turn: nothing of it is read, nothing is
 /// said, and nothing changes.
 pub fn a_stranger_is_not_heard<A: Archive, C: Clock, L: Log>()
-    ensures turned_away { StrangersAreTurnedAway A.state C.gave
-        (log_calls L.told L.told_failed L.told_call) }
-    ensures unread { StrangersAreUnread A.state C.gave
-        (log_calls L.told L.told_failed L.told_call) }
+    ensures turned_away { StrangersAreTurnedAway A.state C.gave L.calls }
+    ensures unread { StrangersAreUnread A.state C.gave L.calls }
 {}

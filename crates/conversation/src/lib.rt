@@ -15,6 +15,7 @@ mod other_end;
 mod receiving;
 mod world;
 
+pub use closing::tell_turn;
 pub use conversation::Conversation;
 pub use door::Door;
 pub use ended::Ended;

@@ -28,7 +28,6 @@ ghost use Rattle.conversation.specs.declared.other_end.PeerDialog.{PeerDialog};
 ghost use Rattle.conversation.specs.declared.world.World.{World as Shared};
 ghost use Rattle.conversation.specs.OtherEnds.{ConversationEnding};
 ghost use Rattle.conversation.specs.Answering.{AnswersClient, AnswersPeer, RefusesPeer};
-ghost use Rattle.conversation.specs.Closing.{log_calls};
 ghost use Rattle.conversation.specs.Starting.{StartsCall};
 ghost use Rattle.headline.specs.Calls.{WasHeld, CallState, GoesBy, call_begun};
 ghost use Rattle.headline.specs.Executions.{Execution, IsExecution};
@@ -147,7 +146,7 @@ pub fn conversations_take_turns<A: Archive, C: Clock, L: Log>()
         → IsRefusalTurn A.state old (plant_after old place later made) }
     ensures call { (callee : ℕ) (v w : Shared A C L) (made : List ℕ)
         (other : Option OtherEnd) (old : Plant A) (place : ℕ) (later : A)
-        → StartsCall A.state (log_calls L.told L.told_failed L.told_call) callee v made other w
+        → StartsCall A.state L.calls callee v made other w
         → IsMachine A.state old.machines place v.server.replica.archive
         → (A.state w.server.replica.archive).honest
         → RestartsAs (A.state w.server.replica.archive) (A.state later)

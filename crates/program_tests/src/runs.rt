@@ -1101,7 +1101,7 @@ static CHECKS: [(&[&str], &[u8], usize, &str, &str, u8); 10] = [
 ];
 
 /// Settings files that are kept in memory: their names, and their texts.
-static FILES: [(&str, &str); 26] = [
+static FILES: [(&str, &str); 34] = [
     (
         "valued",
         "[archive]\nid = '00000000000000000000000000000000'\nreplica = 1\n[server]\nlisten = ''\nurl = ''\napplication = ''\nnamespace = ''\nanonymous = true\n[[variable]]\nid = 'T'\nname = ''\ntype = 'Double'\n",
@@ -1203,6 +1203,42 @@ static FILES: [(&str, &str); 26] = [
         "pw\r\nthe first line is the password\n",
     ),
     ("/secrets/none", "\nnot this\n"),
+    ("strict/its owner's", WITH_PASSWORD),
+    ("strict/its group reads", WITH_PASSWORD),
+    ("strict/its group writes", WITH_PASSWORD),
+    ("strict/all read", WITH_PASSWORD),
+    ("strict/unknown", WITH_PASSWORD),
+    ("strict/all read no password", WITH_FILES),
+    ("strict/closed", "pw"),
+    ("strict/open", "pw"),
+];
+
+/// Strict settings with a password.
+const WITH_PASSWORD: &str =
+    "[archive]\nid = '00000000000000000000000000000000'\nreplica = 1\n[server]\nlisten = '127.0.0.1:4840'\nurl = ''\napplication = ''\nnamespace = ''\nanonymous = false\nstrict = true\n[[user]]\nname = 'ann'\npassword = 'pw'\n";
+
+/// Strict settings that name password files.
+const WITH_FILES: &str =
+    "[archive]\nid = '00000000000000000000000000000000'\nreplica = 1\n[server]\nlisten = '127.0.0.1:4840'\nurl = ''\napplication = ''\nnamespace = ''\nanonymous = false\nstrict = true\n[[user]]\nname = 'ann'\npassword_file = 'closed'\n[[user]]\nname = 'ben'\npassword_file = 'open'\n";
+
+/// The modes of files that their owner doesn't have alone; one whose mode can't be told has none.
+static MODES: [(&str, Option<u32>); 6] = [
+    ("strict/its group reads", Some(0o100_640)),
+    ("strict/its group writes", Some(0o100_620)),
+    ("strict/all read", Some(0o100_604)),
+    ("strict/unknown", None),
+    ("strict/all read no password", Some(0o100_644)),
+    ("strict/open", Some(0o100_604)),
+];
+
+/// Strict settings, and the place that is told where they are refused.
+static STRICT: [(&str, &str); 6] = [
+    ("strict/its owner's", ""),
+    ("strict/its group reads", ""),
+    ("strict/its group writes", "strict/its group writes"),
+    ("strict/all read", "strict/all read"),
+    ("strict/unknown", "strict/unknown"),
+    ("strict/all read no password", "open"),
 ];
 
 /// Over the network come a client that ends well, one that takes no answer, and then nobody.
@@ -1266,6 +1302,13 @@ impl Host for Machine {
     fn read(&mut self, path: &str) -> Option<String> {
         let (_, text) = FILES.iter().find(|(name, _)| *name == path)?;
         String::from_str(self.0, text).ok()
+    }
+
+    fn mode(&self, path: &str) -> Option<u32> {
+        match MODES.iter().find(|(name, _)| *name == path) {
+            Some((_, mode)) => *mode,
+            None => Some(0o100_600),
+        }
     }
 
     fn has_store(&self, path: &str) -> bool {
@@ -1382,6 +1425,37 @@ fn checks_and_reports(rt: HostRuntime) {
             is_run(rt.alloc(), words, input, room, printed, said, status),
             "{said}"
         );
+    }
+}
+
+/// What is said where settings are refused for this file.
+fn exposed(alloc: Global, file: &str) -> Option<String> {
+    let mut said = String::new(alloc);
+    said.push_str("uahist: settings refused (3)\nuahist: [server] strict, ")
+        .ok()?;
+    said.push_str(file).ok()?;
+    said.push_str("\n").ok()?;
+    Some(said)
+}
+
+/// Settings are taken, or refused for this file.
+fn is_judged(alloc: Global, settings: &str, file: &str) -> bool {
+    let words = ["uahist", "answer", "--settings", settings, "--hex"];
+    let hello = b"474554202F000000";
+    if file.is_empty() {
+        let told = "455252461000000000007E80FFFFFFFF\n";
+        return is_run(alloc, &words, hello, 1000, told, "", 0);
+    }
+    match exposed(alloc, file) {
+        Some(said) => is_run(alloc, &words, hello, 1000, "", said.as_str(), 2),
+        None => false,
+    }
+}
+
+#[test]
+fn files_of_strict_settings_are_judged(rt: HostRuntime) {
+    for (settings, file) in STRICT {
+        assert!(rt; is_judged(rt.alloc(), settings, file), "{settings}");
     }
 }
 

@@ -165,11 +165,12 @@ pub struct Faults {
 }
 
 impl Log for Faults {
-    ghost told = { λ old fault new. Unit {0} };
-
-    ghost told_failed = { λ old now new. Unit {0} };
-
-    ghost told_call = { λ old callee address outcome new. Unit {0} };
+    ghost calls = { record {
+      told = λ old fault new. Unit {0};
+      told_failed = λ old now new. Unit {0};
+      told_call = λ old callee address outcome new. Unit {0};
+      told_turn = λ old longest new. Unit {0};
+    } };
 
     fn tell(&mut self, fault: ServeFault) {
         let _ = self.told.push(fault);
@@ -180,4 +181,6 @@ impl Log for Faults {
     }
 
     fn tell_call(&mut self, _callee: usize, _address: &str, _outcome: Result<(), SyncFault>) {}
+
+    fn tell_turn(&mut self, _longest: u64) {}
 }

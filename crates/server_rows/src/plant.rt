@@ -63,6 +63,8 @@ pub fn plant_of(alloc: Global, number: u8) -> Option<Settings> {
         peers: Peers::new(alloc),
         door: None,
         ends_broken: false,
+        is_strict: false,
+        slow: None,
     }))
 }
 

@@ -14,4 +14,5 @@ pub mod Hexing
 pub mod SingleParts
 pub mod FromWhere
 pub mod Passwords
+pub mod ExposedFiles
 pub mod CheckingParts

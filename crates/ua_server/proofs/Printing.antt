@@ -38,6 +38,7 @@ use Rattle.command_line.specs.declared.line.LineFault.TheVariants.{Words, OutOfM
 use Rattle.command_line.specs.Line.{IsLine, MayAskForText}
 use Rattle.ua_settings.specs.Settings.{SettingsValues}
 use Rattle.archive.specs.Store.{Store}
+use Rattle.ua_server.specs.Exposing.{IsTaken, JudgesStrict}
 use Rattle.ua_server.specs.Host.{Machine, KnownMachine}
 use Rattle.conversation.specs.declared.door.Door.TheVariants.{Both, Clients, Peers}
 use Rattle.ua_server.specs.Network.{Readings, Serving}
@@ -45,6 +46,22 @@ use Rattle.ua_server.specs.Program.{SettingsAt, FindsNoPlace, OpensBy, CallsPeer
 use Rattle.ua_server.specs.declared.program.StoreUse.{StoreUse}
 use Rattle.ua_server.specs.Telling.{Known, dump_fault, fault_of, report_fault}
 use Rattle.ua_server.proofs.ProgramParts.{IsUnbegun}
+
+-- no file is judged as a line
+unjudged : {H A L R W : Type 0} (machine : Machine H A L R W) (host : H) (path text : List ℕ)
+    (strict : Bool) (fault : LineFault) (why : ProgramFault)
+    → JudgesStrict machine host path text strict (Err why) → why ≡ Line fault → ⊥
+unjudged machine host path text true fault why (inl starved) is = cc
+unjudged machine host path text true fault why (inr (file, first, (place, told, cut))) is = cc
+unjudged machine host path text false fault why judged is = cc
+
+-- settings aren't refused as a line for a file that is exposed
+untaken : {H A L R W : Type 0} (machine : Machine H A L R W) (host : H) (path text : List ℕ)
+    (settings : SettingsValues) (fault : LineFault)
+    → IsTaken machine host path text settings (Err (Line fault)) → ⊥
+untaken machine host path text settings fault (Ok done, judges, same) = cc
+untaken machine host path text settings fault (Err why, judges, same) =
+    unjudged machine host path text settings.is_strict fault why judges cc
 
 -- settings are refused as a line where memory for those without a file was wanting
 unset : {H A L R W : Type 0} (machine : Machine H A L R W) (path : Option (List ℕ))
@@ -57,26 +74,44 @@ unset machine (Some path) fault old new (
   Some text,
   between,
   read,
-  inr (
-    Ok (Some lines),
-    reads,
-    (Ok settings, place, starved, told, same),
-  ),
+  inr (Ok (Some lines), reads, Ok settings, set, taken),
+) = absurd (untaken machine new path text settings fault taken)
+unset machine (Some path) fault old new (
+  Some text,
+  between,
+  read,
+  inr (Ok (Some lines), reads, Err cause, (Ok settings, place, starved, told, same), refused),
 ) = absurd cc
 unset machine (Some path) fault old new (
   Some text,
   between,
   read,
-  inr (
-    Ok (Some lines),
-    reads,
-    (Err cause, place, starved, told, same),
-  ),
+  inr (Ok (Some lines), reads, Err cause, (Err why, place, starved, told, same), refused),
 ) = absurd cc
-unset machine (Some path) fault old new (Some text, between, read, inr (Ok None, reads, same)) =
-    absurd cc
-unset machine (Some path) fault old new (Some text, between, read, inr (Err e, reads, same)) =
-    absurd cc
+unset machine (Some path) fault old new (
+  Some text,
+  between,
+  read,
+  inr (Ok None, reads, Ok settings, same, taken),
+) = absurd cc
+unset machine (Some path) fault old new (
+  Some text,
+  between,
+  read,
+  inr (Ok None, reads, Err cause, same, refused),
+) = absurd cc
+unset machine (Some path) fault old new (
+  Some text,
+  between,
+  read,
+  inr (Err e, reads, Ok settings, same, taken),
+) = absurd cc
+unset machine (Some path) fault old new (
+  Some text,
+  between,
+  read,
+  inr (Err e, reads, Err cause, same, refused),
+) = absurd cc
 
 -- a command is refused by its settings, or its archive can't be opened, not as such a line
 unopened-with : {H A L R W : Type 0} (machine : Machine H A L R W) (held : A → Store)

@@ -96,25 +96,23 @@ numbered-text t0 t1 t2 t3 t4 words digits n none short is few one two three four
     fourth
 
 -- a number between two texts, where there is room for all of them
-pub missed-text : (t0 t1 t2 t3 digits : List ℕ) (n : ℕ) → t0 ≡ [] → digits ≡ decimal n
-    → length digits ≤ 40
-    → (length t0 + 40 < 100 → t1 ≡ t0 ++ cut_to 40 (codes "connection ended (1), and "))
+pub between-text : (left right t0 t1 t2 t3 digits : List ℕ) (n : ℕ) → length left ≤ 40
+    → length right ≤ 10 → t0 ≡ [] → digits ≡ decimal n → length digits ≤ 40
+    → (length t0 + 40 < 100 → t1 ≡ t0 ++ cut_to 40 left)
     → (length t1 + 40 < 100 → t2 ≡ t1 ++ cut_to 40 digits)
-    → (length t2 + 10 < 100 → t3 ≡ t2 ++ cut_to 10 (codes " before it"))
-    → t3 ≡ failed_text n
-missed-text t0 t1 t2 t3 digits n none is few one two three =
-    let left = codes "connection ended (1), and " in
-    let right = codes " before it" in
+    → (length t2 + 10 < 100 → t3 ≡ t2 ++ cut_to 10 right)
+    → t3 ≡ left ++ (decimal n ++ right)
+between-text left right t0 t1 t2 t3 digits n short brief none is few one two three =
     let first : t1 ≡ left =
     one (omega (arith, ap length none)) ∙ (ap (λ (l : List ℕ). l ++ cut_to 40 left) none
-    ∙ cut-fits 40 left (omega arith)) in
+    ∙ cut-fits 40 left short) in
     let second : t2 ≡ left ++ decimal n =
-    two (omega (arith, ap length first))
+    two (omega (arith, short, ap length first))
     ∙ (ap (λ (l : List ℕ). l ++ cut_to 40 digits) first
     ∙ ap (λ (l : List ℕ). left ++ l) (cut-fits 40 digits few ∙ is)) in
-    three (omega (arith, ap length second, length-append left (decimal n), ap length is, few))
+    three (omega (arith, short, ap length second, length-append left (decimal n), ap length is, few))
     ∙ (ap (λ (l : List ℕ). l ++ cut_to 10 right) second
-    ∙ (ap (λ (l : List ℕ). (left ++ decimal n) ++ l) (cut-fits 10 right (omega arith))
+    ∙ (ap (λ (l : List ℕ). (left ++ decimal n) ++ l) (cut-fits 10 right brief)
     ∙ append_assoc left (decimal n) right))
 
 -- where settings are refused

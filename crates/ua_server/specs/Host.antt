@@ -14,6 +14,8 @@ use Rattle.multiplex.specs.Output.{Output}
 pub record Machine (H A L R W : Type 0) : Type 1 where
   -- the text of the file at a path; None where it can't be read
   pub reads : H → List ℕ → Option (List ℕ) → H → Type 0
+  -- the mode of the file at a path: who may read and write it; None where it can't be told
+  pub modes : H → List ℕ → Option ℕ → Type 0
   -- a store stands at a path, or none does
   pub stands : H → List ℕ → Bool → Type 0
   -- the file at a path was opened as the store of this replica of this archive
@@ -32,6 +34,7 @@ pub record Machine (H A L R W : Type 0) : Type 1 where
 abbrev pub unknown_machine : {H A L R W : Type 0} → Machine H A L R W
 unknown_machine = record {
   reads = λ old path text new. Unit {0};
+  modes = λ now path mode. Unit {0};
   stands = λ now path is_there. Unit {0};
   opens = λ old path id replica opening new. Unit {0};
   closes = λ old archive new. Unit {0};

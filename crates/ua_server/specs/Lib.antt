@@ -10,4 +10,5 @@ pub mod Host
 pub mod Network
 pub mod Dumping
 pub mod Passwords
+pub mod Exposing
 pub mod Program

@@ -52,12 +52,13 @@ IsFrom None from = from ≡ None
 IsFrom (Some texts) (Some networks) = AreNetworks texts networks
 IsFrom (Some texts) None = ⊥
 
--- where a server listens, from where it takes peers, and whom it calls
+-- where a server listens, from where it takes peers, whom it calls, and how many may come at a time
 pub record IsListening (settings : SettingsValues) (listening : Listening) : Type 0 where
   pub clients : IsSocketText settings.listen listening.clients
   pub peers : IsDoorAddress (listen_at settings) listening.peers
   pub from : IsFrom (networks_at settings) listening.from
   pub callees : AreCallees settings.peers listening.callees.items
+  pub connections : listening.connections ≡ settings.connections
 
 -- the first peer whose address is none has this number, from 1
 abbrev pub IsWrongPeer : List PeerCall → (number : ℕ) → Type 0

@@ -12,14 +12,14 @@ use Rattle.multiplex.specs.Serving.{AreAllFree, HasServed}
 use Rattle.conversation.specs.declared.other_end.OtherEnd.{OtherEnd}
 use Rattle.conversation.specs.declared.world.World.{World}
 use Rattle.conversation.specs.OtherEnds.{ConversationEnding}
-use Rattle.conversation.specs.Closing.{log_calls}
+use Rattle.conversation.specs.Closing.{TellsTurn}
 use Rattle.conversation.specs.Conversing.{behavior_over}
 use Rattle.ua_server.specs.declared.log.ErrorLog.{ErrorLog}
 use Rattle.ua_server.specs.declared.program.ProgramFault.{ProgramFault}
 use Rattle.ua_server.specs.declared.program.ProgramFault.TheVariants.{Address, DoorAddress, DoorNetwork, PeerAddress, StoreBroken, Connection}
 use Rattle.ua_server.specs.Host.{KnownMachine}
 use Rattle.ua_server.specs.Listening.{IsFrom, networks_at}
-use Rattle.ua_server.specs.Telling.{Known, fresh_log, LogsFault, LogsFailed, LogsCall}
+use Rattle.ua_server.specs.Telling.{Known, fresh_log, logs_to}
 
 -- how a clock goes from one state to another and gives readings
 abbrev pub Readings : Type 0 → Type 1
@@ -60,7 +60,7 @@ limits_of settings count = record {
 abbrev pub conversations : {A C E : Type 0} → (A → Store) → Readings C → Known E
     → Behavior OtherEnd (World A C (ErrorLog E)) ConversationEnding
 conversations held gave told =
-    behavior_over held gave (log_calls (LogsFault told) (LogsFailed told) (LogsCall told))
+    behavior_over held gave (logs_to told)
 
 -- the loop that serves connections over an archive of a machine
 abbrev pub ServingLoop : KnownMachine → (C E : Type 0) → Type 0
@@ -76,15 +76,19 @@ pub record IsAround {C E : Type 0} (known : KnownMachine)
   pub errors : loop.world.log.errors ≡ around.errors
 
 -- connections were served that came from a source, each in its turn, from when there was none, to
--- their end, or till the store was broken and the settings said that nobody is served then
+-- their end, or till the store was broken and the settings said that nobody is served then; and
+-- then the longest turn, as the loop measured it, was told where the settings want it told
 pub record ServesMany {C E : Type 0} (known : KnownMachine) (gave : Readings C) (told : Known E)
     (settings : SettingsValues) (count : ℕ) (source : known.Source) (broken : Bool)
     (old new : Serving known.Host known.Archive C E) : Type 0 where
   pub first : ServingLoop known C E
   pub last : ServingLoop known C E
+  pub behind : World known.Archive C (ErrorLog E)
   pub done : Bool
+  pub longest : ℕ
   pub begins : IsAround known old first
-  pub ends : IsAround known new last
+  pub tells : TellsTurn (logs_to told) last.world longest behind
+  pub ends : IsAround known new (record last { world = behind })
   pub settings_are : first.world.server.settings ≡ settings
   pub from : first.source ≡ source
   pub fresh : first.world.log ≡ fresh_log old.errors

@@ -22,6 +22,7 @@ use Rattle.ua_settings.specs.Place.{IsPlaceOf, place_text}
 use Rattle.ua_settings.specs.Reading.{IsReadOrStarved, password_paths}
 use Rattle.ua_settings.specs.declared.password.PasswordLine.{PasswordLine}
 use Rattle.ua_server.specs.Passwords.{ReadsPasswords}
+use Rattle.ua_server.specs.Exposing.{IsTaken}
 use Rattle.archive.specs.declared.fault.StoreFault.{StoreFault}
 use Rattle.archive.specs.Store.{Store}
 use Rattle.archive.specs.Beginning.{HoldsNothing}
@@ -58,7 +59,7 @@ use Rattle.command_line.specs.Line.{AsksForText, IsLine, MayAskForText, uahist}
 
 -- ---- settings
 
--- the text of where a document is refused, cut behind 180 bytes
+-- the text of where a document is refused, in at most 180 bytes
 abbrev pub TellsPlace : List PasswordLine → Option Members → List ℕ → Type 0
 TellsPlace lines document told =
     (place : Place) × IsPlaceOf lines document place × (told ≡ cut_to 180 (place_text place))
@@ -90,15 +91,24 @@ abbrev pub IsBare : Result SettingsValues ProgramFault → Type 0
 IsBare result =
     elim result [ Ok settings ↦ settings ≡ bare | Err (Line NoMemory) ↦ Unit {0} | Err fault ↦ ⊥ ]
 
+-- settings are taken by the rights of their files, or were refused before
+abbrev pub IsTakenOrRefused : {H A L R W : Type 0} → Machine H A L R W → H → (path text : List ℕ)
+    → (set result : Result SettingsValues ProgramFault) → Type 0
+IsTakenOrRefused machine host path text (Ok settings) result =
+    IsTaken machine host path text settings result
+IsTakenOrRefused machine host path text (Err fault) result = result ≡ Err fault
+
 -- the settings that the text of the file at this path gives, once the password files that it names
--- were read; File where one can't be, or want of memory
+-- were read and, where they are strict, no file of theirs is exposed; or memory for the paths was
+-- wanting before
 abbrev pub SetsBy : {H A L R W : Type 0} → Machine H A L R W → (path text : List ℕ)
     → Result SettingsValues ProgramFault → (old new : H) → Type 0
 SetsBy machine path text result old new =
     ((result ≡ Err (Settings refused.OutOfMemory None)) × (new ≡ old))
     ⊎ ((read : Result (Option (List PasswordLine)) (Unit {0}))
     × ReadsPasswords machine path (password_paths (parse_document text)) read old new
-    × IsSetBy text read result)
+    × (set : Result SettingsValues ProgramFault) × IsSetBy text read set
+    × IsTakenOrRefused machine new path text set result)
 
 -- The settings of a server that is given this path. Without a path they are those without a file,
 -- and no file is read. A file that can't be read is the fault File.
@@ -203,19 +213,23 @@ FindsNoPlace known settings fault old new =
     ⊎ IsRefusedPlace known settings fault old.host new.host)
     × (new ≡ record old { host = new.host })
 
+-- no connection was served: memory was wanting before, or nothing is had at an address
+abbrev pub ListensNowhere : {C E : Type 0} → (known : KnownMachine) → SettingsValues
+    → ProgramFault → (old new : Serving known.Host known.Archive C E) → Type 0
+ListensNowhere known settings (Connection OutOfMemory) old new = new ≡ old
+ListensNowhere known settings fault old new = FindsNoPlace known settings fault old new
+
 -- connections were served that came to the addresses of the settings, to their end, or till the
--- store broke; or memory was wanting before, or nothing is had at one of them; no other fault ends
--- it
+-- store broke; or none was
 abbrev pub Listens : {C E : Type 0} → (known : KnownMachine) → Readings C → Known E
     → SettingsValues → ℕ → (old new : Serving known.Host known.Archive C E)
     → Result (Unit {0}) ProgramFault → Type 0
-Listens known gave told settings count old new (Ok done) =
-    ListensAt known gave told settings count false old new
-Listens known gave told settings count old new (Err StoreBroken) =
-    ListensAt known gave told settings count true old new
-Listens known gave told settings count old new (Err (Connection OutOfMemory)) = new ≡ old
-Listens known gave told settings count old new (Err fault) =
-    FindsNoPlace known settings fault old new
+Listens known gave told settings count old new result =
+    elim result [
+      | Ok done ↦ ListensAt known gave told settings count false old new
+      | Err StoreBroken ↦ ListensAt known gave told settings count true old new
+      | Err fault ↦ ListensNowhere known settings fault old new
+    ]
 
 -- of a dialog that came to its end the line was printed, a first part of it where the writer
 -- failed, nothing where memory for it was wanting; of another one nothing was printed, and its

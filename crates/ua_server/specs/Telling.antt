@@ -20,6 +20,7 @@ use Rattle.ua_server.specs.declared.dumps.DumpFault.{DumpFault}
 use Rattle.ua_peers.specs.declared.calling.SyncFault.{SyncFault}
 use Rattle.counted_io.specs.declared.fault.ServeFault.{ServeFault}
 use Rattle.counted_io.specs.declared.fault.ServeFault.TheVariants.{Write, OutOfMemory}
+use Rattle.conversation.specs.Closing.{LogCalls}
 use Rattle.ua_server.specs.declared.log.ErrorLog.{ErrorLog}
 use Rattle.ua_server.specs.declared.hexed.HexFault.TheVariants as hexed
 use Rattle.ua_server.specs.declared.dumps.DumpFault.TheVariants as dump
@@ -131,7 +132,7 @@ Known E = E → Option (List ℕ)
 -- standard error, of which nothing was told yet of connections
 abbrev pub fresh_log : {E : Type 0} → Tally E → ErrorLog E
 fresh_log errors =
-    record { errors = errors; told_at = None; missed = 0; calls = replicate 64 None }
+    record { errors = errors; told_at = None; missed = 0; calls = replicate 64 None; longest = 0 }
 
 -- it was told by its lines that a connection ended by this fault
 abbrev pub LogsFault : {E : Type 0} → Known E → ErrorLog E → ServeFault → ErrorLog E → Type 0
@@ -199,13 +200,33 @@ KeepsLast old new callee fault =
 -- kept; of the peers behind the 64th it is told each time
 abbrev pub LogsCall : {E : Type 0} → Known E → ErrorLog E → (callee : ℕ) → (address : List ℕ)
     → Result (Unit {0}) SyncFault → ErrorLog E → Type 0
-LogsCall contents old callee address outcome new =
-    let fault = result_err outcome in
+LogsCall contents old callee address outcome new = let fault = result_err outcome in
     ((slice_get old.calls callee ≡ Some fault) × (new ≡ old))
     ⊎ ((slice_get old.calls callee ≢ Some fault)
     × (new ≡ record old { errors = new.errors; calls = new.calls })
     × KeepsLast old.calls new.calls callee fault
     × LogsLine contents old.errors new.errors (call_lines address (outcome_text fault)))
+
+-- what tells how many milliseconds a turn of a connection took
+abbrev pub turn_text : ℕ → List ℕ
+turn_text milliseconds = codes "a turn took " ++ (decimal milliseconds ++ codes " ms")
+
+-- how long the longest turn so far took: no longer than the last that was to be told, and nothing
+-- is; or longer, which is told, if it can be written, and kept
+abbrev pub LogsTurn : {E : Type 0} → Known E → ErrorLog E → (longest : ℕ) → ErrorLog E → Type 0
+LogsTurn contents old longest new =
+    ((longest ≤ old.longest) × (new ≡ old))
+    ⊎ ((old.longest < longest) × (new ≡ record old { errors = new.errors; longest = longest })
+    × LogsLine contents old.errors new.errors (told_line (turn_text longest)))
+
+-- what is told of connections on standard error
+abbrev pub logs_to : {E : Type 0} → Known E → LogCalls (ErrorLog E)
+logs_to contents = record {
+  told = LogsFault contents;
+  told_failed = LogsFailed contents;
+  told_call = LogsCall contents;
+  told_turn = LogsTurn contents;
+}
 
 -- the second line of a fault, if it has one
 abbrev pub place_line : Option (List ℕ) → List ℕ

@@ -16,7 +16,7 @@ use crate::host::Host;
 use crate::listening::listening_of;
 use crate::log::ErrorLog;
 use crate::program::ProgramFault;
-use conversation::{Conversation, Door, Network, World};
+use conversation::{Conversation, Door, Network, World, tell_turn};
 use counted_io::ServeFault;
 use multiplex::{Limits, serve};
 use std::alloc::{AllocError, Global};
@@ -117,6 +117,7 @@ pub(crate) fn serve_at<H: Host, C: Clock, E: Write>(
         slots.as_mut_slice(),
         limits,
     );
+    tell_turn(world, report.longest_turn);
     if report.is_over {
         return Err(ProgramFault::StoreBroken);
     }

@@ -3,10 +3,12 @@
 ghost use Rattle.std.specs.Prelude.{◌≡◌, ◌==◌, ◌<◌, IfSome, option_copied, option_map, string_bytes};
 ghost use Rattle.std.specs.Result.{result_map_both};
 ghost use Rattle.std.specs.List.{before_first};
+ghost use Rattle.std.specs.Fmt.Cut.{cut_to};
 ghost use Rattle.toml.specs.Parse.{parse_document};
 ghost use Rattle.ua_server.specs.Passwords.{first_line, ReadsFile, ReadsPassword, ReadsPasswords};
-ghost use Rattle.ua_server.specs.Program.{IsSetIn, SetsBy, SettingsAt, TellsPlace, IsBare, IsFaultPlace};
+ghost use Rattle.ua_server.specs.Program.{IsSetIn, IsTakenOrRefused, SetsBy, SettingsAt, TellsPlace, IsBare, IsFaultPlace};
 
+use crate::exposing::judge_strict;
 use crate::host::Host;
 use crate::program::ProgramFault;
 use command_line::LineFault;
@@ -26,14 +28,21 @@ fn bare_settings(alloc: Global) -> Result<Settings, ProgramFault>
     Settings::bare(alloc).map_err(|_| ProgramFault::Line(LineFault::OutOfMemory))
 }
 
+/// A text in at most 180 bytes, by three dots at its end where it has more; none where memory is wanting.
+pub(crate) fn cut(alloc: Global, whole: &str) -> Option<Text>
+    ensures { IfSome result (λ told. told ≡ cut_to 180 whole.now) }
+{
+    let told = InlineText::<MOST_PLACE>::new().and_str(whole, MOST_PLACE);
+    Text::from_str(alloc, told.as_str()).ok()
+}
+
 /// Where a text is refused, in at most 180 bytes; none where memory is wanting.
 fn place_in(alloc: Global, text: &str, passwords: &[PasswordLine]) -> Option<Text>
     ensures { IfSome result (TellsPlace passwords.now (parse_document text.now)) }
 {
     let place = Place::of(alloc, text, passwords).ok()?;
     let whole = place.text(alloc).ok()?;
-    let told = InlineText::<MOST_PLACE>::new().and_str(whole.as_str(), MOST_PLACE);
-    Text::from_str(alloc, told.as_str()).ok()
+    cut(alloc, whole.as_str())
 }
 
 /// Where a text is refused by this fault, in at most 180 bytes; none where memory is wanting.
@@ -144,7 +153,27 @@ fn read_passwords<H: Host>(
     Ok(Some(lines))
 }
 
-/// The settings that the text of the file at a path gives, with the password files that it names.
+/// The settings that the text of the file at a path gives, where password files say this. Strict ones are refused where others
+/// than their owner may have a hand in one of these files.
+fn guarded_settings<H: Host>(
+    alloc: Global,
+    host: &H,
+    path: &str,
+    text: &str,
+    passwords: &[PasswordLine],
+) -> Result<Settings, ProgramFault>
+    ensures { (set : _) × IsSetIn passwords.now text.now set
+        × IsTakenOrRefused H.means host.now path.now text.now set result }
+{
+    let settings = settings_in(alloc, text, passwords)?;
+    match judge_strict(alloc, host, path, text, settings.is_strict()) {
+        Ok(()) => Ok(settings),
+        Err(fault) => Err(fault),
+    }
+}
+
+/// The settings that the text of the file at a path gives, with the password files that it names. Strict ones are refused where
+/// others than their owner may have a hand in one of these files.
 fn settings_by<H: Host>(
     alloc: Global,
     path: &str,
@@ -160,7 +189,7 @@ fn settings_by<H: Host>(
         return Err(ProgramFault::Settings(SettingsFault::OutOfMemory, None));
     };
     match read {
-        Some(lines) => settings_in(alloc, text, lines.as_slice()),
+        Some(lines) => guarded_settings(alloc, host, path, text, lines.as_slice()),
         None => Err(ProgramFault::File),
     }
 }

@@ -35,6 +35,10 @@ pub trait Host {
     fn read(&mut self, path: &str) -> Option<String>
         ensures { means.reads self.old path.now (option_map string_bytes result) self.new };
 
+    /// The mode of the file at a path, as Unix has it: who may read and write it; none where it can't be told.
+    fn mode(&self, path: &str) -> Option<u32>
+        ensures { means.modes self.now path.now result };
+
     /// Whether a store stands at a path, or its log alone.
     fn has_store(&self, path: &str) -> bool
         ensures { means.stands self.now path.now result };

@@ -5,6 +5,7 @@ mod checks;
 mod connections;
 mod dumps;
 mod either;
+mod exposing;
 mod files;
 mod hexed;
 mod histories;

@@ -33,6 +33,8 @@ pub struct Listening {
     pub from: Option<Listing<Network>>,
     /// The peers that are called, in the order of the settings.
     pub callees: Vec<Callee>,
+    /// How many connections are taken at a time, calls apart.
+    pub connections: u32,
 }
 
 /// The address that a text spells.
@@ -155,6 +157,7 @@ pub(crate) fn listening_of(alloc: Global, settings: &Settings) -> Result<Listeni
             peers,
             from,
             callees,
+            connections: settings.connections(),
         }),
         Err(fault) => Err(fault),
     }

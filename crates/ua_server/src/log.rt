@@ -4,7 +4,7 @@ ghost use Rattle.std.specs.Prelude.{◌≡◌, OnOk, OnErr};
 ghost use Rattle.std.specs.Fmt.InlineText.{inline_text};
 ghost use Rattle.std.specs.Io.KnownBytes.{Appends};
 ghost use Rattle.counted_io.specs.Bytes.{counted, AppendsPart};
-ghost use Rattle.ua_server.specs.Telling.{failed_lines, failed_text, fault_text, sync_fault, outcome_text, behind_peer, behind_name, call_lines};
+ghost use Rattle.ua_server.specs.Telling.{failed_lines, failed_text, turn_text, fault_text, sync_fault, outcome_text, behind_peer, behind_name, call_lines};
 
 use crate::program::{ProgramFault, numbered, report, tell};
 use conversation::Log;
@@ -30,6 +30,8 @@ pub(crate) struct ErrorLog<E> {
     pub missed: u64,
     /// The fault by which the last call of each of the first peers ended; none: it came to its end, or there was none.
     pub calls: [Option<SyncFault>; MOST_CALLED],
+    /// How many milliseconds the longest turn of a connection took that was told.
+    pub longest: u64,
 }
 
 impl<E> ErrorLog<E> {
@@ -45,6 +47,7 @@ impl<E> ErrorLog<E> {
             told_at: None,
             missed: 0,
             calls: [None; MOST_CALLED],
+            longest: 0,
         }
     }
 
@@ -70,13 +73,9 @@ impl<E> ErrorLog<E> {
 }
 
 impl<E: Write> Log for ErrorLog<E> {
-    ghost use Rattle.ua_server.specs.Telling.{LogsFault, LogsFailed, LogsCall};
+    ghost use Rattle.ua_server.specs.Telling.{logs_to};
 
-    ghost told = { LogsFault E.contents };
-
-    ghost told_failed = { LogsFailed E.contents };
-
-    ghost told_call = { LogsCall E.contents };
+    ghost calls = { logs_to E.contents };
 
     /// Tells by a line that a connection ended by a fault.
     fn tell(&mut self, fault: ServeFault) {
@@ -103,6 +102,14 @@ impl<E: Write> Log for ErrorLog<E> {
         let _ = tell_outcome(address, fault, &mut self.errors);
         if callee < MOST_CALLED {
             self.calls[callee] = fault;
+        }
+    }
+
+    /// Tells by a line how long the longest turn so far took, where it took longer than the one that was told last.
+    fn tell_turn(&mut self, longest: u64) {
+        if longest > self.longest {
+            let _ = tell(turn_text(longest).as_str().as_bytes(), &mut self.errors);
+            self.longest = longest;
         }
     }
 }
@@ -134,6 +141,17 @@ fn failed_text(missed: u64) -> InlineText<100>
         .and_str("connection ended (1), and ", 40)
         .and_str(digits.format(missed), 40)
         .and_str(" before it", 10)
+}
+
+/// What tells how long a turn took.
+fn turn_text(milliseconds: u64) -> InlineText<100>
+    ensures { inline_text result ≡ turn_text milliseconds }
+{
+    let mut digits = Buffer::new();
+    InlineText::new()
+        .and_str("a turn took ", 40)
+        .and_str(digits.format(milliseconds), 40)
+        .and_str(" ms", 10)
 }
 
 /// What tells the fault by which a call ended.

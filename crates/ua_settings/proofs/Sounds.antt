@@ -189,6 +189,8 @@ server_sound names members right =
           (get_member (codes "connections") members) spoils.1.1.1.1.1.0;
       waiting = optional_held (is_up_to 65536) as_integer (get_member (codes "waiting") members)
           spoils.1.1.1.1.1.1.0;
+      slow = optional_held (is_up_to 60000) as_integer (get_member (codes "slow") members)
+          spoils.1.1.1.1.1.1.1.1.1.0;
     }
 
 name_of_user : (users : List (List ℕ)) (name : List ℕ) (b : Bool) → (is_name name && b) ≡ true

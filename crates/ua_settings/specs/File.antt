@@ -53,7 +53,8 @@ server_keys =
     required (codes "listen") Text ∷ required (codes "url") Text
     ∷ required (codes "application") Text ∷ required (codes "namespace") Text
     ∷ required (codes "anonymous") Truth ∷ optional (codes "connections") (UpTo 1000)
-    ∷ optional (codes "waiting") (UpTo 65536) ∷ optional (codes "anonymous_access") Access ∷ []
+    ∷ optional (codes "waiting") (UpTo 65536) ∷ optional (codes "anonymous_access") Access
+    ∷ optional (codes "strict") Truth ∷ optional (codes "slow") (UpTo 60000) ∷ []
 
 -- those of a table of a user
 abbrev pub user_keys : List Rule

@@ -1,6 +1,6 @@
 -- What settings a file gives.
-use Rattle.std.specs.Prelude.{◌≡◌, ◌⊎◌, ℕ, pos, negsuc, Bool, false, List, [], map, codes, nat_eq, Option, None, Some, option_map, option_and_then, unwrap_or, Result, Err, if◌then◌else◌}
-use Rattle.std.specs.List.{filter_map}
+use Rattle.std.specs.Prelude.{◌≡◌, ◌⊎◌, ℕ, pos, negsuc, Bool, false, List, [], map, codes, nat_eq, Option, None, Some, option_map, option_and_then, is_some, unwrap_or, Result, Err, if◌then◌else◌}
+use Rattle.std.specs.List.{filter_map, list_any}
 use Rattle.std.specs.Cmp.Lexicographic.{pointwise}
 use Rattle.std.specs.Result.{result_map_both}
 use Rattle.toml.specs.Data.{Data, Items, Members, no_members, get_member, as_str, as_integer, as_bool, as_array, as_table}
@@ -144,7 +144,8 @@ listed_in lines document space = record {
 }
 
 -- what the tables `archive` and `server` give, with what others list; 64 connections at a time, and
--- 256 MiB, where the tables don't say, and no end once the store is broken
+-- 256 MiB, where the tables don't say, no end once the store is broken, files of any rights, and no
+-- turn that is told
 abbrev pub values_of : (archive server : Members) → Listed → SettingsValues
 values_of archive server listed = record {
   archive = unwrap_or (parsed (text_at (codes "id") archive)) [];
@@ -160,6 +161,8 @@ values_of archive server listed = record {
   peers = listed.peers;
   door = listed.door;
   ends_broken = pointwise nat_eq (text_at (codes "broken") archive) (codes "stop");
+  is_strict = truth_at (codes "strict") server;
+  slow = number_there (codes "slow") server;
 }
 
 -- the settings of a document with these nodes
@@ -176,6 +179,15 @@ path_in user = option_and_then as_str (get_member (codes "password_file") user)
 abbrev pub password_paths : Option Members → List (List ℕ)
 password_paths None = []
 password_paths (Some document) = filter_map path_in (tables document User)
+
+-- a user's password stands beside his name
+abbrev pub has_password : Members → Bool
+has_password user = is_some (get_member (codes "password") user)
+
+-- a password stands in a text itself, by the document that it is
+abbrev pub holds_password : Option Members → Bool
+holds_password None = false
+holds_password (Some document) = list_any has_password (tables document User)
 
 -- ---- what a file gives
 

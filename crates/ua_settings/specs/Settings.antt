@@ -7,7 +7,8 @@ use Rattle.ua_settings.specs.declared.settings.Parts.{Parts}
 -- where the server listens, the URL of its endpoint, the URI of the application; who may use it;
 -- its nodes; how many connections it serves at a time, and how many MiB may wait to be written;
 -- the peers that it calls, and where peers come to it, if not to the address where clients do;
--- whether it ends once its store is broken
+-- whether it ends once its store is broken, whether others may have a hand in its
+-- files, and from how many milliseconds on a turn is told
 abbrev pub SettingsValues : Type 0
 SettingsValues = Parts
 
@@ -28,6 +29,8 @@ bare = record {
   peers = [];
   door = None;
   ends_broken = false;
+  is_strict = false;
+  slow = None;
 }
 
 -- a text of settings has at most 65,536 bytes

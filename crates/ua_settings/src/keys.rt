@@ -152,7 +152,7 @@ static ARCHIVE: [Key; 4] = [
     key!("broken", AfterBreak, optional),
 ];
 
-static SERVER: [Key; 8] = [
+static SERVER: [Key; 10] = [
     key!("listen", Text),
     key!("url", Text),
     key!("application", Text),
@@ -161,6 +161,8 @@ static SERVER: [Key; 8] = [
     key!("connections", up to 1000, optional),
     key!("waiting", up to 65536, optional),
     key!("anonymous_access", Access, optional),
+    key!("strict", Truth, optional),
+    key!("slow", up to 60000, optional),
 ];
 
 static USER: [Key; 4] = [

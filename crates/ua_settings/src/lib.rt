@@ -15,7 +15,7 @@ mod settings;
 pub use door::DoorSettings;
 pub use fault::SettingsFault;
 pub use keys::Section;
-pub use password::{PasswordLine, password_files};
+pub use password::{PasswordLine, holds_password, password_files};
 pub use peers::{PeerCall, Peers};
 pub use place::Place;
 pub use settings::{Parts, Settings};

@@ -1,15 +1,15 @@
 //! What password files say.
 
 ghost use Rattle.std.specs.Prelude.{◌≡◌, IfOk, Some, nat_eq, find, option_copied};
-ghost use Rattle.std.specs.List.{filter_map};
+ghost use Rattle.std.specs.List.{filter_map, list_any};
 ghost use Rattle.std.specs.Cmp.Lexicographic.{pointwise};
 ghost use Rattle.toml.specs.Parse.{parse_document};
 ghost use Rattle.toml.specs.View.{table_view};
 ghost use Rattle.ua_settings.specs.File.{password_line};
-ghost use Rattle.ua_settings.specs.Reading.{password_paths, path_in};
+ghost use Rattle.ua_settings.specs.Reading.{password_paths, path_in, has_password, holds_password};
 
 use crate::keys::Section;
-use crate::looking::{find_text, tables_of};
+use crate::looking::{find, find_text, tables_of};
 use std::alloc::{AllocError, Global};
 use toml::Table;
 use ua_binary::Text;
@@ -83,6 +83,37 @@ pub fn password_files(alloc: Global, text: &str) -> Result<Vec<Text>, AllocError
                 Err(AllocError)
             } else {
                 Ok(Vec::new(alloc))
+            }
+        }
+    }
+}
+
+/// Whether one of these users has his password beside his name.
+fn any_has_password(users: &[&Table]) -> bool
+    ensures { result ≡ list_any (λ user. has_password (table_view user.now)) users.now }
+{
+    users.iter().any(|user| find(user, "password").is_some())
+}
+
+/// Whether a document has a password.
+fn has_password_in(alloc: Global, document: &Table) -> Result<bool, AllocError>
+    ensures { IfOk result (λ holds. holds ≡ holds_password (Some (table_view document.now))) }
+{
+    let users = tables_of(alloc, document, Section::User)?;
+    Ok(any_has_password(users.as_slice()))
+}
+
+/// Whether a password stands in a text of settings itself; not where it is no TOML. The one error is want of memory.
+pub fn holds_password(alloc: Global, text: &str) -> Result<bool, AllocError>
+    ensures { IfOk result (λ holds. holds ≡ holds_password (parse_document text.now)) }
+{
+    match toml::table_from_str(alloc, text) {
+        Ok(document) => has_password_in(alloc, &document),
+        Err(error) => {
+            if error.is_memory() {
+                Err(AllocError)
+            } else {
+                Ok(false)
             }
         }
     }

@@ -332,6 +332,8 @@ fn settings_of(
         peers: listed.peers,
         door: listed.door,
         ends_broken: text(archive, "broken") == "stop",
+        is_strict: truth(server, "strict"),
+        slow: number_there(server, "slow", 60_000),
     }))
 }
 

@@ -58,6 +58,10 @@ pub struct Parts {
     pub door: Option<DoorSettings>,
     /// Whether `serve` ends once its store is broken.
     pub ends_broken: bool,
+    /// Whether settings are refused whose files others may write, or read passwords in.
+    pub is_strict: bool,
+    /// From how many milliseconds on a turn of a connection is told; none: none is.
+    pub slow: Option<u32>,
 }
 
 /// What a server is set to.
@@ -76,6 +80,8 @@ pub struct Settings {
     peers: Peers,
     door: Option<DoorSettings>,
     ends_broken: bool,
+    is_strict: bool,
+    slow: Option<u32>,
 }
 
 impl Model for Settings {
@@ -98,6 +104,8 @@ impl Model for Settings {
           peers = s.peers;
           door = s.door;
           ends_broken = s.ends_broken;
+          is_strict = s.is_strict;
+          slow = s.slow;
         } };
 
     ghost invariant = { λ s. IsSettingsText s.url × IsSettingsText s.application };
@@ -140,6 +148,8 @@ impl Settings {
             peers: Peers::new(alloc),
             door: None,
             ends_broken: false,
+            is_strict: false,
+            slow: None,
         })
     }
 
@@ -191,6 +201,8 @@ impl Settings {
             peers: parts.peers,
             door: parts.door,
             ends_broken: parts.ends_broken,
+            is_strict: parts.is_strict,
+            slow: parts.slow,
         }
     }
 
@@ -274,6 +286,20 @@ impl Settings {
         ensures { result ≡ self.now.ends_broken }
     {
         self.ends_broken
+    }
+
+    /// Whether settings are refused whose files others may write, or read passwords in.
+    pub fn is_strict(&self) -> bool
+        ensures { result ≡ self.now.is_strict }
+    {
+        self.is_strict
+    }
+
+    /// From how many milliseconds on a turn of a connection is told; none: none is.
+    pub fn slow(&self) -> Option<u32>
+        ensures { result ≡ self.now.slow }
+    {
+        self.slow
     }
 
     /// The peers that are called.

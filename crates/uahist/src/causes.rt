@@ -8,7 +8,7 @@ use ua_server::ProgramFault;
 use ua_settings::SettingsFault;
 
 /// What keys of the settings hold, for those whose value may be wrong.
-static WANTED: [(&str, &str); 19] = [
+static WANTED: [(&str, &str); 21] = [
     (
         "[archive] id",
         "want a UUID, as 3f2c8a10-5b1e-4c7d-9a60-2d8f4b6e7c90",
@@ -17,6 +17,11 @@ static WANTED: [(&str, &str); 19] = [
     ("replica", "want a whole number from 1 to 64"),
     ("broken", "want \"stop\", or no such key"),
     ("anonymous", "want true or false"),
+    ("strict", "want true or false"),
+    (
+        "slow",
+        "want a whole number of milliseconds from 1 to 60000",
+    ),
     ("anonymous_access", "want \"read\" or \"write\""),
     ("access", "want \"read\" or \"write\""),
     ("connections", "want a whole number from 1 to 1000"),
@@ -50,7 +55,7 @@ static KEYS: [(&str, &str); 7] = [
     ),
     (
         "[server] ",
-        "there is no such key: want listen, url, application, namespace, anonymous, anonymous_access, connections or waiting",
+        "there is no such key: want listen, url, application, namespace, anonymous, anonymous_access, connections, waiting, strict or slow",
     ),
     (
         "[[user]] ",
@@ -78,8 +83,11 @@ fn unknown(place: &str) -> &'static str {
     }
 }
 
-/// What the key at a place of the settings has to hold.
+/// What the key at a place of the settings has to hold, or what a file is to be that strict settings are refused for.
 fn wanted(place: &str) -> &'static str {
+    if place.starts_with("[server] strict, ") {
+        return "want a file that its owner alone may write, and that not all may read if it has a password: chmod 640 it";
+    }
     match WANTED.iter().find(|(key, _)| is_at(place, key)) {
         Some((_, words)) => words,
         None => "want a text, or a table of this name",

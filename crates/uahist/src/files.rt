@@ -6,7 +6,7 @@ use sql_archive::{FileArchive, SqlArchive};
 use stamp::ReplicaNo;
 use std::fs::{File, OpenOptions};
 use std::io::ErrorKind;
-use std::os::unix::fs::{MetadataExt, OpenOptionsExt};
+use std::os::unix::fs::{MetadataExt, OpenOptionsExt, PermissionsExt};
 use std::{fs, io};
 use uuid::Uuid;
 
@@ -22,6 +22,14 @@ fn length(rt: &HostRuntime, path: &str) -> io::Result<u64> {
         Ok(found) => Ok(found.len()),
         Err(error) if error.kind() == ErrorKind::NotFound => Ok(0),
         Err(error) => Err(error),
+    }
+}
+
+/// Who may read and write the file at a path.
+pub fn mode(rt: &HostRuntime, path: &str) -> Option<u32> {
+    match fs::metadata(rt, path) {
+        Ok(found) => Some(found.permissions().mode()),
+        Err(_) => None,
     }
 }
 

@@ -10,7 +10,7 @@ use std::io;
 pub(crate) const FIRST_WAITING: usize = 1 << 32;
 
 /// How many wait at most.
-const MOST: usize = 512;
+pub(crate) const MOST_WAITING: usize = 512;
 
 /// How many milliseconds one who is silent stays though others want in, and none are left to wait.
 const PATIENCE: u64 = 10_000;
@@ -108,7 +108,7 @@ impl WaitingRoom {
 
     /// Whether one more may wait. Where as many wait as may, the first makes room who was silent for ten seconds.
     pub fn makes_room(&mut self, now: u64) -> bool {
-        if self.waiting.len() < MOST {
+        if self.waiting.len() < MOST_WAITING {
             return true;
         }
         match self

@@ -42,7 +42,7 @@ const HEAD: &str =
     "[archive]\nid = '00000000000000000000000000000000'\nreplica = 1\n[server]\nlisten = ''\nurl = ''\napplication = ''\n";
 
 /// What goes on behind the start, and why it is refused, if it is.
-static ROWS: [(&str, Option<SettingsFault>); 55] = [
+static ROWS: [(&str, Option<SettingsFault>); 59] = [
     ("namespace = ''\nanonymous = true", None),
     ("namespace = ''\nanonymous =", Some(SettingsFault::NotToml)),
     (
@@ -154,6 +154,16 @@ static ROWS: [(&str, Option<SettingsFault>); 55] = [
     ),
     (
         "namespace = ''\nanonymous = true\nanonymous_access = true",
+        Some(SettingsFault::BadValue),
+    ),
+    ("namespace = ''\nanonymous = true\nstrict = false", None),
+    ("namespace = ''\nanonymous = true\nslow = 60000", None),
+    (
+        "namespace = ''\nanonymous = true\nslow = 60001",
+        Some(SettingsFault::BadValue),
+    ),
+    (
+        "namespace = ''\nanonymous = true\nstrict = 1",
         Some(SettingsFault::BadValue),
     ),
     (

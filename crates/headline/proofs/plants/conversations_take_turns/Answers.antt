@@ -1,4 +1,3 @@
-use Rattle.conversation.specs.Closing.{log_calls}
 use Rattle.headline.proofs.Conversations.{client_turns, peer_turns, refusal_turns, call_turns}
 use Rattle.headline.proofs.plants.conversations_take_turns.Goals as goal
 
@@ -13,4 +12,4 @@ returns-clause-refusal g c = refusal_turns g.A.Archive.state g.C.Clock.gave
 
 pub returns-clause-call : goal.returns-clause-call
 returns-clause-call g c =
-    call_turns g.A.Archive.state (log_calls g.L.Log.told g.L.Log.told_failed g.L.Log.told_call)
+    call_turns g.A.Archive.state g.L.Log.calls

@@ -27,8 +27,11 @@ returns-clause-listens g c =
         record {
           first = begun;
           last = ended;
+          behind = c.tell_turn.new.world;
           done = c.serve-report.result.is_done;
+          longest = c.serve-report.result.longest_turn;
           begins = record { archive = refl; clock = refl; errors = refl };
+          tells = c.tell_turn.ensures;
           ends = record { archive = refl; clock = refl; errors = refl };
           settings_are = refl;
           from = refl;
@@ -61,8 +64,11 @@ returns-then-report-clause-listens g c =
         record {
           first = begun;
           last = ended;
+          behind = c.tell_turn.new.world;
           done = c.serve-report.result.is_done;
+          longest = c.serve-report.result.longest_turn;
           begins = record { archive = refl; clock = refl; errors = refl };
+          tells = c.tell_turn.ensures;
           ends = record { archive = refl; clock = refl; errors = refl };
           settings_are = refl;
           from = refl;

@@ -1,8 +1,10 @@
-use Rattle.ua_server.proofs.TellingParts.{missed-text}
+use Rattle.std.proofs.Common.{codes, arith}
+use Rattle.ua_server.proofs.TellingParts.{between-text}
 use Rattle.ua_server.proofs.log.failed_text.Goals as goal
 
 pub returns : goal.returns
 returns c =
-    missed-text _ _ _ _ c.format.result.now c.args.missed c.new.ensures.text
+    between-text (codes "connection ended (1), and ") (codes " before it") _ _ _ _
+    c.format.result.now c.args.missed (omega arith) (omega arith) c.new.ensures.text
     c.format.ensures.text c.format.ensures.short
     c.and_str.ensures.within c.and_str-2.ensures.within c.and_str-3.ensures.within
