@@ -1,0 +1,4 @@
+mod AskingLemmas
+mod ListingLemmas
+mod RowLemmas
+mod MarkupLemmas

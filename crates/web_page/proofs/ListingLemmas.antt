@@ -1,0 +1,272 @@
+-- What a browse finds of folders and variables, with their names, as `settings_check` has it of ids.
+use Rattle.std.proofs.Common.{◌≡◌, ℕ, ◌+◌, ◌<◌, ◌≤◌, Bool, true, false, List, [], ◌∷◌, ◌++◌, length, drop, get_or, map, None, Some, find, cond, nat_eq, refl, sym, ap, ◌∙◌, subst, append-nil}
+use Rattle.std.specs.Prelude.{Option, option_map, option_to_list, slice_get, zero, suc, filter, Result, Ok, Err, ok_or, if◌then◌else◌}
+use Rattle.std.specs.List.{flat_map}
+use Rattle.std.specs.Cmp.Lexicographic.{pointwise, bytes_decides}
+use Rattle.std.proofs.lemmas.Bool.{true≢false}
+use Rattle.std.proofs.lemmas.List.{map-append, length-map, drop_more, drop_all}
+use Rattle.std.proofs.lemmas.List.Elements.{filter-append}
+use Rattle.std.proofs.lemmas.Option.{slice_get-get_or, slice_get-map, slice_get_within, get_or_from_slice_get, none-some, same_Some}
+use Rattle.ua_binary.specs.Format.{IsOrStarved, ◌>>=◌}
+use Rattle.ua_binary.specs.declared.values.NodeId.{NodeId}
+use Rattle.ua_binary.specs.declared.values.NodeId.TheVariants.{Named, Numeric}
+use Rattle.ua_binary.specs.declared.codes.Status.{Status}
+use Rattle.ua_binary.specs.declared.codes.TheConstants.Status.{BAD_NODE_ID_UNKNOWN, BAD_BROWSE_DIRECTION_INVALID, BAD_REFERENCE_TYPE_ID_INVALID, BAD_OUT_OF_MEMORY}
+use Rattle.ua_services.specs.Browsing.{BrowseFields}
+use Rattle.ua_services.specs.declared.browsing.BrowseDirection.TheVariants.{Forward}
+use Rattle.ua_services.specs.declared.browsing.ReferenceDescription.{ReferenceDescription}
+use Rattle.ua_space.specs.declared.layout.Layout.{Layout}
+use Rattle.ua_space.specs.Space.{Node, Root, Objects, NamespaceArray, State, OfFolder, OfVariable, FolderType, BaseDataVariableType, facts, is_same_id, node_at}
+use Rattle.ua_space.specs.References.{Link, holds, references, type_definition, parent, is_followed, shown_reference, browse_at, way_asked, reference_type_asked, is_reference_type, found_references}
+use Rattle.ua_space.proofs.ReferencesParts.{objects_below, organizes, is_defined_by}
+use Rattle.web_page.specs.declared.listing.Listed.{Listed}
+use Rattle.web_page.specs.Listing.{listed_in, listed_below, told_in, named}
+
+-- ---- which references are found
+
+-- what is asked of a node: all that hangs below it of some classes
+abbrev pub asked_of : NodeId → ℕ → BrowseFields
+asked_of node classes = (node, (Some Forward, (Numeric 0 35, (false, (classes, 16)))))
+
+-- of each reference this is looked at
+module _ {Y : Type 0} (tell : ReferenceDescription → Y) (node : NodeId) (classes : ℕ) where
+  -- what is told of the nodes that are found by such references
+  abbrev kept : List Link → List Y
+  kept links =
+      map tell (map (shown_reference 16) (filter (is_followed Forward (asked_of node classes)) links))
+
+  kept-append : (xs ys : List Link) → kept (xs ++ ys) ≡ kept xs ++ kept ys
+  kept-append xs ys =
+      let p = is_followed Forward (asked_of node classes) in
+      ap (λ l. map tell (map (shown_reference 16) l)) (filter-append p xs ys)
+      ∙ (ap (map tell) (map-append (shown_reference 16) (filter p xs) (filter p ys))
+      ∙ map-append tell (map (shown_reference 16) (filter p xs))
+      (map (shown_reference 16) (filter p ys)))
+
+  -- what stands behind is of no use
+  kept_first : (xs ys zs : List Link) → kept ys ≡ [] → kept zs ≡ []
+      → kept ((xs ++ ys) ++ zs) ≡ kept xs
+  kept_first xs ys zs none no_more =
+      kept-append (xs ++ ys) zs
+      ∙ (ap (λ l. kept (xs ++ ys) ++ l) no_more
+      ∙ (append-nil (kept (xs ++ ys))
+      ∙ (kept-append xs ys
+      ∙ (ap (λ l. kept xs ++ l) none ∙ append-nil (kept xs)))))
+
+  types_none : (nodes : List Node) → kept (map is_defined_by nodes) ≡ []
+  types_none [] = refl
+  types_none (n ∷ nodes) = types_none nodes
+
+  back_none : (nodes : List Node) → kept (map (organizes false) nodes) ≡ []
+  back_none [] = refl
+  back_none (n ∷ nodes) = back_none nodes
+
+  -- all of these are found
+  all_found : {X : Type 0} (make : X → Node) (told : X → Y) (xs : List X)
+      → ((x : X) → is_followed Forward (asked_of node classes) (organizes true (make x)) ≡ true)
+      → ((x : X) → tell (shown_reference 16 (organizes true (make x))) ≡ told x)
+      → kept (map (organizes true) (map make xs)) ≡ map told xs
+  all_found make told [] is same = refl
+  all_found make told (x ∷ xs) is same =
+      let here = organizes true (make x) in
+      let rest = filter (is_followed Forward (asked_of node classes))
+      (map (organizes true) (map make xs)) in
+      ap (λ b. map tell (map (shown_reference 16) (cond b (here ∷ rest) rest))) (is x)
+      ∙ (ap (λ i. i ∷ map tell (map (shown_reference 16) rest)) (same x)
+      ∙ ap (λ l. told x ∷ l) (all_found make told xs is same))
+
+  -- none of these is
+  none_found : {X : Type 0} (make : X → Node) (xs : List X)
+      → ((x : X) → is_followed Forward (asked_of node classes) (organizes true (make x)) ≡ false)
+      → kept (map (organizes true) (map make xs)) ≡ []
+  none_found make [] isnt = refl
+  none_found make (x ∷ xs) isnt =
+      let here = organizes true (make x) in
+      let rest = filter (is_followed Forward (asked_of node classes))
+      (map (organizes true) (map make xs)) in
+      ap (λ b. map tell (map (shown_reference 16) (cond b (here ∷ rest) rest))) (isnt x)
+      ∙ none_found make xs isnt
+
+-- ---- what is found below a node
+
+module _ (folder : Option (List ℕ)) (space : Layout) (node : NodeId) where
+  objects_none : (n : Node)
+      → kept (told_in folder) node 2 (map (organizes true) (objects_below space n)) ≡ []
+  objects_none Root = refl
+  objects_none Objects = none_found (told_in folder) node 2 OfFolder space.folders (λ f. refl)
+  objects_none NamespaceArray = refl
+  objects_none State = refl
+  objects_none (OfFolder folder) = refl
+  objects_none (OfVariable variable) = refl
+  objects_none FolderType = refl
+  objects_none BaseDataVariableType = refl
+
+  -- the variables below a node
+  found_below : (n : Node)
+      → kept (told_in folder) node 2 (references space n) ≡ listed_below space folder n
+  found_below n =
+      let tell = told_in folder in
+      let objects = objects_below space n in
+      let variables = filter (holds n) space.variables in
+      kept_first tell node 2 (map (organizes true) (objects ++ map OfVariable variables))
+      (map is_defined_by (option_to_list (type_definition n)))
+      (map (organizes false) (option_to_list (parent space n)))
+      (types_none tell node 2 (option_to_list (type_definition n)))
+      (back_none tell node 2 (option_to_list (parent space n)))
+      ∙ (ap (kept tell node 2) (map-append (organizes true) objects (map OfVariable variables))
+      ∙ (kept-append tell node 2 (map (organizes true) objects)
+      (map (organizes true) (map OfVariable variables))
+      ∙ (ap (λ l. l ++ kept tell node 2 (map (organizes true) (map OfVariable variables)))
+      (objects_none n)
+      ∙ all_found tell node 2 OfVariable (listed_in folder) variables (λ v. refl) (λ v. refl))))
+
+-- the id and the name of a folder
+abbrev pub folder_named : Layout → List (NodeId × Option (List ℕ))
+folder_named space = map (λ folder. (Named 1 folder.id, Some folder.name)) space.folders
+
+-- the folders below Objects
+found_folders : (space : Layout) (node : NodeId)
+    → kept named node 1 (references space Objects) ≡ folder_named space
+found_folders space node =
+    let folders = map OfFolder space.folders in
+    let variables = filter (holds Objects) space.variables in
+    kept_first named node 1 (map (organizes true) (folders ++ map OfVariable variables))
+    (map is_defined_by (FolderType ∷ [])) (map (organizes false) (Root ∷ []))
+    (types_none named node 1 (FolderType ∷ [])) (back_none named node 1 (Root ∷ []))
+    ∙ (ap (kept named node 1) (map-append (organizes true) folders (map OfVariable variables))
+    ∙ (kept-append named node 1 (map (organizes true) folders)
+    (map (organizes true) (map OfVariable variables))
+    ∙ (ap (λ l. kept named node 1 (map (organizes true) folders) ++ l)
+    (none_found named node 1 OfVariable variables (λ v. refl))
+    ∙ (append-nil (kept named node 1 (map (organizes true) folders))
+    ∙ all_found named node 1 OfFolder (λ f. (Named 1 f.id, Some f.name)) space.folders (λ f. refl)
+    (λ f. refl)))))
+
+-- ---- what a browse answers
+
+-- the references of a node that is there, or why they aren't told
+abbrev references_at : Layout → BrowseFields → Option Node → Result (List ReferenceDescription) Status
+references_at space d node =
+    ok_or node BAD_NODE_ID_UNKNOWN
+    >>= λ node. ok_or (way_asked d) BAD_BROWSE_DIRECTION_INVALID >>= λ direction.
+    if is_reference_type (reference_type_asked d) then Ok (found_references space d node direction)
+    else Err BAD_REFERENCE_TYPE_ID_INVALID
+
+-- what is answered of variables below a node tells them
+pub variables_answered : (space : Layout) (node : NodeId) (n : Node) (folder : Option (List ℕ))
+    (found : List ReferenceDescription) → node_at space node ≡ Some n
+    → IsOrStarved BAD_OUT_OF_MEMORY (browse_at space (asked_of node 2)) (Ok found)
+    → map (told_in folder) found ≡ listed_below space folder n
+variables_answered space node n folder found is told =
+    let answered : found ≡ found_references space (asked_of node 2) n Forward =
+    subst (λ o. IsOrStarved BAD_OUT_OF_MEMORY (references_at space (asked_of node 2) o) (Ok found))
+    is told in
+    ap (map (told_in folder)) answered ∙ found_below folder space node n
+
+-- what is answered of folders below Objects tells them
+pub folders_answered : (space : Layout) (found : List ReferenceDescription)
+    → IsOrStarved BAD_OUT_OF_MEMORY (browse_at space (asked_of (Numeric 0 85) 1)) (Ok found)
+    → map named found ≡ folder_named space
+folders_answered space found told = ap (map named) told ∙ found_folders space (Numeric 0 85)
+
+-- ---- the node of a folder's id
+
+-- of a list of nodes the first of an id is found, which is one of the list's
+module _ {X : Type 0} (make : X → Node) (name : X → List ℕ)
+    (told : (x : X) (id : List ℕ)
+    → is_same_id (facts (make x)).id (Named 1 id) ≡ pointwise nat_eq (name x) id) where
+  abbrev first_named : List ℕ → List Node → Option Node
+  first_named id nodes = find (λ node. is_same_id (facts node).id (Named 1 id)) nodes
+
+  find_made : (xs : List X) (more : List Node) (i : ℕ) (x : X) → slice_get xs i ≡ Some x
+      → (y : X) × (first_named (name x) (map make xs ++ more) ≡ Some (make y)) × (name y ≡ name x)
+  find_made [] more i x at = absurd (none-some x at)
+  find_made (y ∷ xs) more i x at =
+      go (pointwise nat_eq (name y) (name x)) refl i at (λ k. find_made xs more k x)
+    where
+      go : (b : Bool) → pointwise nat_eq (name y) (name x) ≡ b → (i : ℕ)
+          → slice_get (y ∷ xs) i ≡ Some x
+          → ((k : ℕ) → slice_get xs k ≡ Some x
+          → (z : X) × (first_named (name x) (map make xs ++ more) ≡ Some (make z))
+          × (name z ≡ name x))
+          → (z : X) × (first_named (name x) (map make (y ∷ xs) ++ more) ≡ Some (make z))
+          × (name z ≡ name x)
+      go true same i at later = (
+        y,
+        ap (λ b. cond b (Some (make y)) (first_named (name x) (map make xs ++ more)))
+            (told y (name x) ∙ same),
+        (bytes_decides (name y) (name x)).0 same,
+      )
+      go false other zero at later =
+          let same : y ≡ x = same_Some y x at in
+          absurd (true≢false (sym ((bytes_decides (name y) (name x)).1 (ap name same)) ∙ other))
+      go false other (suc k) at later =
+          let (z, is, same) = later k at in (
+            z,
+            ap (λ b. cond b (Some (make y)) (first_named (name x) (map make xs ++ more)))
+                (told y (name x) ∙ other) ∙ is,
+            same,
+          )
+
+-- ---- folder by folder
+
+-- of two lists of which the same is told, what stands at a place of the one stands in the other
+at_place : {X Y Z : Type 0} (f : X → Z) (g : Y → Z) (xs : List X) (ys : List Y)
+    (i : ℕ) (d : Y) → i < length ys → map g ys ≡ map f xs
+    → (x : X) × (slice_get xs i ≡ Some x) × (f x ≡ g (get_or ys i d))
+at_place {X = X} f g xs ys i d lt same = go (slice_get xs i) refl
+    (sym (slice_get-map f xs i) ∙ (ap (λ l. slice_get l i) (sym same)
+    ∙ (slice_get-map g ys i ∙ ap (option_map g) (slice_get-get_or ys i d lt))))
+  where
+    go : (o : Option X) → slice_get xs i ≡ o → option_map f o ≡ Some (g (get_or ys i d))
+        → (x : X) × (slice_get xs i ≡ Some x) × (f x ≡ g (get_or ys i d))
+    go None at told = absurd (none-some (g (get_or ys i d)) told)
+    go (Some x) at told = (x, at, same_Some (f x) (g (get_or ys i d)) told)
+
+-- what stands at a place stands before what is behind it
+drop_at : {X : Type 0} (xs : List X) (i : ℕ) (x : X) → slice_get xs i ≡ Some x
+    → drop i xs ≡ x ∷ drop (i + 1) xs
+drop_at xs i x at =
+    drop_more xs i x (slice_get_within xs i x at)
+    ∙ ap (λ y. y ∷ drop (i + 1) xs) (get_or_from_slice_get xs i x x at)
+
+-- a variable names this folder
+abbrev is_in : List ℕ → Option (List ℕ) → Bool
+is_in id given = elim given [ None ↦ false | Some other ↦ pointwise nat_eq other id ]
+
+-- the variables of folders
+abbrev pub in_folders : Layout → ℕ → List Listed
+in_folders space i =
+    flat_map (λ folder. listed_below space (Some folder.name) (OfFolder folder))
+    (drop i space.folders)
+
+-- the variables of the next folder, to which the next reference leads
+pub next_folder : (space : Layout) (refs : List ReferenceDescription) (i : ℕ)
+    (d : ReferenceDescription) (ids : List Listed) → i < length refs
+    → map named refs ≡ folder_named space
+    → ((n : Node) → node_at space (get_or refs i d).node_id ≡ Some n
+    → ids ≡ listed_below space (get_or refs i d).display_name.text n)
+    → in_folders space i ≡ ids ++ in_folders space (i + 1)
+next_folder space refs i d ids lt same found =
+    let (folder, at, told) =
+    at_place (λ f. (Named 1 f.id, Some f.name)) named space.folders refs i d lt same in
+    let (g, is, name) = find_made OfFolder (λ f. f.id) (λ f n. refl) space.folders
+    (map OfVariable space.variables) i folder at in
+    let here : ids ≡ listed_below space (Some folder.name) (OfFolder folder) =
+    found (OfFolder g) (subst (λ i. node_at space i ≡ Some (OfFolder g)) (ap (λ p. p.0) told) is)
+    ∙ (ap (λ t. listed_below space t (OfFolder g)) (sym (ap (λ p. p.1) told))
+    ∙ ap (λ n. map (listed_in (Some folder.name)) (filter (λ v. is_in n v.folder) space.variables))
+    name) in
+    ap (flat_map (λ f. listed_below space (Some f.name) (OfFolder f)))
+    (drop_at space.folders i folder at)
+    ∙ ap (λ l. l ++ in_folders space (i + 1)) (sym here)
+
+-- as many folders as references to them
+pub none_left : (space : Layout) (refs : List ReferenceDescription) (i : ℕ) → length refs ≤ i
+    → map named refs ≡ folder_named space → in_folders space i ≡ []
+none_left space refs i all same =
+    let count : length refs ≡ length space.folders =
+    sym (length-map refs named)
+    ∙ (ap length same ∙ length-map space.folders (λ f. (Named 1 f.id, Some f.name))) in
+    ap (flat_map (λ f. listed_below space (Some f.name) (OfFolder f)))
+    (drop_all i space.folders (subst (λ n. n ≤ i) count all))

@@ -1,0 +1,114 @@
+-- Rows of variables, one behind the other, and the page around them.
+use Rattle.std.proofs.Common.{◌≡◌, ℕ, ◌+◌, ◌<◌, ◌≤◌, List, [], ◌∷◌, ◌++◌, take, get_or, length, append-nil, append_assoc, refl, sym, ap, ◌∙◌, subst}
+use Rattle.std.proofs.lemmas.List.{take_more, take_all}
+use Rattle.std.specs.Prelude.{⊤, is_ok, if◌then◌else◌, Option, Result, Ok, Err, MatchResult, OnOk}
+use Rattle.std.specs.declared.alloc.AllocError.{AllocError}
+use Rattle.records.specs.declared.shown.Held.{Held}
+use Rattle.records.specs.Contents.{Content}
+use Rattle.archive.specs.Store.{Store, IsLawfulContent}
+use Rattle.ua_space.specs.declared.layout.Layout.{Layout}
+use Rattle.ua_settings.specs.Settings.{SettingsValues}
+use Rattle.history_report.specs.Reports.{AreLines}
+use Rattle.history_report.specs.Paging.{IsPut}
+use Rattle.settings_check.specs.Stored.{Reads, IsVectorOf}
+use Rattle.web_page.specs.declared.fault.PageFault.{PageFault}
+use Rattle.web_page.specs.declared.listing.Listed.{Listed}
+use Rattle.web_page.specs.Listing.{listed_variables}
+use Rattle.web_page.specs.Values.{AreLatestTexts}
+use Rattle.web_page.specs.Front.{row_of, IsRowOf, AreRows, IsFront, front_begin, front_end, page_faults}
+use Rattle.web_page.proofs.AskingLemmas.{reads-both}
+
+module _ {X : Type 0} (IsLine : X → List ℕ → Type 0) where
+  lines-append : (xs ys : List X) (s t : List ℕ) → AreLines IsLine xs s → AreLines IsLine ys t
+      → AreLines IsLine (xs ++ ys) (s ++ t)
+  lines-append [] ys s t none more = subst (λ l. AreLines IsLine ys (l ++ t)) (sym none) more
+  lines-append (x ∷ xs) ys s t (line, rest, same, one, others) more = (
+    line,
+    rest ++ t,
+    ap (λ l. l ++ t) same ∙ append_assoc line rest t,
+    one,
+    lines-append xs ys rest t others more,
+  )
+
+  -- none so far
+  pub put-none : (old : List ℕ) (xs : List X) → IsPut old old (AreLines IsLine (take 0 xs))
+  put-none old xs = ([], sym (append-nil old), refl)
+
+  -- one more
+  pub put-more : (old now new : List ℕ) (xs : List X) (i : ℕ) (d : X) → i < length xs
+      → IsPut old now (AreLines IsLine (take i xs)) → IsPut now new (IsLine (get_or xs i d))
+      → IsPut old new (AreLines IsLine (take (i + 1) xs))
+  put-more old now new xs i d lt (lines, same, are) (line, appended, one) = (
+    lines ++ line,
+    appended ∙ (ap (λ l. l ++ line) same ∙ append_assoc old lines line),
+    subst (λ l. AreLines IsLine l (lines ++ line)) (sym (take_more xs i d lt))
+        (lines-append (take i xs) (get_or xs i d ∷ []) lines line are
+        (line, [], sym (append-nil line), one, refl)),
+  )
+
+  -- all of them
+  pub put-all : (old new : List ℕ) (xs : List X) (i : ℕ) → length xs ≤ i
+      → IsPut old new (AreLines IsLine (take i xs)) → IsPut old new (AreLines IsLine xs)
+  put-all old new xs i whole put =
+      subst (λ l. IsPut old new (AreLines IsLine l)) (take_all i xs whole) put
+
+five : (o a b c d e : List ℕ) → o ++ a ++ b ++ c ++ d ++ e ≡ o ++ (a ++ b ++ c ++ d ++ e)
+five o a b c d e = simp append_assoc
+
+-- five parts are put behind a text, where the last is
+pub five-put : (result : Result (Unit {0}) AllocError) (old a b c d e one two three four new : List ℕ)
+    → one ≡ old ++ a → two ≡ one ++ b → three ≡ two ++ c → four ≡ three ++ d
+    → new ≡ (if is_ok result then four ++ e else four)
+    → OnOk result (new ≡ old ++ (a ++ b ++ c ++ d ++ e))
+five-put (Ok done) old a b c d e one two three four new p q r s last =
+    last ∙ (ap (λ l. l ++ e) (s ∙ ap (λ l. l ++ d) (r ∙ ap (λ l. l ++ c) (q ∙ ap (λ l. l ++ b) p)))
+    ∙ five old a b c d e)
+five-put (Err why) old a b c d e one two three four new p q r s last = tt
+
+-- the row with these texts of a live value is put
+pub told-put : (result : Result (Unit {0}) AllocError) (old new : List ℕ) (space : Layout)
+    (one : Listed) (held : Option Held) (value status time : List ℕ)
+    → AreLatestTexts held value status time
+    → OnOk result (new ≡ old ++ row_of space one value status time)
+    → OnOk result (IsPut old new (IsRowOf space one held))
+told-put (Ok done) old new space one held value status time are puts = (
+  row_of space one value status time,
+  puts,
+  (value, status, time, are, refl),
+)
+told-put (Err why) old new space one held value status time are puts = tt
+
+-- the rows within the vector that was asked for, or why there are none
+pub rows-told : (result : Result (Unit {0}) PageFault) (s t u : Store) (space : Layout)
+    (within : List ℕ) (old new : List ℕ)
+    → Reads s t [] (λ R. IsLawfulContent R × IsVectorOf within R)
+    → MatchResult result
+    (λ done. Reads t u [] (λ R. IsVectorOf within R
+    → IsPut old new (AreRows space R (listed_variables space))))
+    (λ why. Reads t u (page_faults why) (λ R. ⊤))
+    → MatchResult result
+    (λ done. Reads s u [] (λ R. IsPut old new (AreRows space R (listed_variables space))))
+    (λ why. Reads s u (page_faults why) (λ R. ⊤))
+rows-told (Ok done) s t u space within old new counts told =
+    reads-both s t u [] (λ R. IsLawfulContent R × IsVectorOf within R)
+    (λ R. IsVectorOf within R → IsPut old new (AreRows space R (listed_variables space)))
+    (λ R. IsPut old new (AreRows space R (listed_variables space)))
+    (λ R p q. q p.1) counts told
+rows-told (Err why) s t u space within old new counts stops =
+    reads-both s t u (page_faults why) (λ R. IsLawfulContent R × IsVectorOf within R)
+    (λ R. ⊤) (λ R. ⊤) (λ R p q. tt) counts stops
+
+-- the page around rows that were put behind nothing
+pub front-put : (s : SettingsValues) (space : Layout) (R : Content)
+    (empty rows slice old new : List ℕ) → empty ≡ [] → space ≡ s.space → slice ≡ rows
+    → IsPut empty rows (AreRows space R (listed_variables space))
+    → new ≡ old ++ (front_begin s ++ slice ++ front_end) → IsPut old new (IsFront s R)
+front-put s space R empty rows slice old new none same is (lines, put, are) whole = (
+  front_begin s ++ slice ++ front_end,
+  whole,
+  (
+    lines,
+    subst (λ (l : Layout). AreRows l R (listed_variables l) lines) same are,
+    ap (λ t. front_begin s ++ t ++ front_end) (is ∙ (put ∙ ap (λ t. t ++ lines) none)),
+  ),
+)

@@ -1,0 +1,13 @@
+use Rattle.std.proofs.Common.{Ok, subst}
+use Rattle.ua_binary.specs.Binary.{node_of as id_of_lent}
+use Rattle.ua_binary.specs.Format.{IsOrStarved}
+use Rattle.ua_binary.specs.declared.codes.TheConstants.Status.{BAD_OUT_OF_MEMORY}
+use Rattle.ua_space.specs.References.{browse_at}
+use Rattle.web_page.proofs.ListingLemmas.{variables_answered}
+use Rattle.web_page.proofs.listing.variables_below.Goals as goal
+
+pub returns-in-Ok : goal.returns-in-Ok
+returns-in-Ok c n folder is =
+    variables_answered c.args.space.now (id_of_lent c.args.node) n folder c.in-Ok.found is
+    (subst (λ d. IsOrStarved BAD_OUT_OF_MEMORY (browse_at c.args.space.now d) (Ok c.in-Ok.found))
+    c.asked.ensures c.in-Ok.ensures.told)

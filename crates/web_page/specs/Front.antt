@@ -1,0 +1,120 @@
+-- The page that a person begins at.
+use Rattle.std.specs.Prelude.{◌≡◌, ℕ, List, [], ◌∷◌, ◌++◌, codes, slice_get, unwrap_or, Option}
+use Rattle.std.specs.Fmt.{decimal}
+use Rattle.uuid.specs.Text.{hyphenated_text, lower}
+use Rattle.form_urlencoded.specs.Form.{byte_serialize}
+use Rattle.ua_binary.specs.declared.values.NodeId.{NodeId}
+use Rattle.ua_space.specs.declared.layout.Layout.{Layout}
+use Rattle.ua_space.specs.Space.{value_type_at}
+use Rattle.ua_settings.specs.Settings.{SettingsValues}
+use Rattle.records.specs.Contents.{Content}
+use Rattle.records.specs.declared.shown.Held.{Held}
+use Rattle.archive.specs.Reading.{lives, in_direction}
+use Rattle.archive.specs.declared.fault.StoreFault.{StoreFault}
+use Rattle.archive.specs.declared.reading.Direction.TheVariants.{Backward}
+use Rattle.history_csv.specs.Nodes.{node_text}
+use Rattle.history_report.specs.Html.{escaped, data_cell, page_begin}
+use Rattle.history_report.specs.Reports.{AreLines}
+use Rattle.web_page.specs.declared.fault.PageFault.{PageFault}
+use Rattle.web_page.specs.declared.fault.PageFault.TheVariants.{Store, OutOfMemory}
+use Rattle.web_page.specs.declared.listing.Listed.{Listed}
+use Rattle.web_page.specs.Listing.{listed_variables}
+use Rattle.web_page.specs.Values.{type_text, cut_text, AreLatestTexts}
+
+-- ---- a row
+
+-- the address of the page of the history of a node whose id is this text
+unfoldable pub history_link : List ℕ → List ℕ
+history_link id = codes "/history?node=" ++ byte_serialize id
+
+-- a text as a cell that leads to an address
+abbrev pub anchor_cell : (address text : List ℕ) → List ℕ
+anchor_cell address text =
+    codes "<td><a href=\"" ++ escaped address ++ codes "\">" ++ escaped text
+    ++ codes "</a></td>"
+
+-- a node's id, as a link to its history
+abbrev pub link_cell : NodeId → List ℕ
+link_cell node = anchor_cell (history_link (node_text node)) (node_text node)
+
+-- what the settings say of a variable: its folder, its name, its id and its type
+abbrev pub settings_cells : Layout → Listed → List ℕ
+settings_cells space one =
+    data_cell (unwrap_or one.folder []) ++ data_cell one.name ++ link_cell one.node
+    ++ data_cell (type_text (value_type_at space one.node))
+
+-- the texts of a live value as cells, the value's cut where it is long
+abbrev pub latest_cells : (value status time : List ℕ) → List ℕ
+latest_cells value status time =
+    data_cell (cut_text value) ++ data_cell status ++ data_cell time
+
+-- the latest live value of a node
+abbrev pub latest : Content → NodeId → Option Held
+latest R node = slice_get (in_direction Backward (lives R node)) 0
+
+-- the row of a variable: what the settings say, and these texts of a live value
+abbrev pub row_of : Layout → Listed → (value status time : List ℕ) → List ℕ
+row_of space one value status time =
+    codes "<tr>" ++ settings_cells space one ++ latest_cells value status time
+    ++ codes "</tr>\n"
+
+-- the same with the texts of a live value, empty ones where there is none
+abbrev pub IsRowOf : Layout → Listed → Option Held → List ℕ → Type 0
+IsRowOf space one held row =
+    (value : List ℕ) × (status : List ℕ) × (time : List ℕ)
+    × AreLatestTexts held value status time × (row ≡ row_of space one value status time)
+
+-- the row of a variable with its latest live value
+abbrev pub IsVariableRow : Layout → Content → Listed → List ℕ → Type 0
+IsVariableRow space R one row = IsRowOf space one (latest R one.node) row
+
+-- ---- above and below the rows
+
+-- which replica of which archive it is
+abbrev pub heading : SettingsValues → List ℕ
+heading s =
+    codes "Archive " ++ hyphenated_text lower s.archive ++ codes ", replica " ++ decimal s.replica
+
+-- from the title to the heading: how the page looks
+unfoldable pub front_style : List ℕ
+front_style =
+    codes "</title>\n<style>\n:root{color-scheme:light dark}\n"
+    ++ codes "body{margin:2rem;font-family:system-ui,sans-serif}\n"
+    ++ codes "table{border-collapse:collapse;font-variant-numeric:tabular-nums}\n"
+    ++ codes "th,td{padding:.25rem .75rem;text-align:left;vertical-align:top}\n"
+    ++ codes "th{position:sticky;top:0;background:Canvas;box-shadow:0 1px}\n"
+    ++ codes "td{white-space:pre-wrap;overflow-wrap:anywhere}\ntd:last-child{white-space:nowrap}\n"
+    ++ codes "tr:nth-child(even) td{background:#8882}\n</style>\n</head>\n<body>\n<h1>"
+
+-- from the heading to the rows: the names of the columns
+unfoldable pub front_columns : List ℕ
+front_columns =
+    codes "</h1>\n<table>\n<thead>\n<tr><th scope=\"col\">folder</th>"
+    ++ codes "<th scope=\"col\">name</th><th scope=\"col\">id</th><th scope=\"col\">type</th>"
+    ++ codes "<th scope=\"col\">value</th><th scope=\"col\">status</th>"
+    ++ codes "<th scope=\"col\">time</th></tr>\n</thead>\n<tbody>\n"
+
+-- the part of the page above its rows
+abbrev pub front_begin : SettingsValues → List ℕ
+front_begin s =
+    page_begin ++ escaped (heading s) ++ front_style ++ escaped (heading s) ++ front_columns
+
+-- the part below them
+abbrev pub front_end : List ℕ
+front_end = codes "</tbody>\n</table>\n</body>\n</html>\n"
+
+-- ---- the page
+
+-- rows of these variables, one behind the other
+abbrev pub AreRows : Layout → Content → List Listed → List ℕ → Type 0
+AreRows space R listed rows = AreLines (IsVariableRow space R) listed rows
+
+-- the page of settings, over what an archive holds
+abbrev pub IsFront : SettingsValues → Content → List ℕ → Type 0
+IsFront s R page =
+    (rows : List ℕ) × AreRows s.space R (listed_variables s.space) rows
+    × (page ≡ front_begin s ++ rows ++ front_end)
+
+-- the fault of the store by which a page ended, if it is one of the store's
+abbrev pub page_faults : PageFault → List StoreFault
+page_faults why = elim why [ Store fault ↦ fault ∷ [] | OutOfMemory ↦ [] ]

@@ -1,0 +1,3 @@
+pub mod Listing
+pub mod Values
+pub mod Front

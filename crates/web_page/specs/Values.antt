@@ -1,0 +1,89 @@
+-- How a live value and a type are shown in a few words.
+use Rattle.std.specs.Prelude.{◌≡◌, ◌⊎◌, ℕ, ◌-◌, ◌==◌, ◌||◌, ◌&&◌, nat_lt, nat_le, Bool, false, true, List, [], ◌∷◌, ◌++◌, codes, Option, Some, None, if◌then◌else◌}
+use Rattle.ua_variant.specs.Scalar.{scalar_number}
+use Rattle.ua_variant.specs.Values.{array_number}
+use Rattle.ua_variant.specs.declared.value.ValueType.{ValueType}
+use Rattle.ua_variant.specs.declared.value.Variant.{Variant}
+use Rattle.ua_variant.specs.declared.value.Variant.TheVariants.{Null, Scalar, Array}
+use Rattle.records.specs.declared.shown.Held.{Held}
+use Rattle.history_text.specs.Times.{IsTimeText}
+use Rattle.history_csv.specs.Rows.{IsVariantText, IsTextless, code_text, time_of}
+
+-- ---- types
+
+-- the name of the type of this number (Part 6, 5.1.2)
+unfoldable pub type_name : ℕ → List ℕ
+type_name number =
+    if number == 1 then codes "Boolean"
+    else if number == 2 then codes "SByte"
+    else if number == 3 then codes "Byte"
+    else if number == 4 then codes "Int16"
+    else if number == 5 then codes "UInt16"
+    else if number == 6 then codes "Int32"
+    else if number == 7 then codes "UInt32"
+    else if number == 8 then codes "Int64"
+    else if number == 9 then codes "UInt64"
+    else if number == 10 then codes "Float"
+    else if number == 11 then codes "Double"
+    else if number == 12 then codes "String"
+    else if number == 13 then codes "DateTime"
+    else if number == 14 then codes "Guid"
+    else if number == 15 then codes "ByteString"
+    else if number == 17 then codes "NodeId"
+    else if number == 19 then codes "StatusCode"
+    else if number == 20 then codes "QualifiedName"
+    else if number == 21 then codes "LocalizedText"
+    else []
+
+-- the words for a type
+abbrev pub type_words : ValueType → List ℕ
+type_words type = type_name type.number ++ (if type.array then codes " array" else [])
+
+-- the same where there is a type
+abbrev pub type_text : Option ValueType → List ℕ
+type_text given = elim given [ None ↦ [] | Some type ↦ type_words type ]
+
+-- ---- values
+
+-- the type of a value; a null has none
+abbrev pub type_of : Variant → Option ValueType
+type_of value = elim value [
+  | Null ↦ None
+  | Scalar one ↦ Some (record { number = scalar_number one; array = false })
+  | Array many ↦ Some (record { number = array_number many; array = true })
+]
+
+-- what stands for a value that has no text: its type in brackets
+abbrev pub bracketed : Option Variant → List ℕ
+bracketed given =
+    elim given [ None ↦ [] | Some value ↦ 91 ∷ type_text (type_of value) ++ 93 ∷ [] ]
+
+-- what is shown of a value: its text, or where it has none, its type in brackets
+abbrev pub IsShown : Option Variant → List ℕ → Type 0
+IsShown given text = IsVariantText given text ⊎ (IsTextless given × (text ≡ bracketed given))
+
+-- the texts of the latest live value, of its status and of its time; empty where there is none
+abbrev pub AreLatestTexts : Option Held → (value status time : List ℕ) → Type 0
+AreLatestTexts latest value status time =
+    elim latest [
+      | None ↦ (value ≡ []) × (status ≡ []) × (time ≡ [])
+      | Some held ↦ IsShown held.value.value value × (status ≡ code_text held.value.status)
+          × IsTimeText (time_of held.time) time
+    ]
+
+-- ---- long texts
+
+-- a byte begins a character of UTF-8
+abbrev pub is_start : ℕ → Bool
+is_start b = nat_lt b 128 || nat_le 192 b
+
+-- a text up to the character that stands behind so many, with dots in place of the rest
+abbrev pub cut_behind : (left : ℕ) → List ℕ → List ℕ
+cut_behind left [] = []
+cut_behind left (b ∷ text) =
+    if is_start b && left == 0 then codes "..."
+    else b ∷ cut_behind (if is_start b then left - 1 else left) text
+
+-- a text's first 200 characters, with dots in place of the rest
+abbrev pub cut_text : List ℕ → List ℕ
+cut_text text = cut_behind 200 text

@@ -1,0 +1,218 @@
+//! The front page, over a plant of three variables.
+
+use archive::{Archive, LearnFault, ListArchive, StoreFault};
+use records::{Moment, Record};
+use stamp::ReplicaNo;
+use std::alloc::Global;
+use std::test::Fail;
+use ua_binary::{Listing, NodeId, Text};
+use ua_settings::Settings;
+use ua_variant::{Array, DataValue, HistoryUpdateType, Scalar, Variant};
+use uuid::Uuid;
+use web_page::put_front;
+
+/// Settings with three variables in two folders, and a fourth in none.
+const SETTINGS: &str = "[archive]\nid = '12345678-9abc-def0-1234-56789abcdef0'\nreplica = 7\n\
+     [server]\nlisten = ''\nurl = ''\napplication = ''\nnamespace = ''\nanonymous = false\n\
+     [[folder]]\nid = 'f'\nname = 'Hall <1>'\n\
+     [[folder]]\nid = 'g'\nname = 'Yard & gate'\n\
+     [[variable]]\nid = 'a list'\nname = 'list'\ntype = 'Double'\narray = true\nfolder = 'g'\n\
+     [[variable]]\nid = 'note'\nname = \"the \\\"note\\\"\"\ntype = 'String'\nfolder = 'f'\n\
+     [[variable]]\nid = 'never\"/&'\nname = \"it's <new>\"\ntype = 'Int32'\nfolder = 'f'\n\
+     [[variable]]\nid = 'door'\nname = 'door'\ntype = 'Boolean'\n";
+
+/// 2026-03-01T12:00:00Z.
+const NOON: i64 = 134_168_400_000_000_000;
+
+/// A second.
+const SECOND: i64 = 10_000_000;
+
+/// What the page begins by.
+const BEGIN: &str = "<!DOCTYPE html>\n<html lang=\"en\">\n<head>\n<meta charset=\"utf-8\">\n\
+     <meta http-equiv=\"Content-Security-Policy\" content=\"default-src 'none'; style-src 'unsafe-inline'\">\n\
+     <meta name=\"viewport\" content=\"width=device-width, initial-scale=1\">\n\
+     <title>Archive 12345678-9abc-def0-1234-56789abcdef0, replica 7</title>\n";
+
+/// How the page looks.
+const STYLE: &str = "<style>\n\
+     :root{color-scheme:light dark}\n\
+     body{margin:2rem;font-family:system-ui,sans-serif}\n\
+     table{border-collapse:collapse;font-variant-numeric:tabular-nums}\n\
+     th,td{padding:.25rem .75rem;text-align:left;vertical-align:top}\n\
+     th{position:sticky;top:0;background:Canvas;box-shadow:0 1px}\n\
+     td{white-space:pre-wrap;overflow-wrap:anywhere}\n\
+     td:last-child{white-space:nowrap}\n\
+     tr:nth-child(even) td{background:#8882}\n\
+     </style>\n";
+
+/// What stands between the look of the page and its rows.
+const HEADING: &str = "</head>\n<body>\n\
+     <h1>Archive 12345678-9abc-def0-1234-56789abcdef0, replica 7</h1>\n<table>\n<thead>\n\
+     <tr><th scope=\"col\">folder</th><th scope=\"col\">name</th><th scope=\"col\">id</th>\
+     <th scope=\"col\">type</th><th scope=\"col\">value</th><th scope=\"col\">status</th>\
+     <th scope=\"col\">time</th></tr>\n</thead>\n<tbody>\n";
+
+/// The row of the variable in no folder, with its latest value: the later of two.
+const DOOR: &str =
+    "<tr><td></td><td>door</td><td><a href=\"/history?node=ns%3D1%3Bs%3Ddoor\">ns=1;s=door</a></td>\
+     <td>Boolean</td><td>true</td><td>Good</td><td>2026-03-01T12:00:09.0000000Z</td></tr>\n";
+
+/// The row of the one with a long text, up to the text.
+const NOTE: &str = "<tr><td>Hall &lt;1&gt;</td><td>the &quot;note&quot;</td>\
+     <td><a href=\"/history?node=ns%3D1%3Bs%3Dnote\">ns=1;s=note</a></td><td>String</td><td>";
+
+/// The row of the one without a value.
+const NEVER: &str = "<tr><td>Hall &lt;1&gt;</td><td>it&#39;s &lt;new&gt;</td>\
+     <td><a href=\"/history?node=ns%3D1%3Bs%3Dnever%22%2F%26\">ns=1;s=never&quot;/&amp;</a></td>\
+     <td>Int32</td><td></td><td></td><td></td></tr>\n";
+
+/// The row of the one with an array.
+const LIST: &str = "<tr><td>Yard &amp; gate</td><td>list</td>\
+     <td><a href=\"/history?node=ns%3D1%3Bs%3Da+list\">ns=1;s=a list</a></td>\
+     <td>Double array</td><td>[Double array]</td><td>Good</td><td>2026-03-01T12:00:02.0000000Z</td></tr>\n";
+
+/// What the page ends by.
+const END: &str = "</tbody>\n</table>\n</body>\n</html>\n";
+
+/// A value that is written.
+#[derive(Clone, Copy)]
+enum Given {
+    Truth(bool),
+    /// So many characters of two bytes each.
+    Long(usize),
+    Many,
+}
+
+/// The number of an update, its node, seconds behind noon, and what is written.
+type Row = (u64, &'static str, i64, Given);
+
+/// Updates, one after the other.
+static ROWS: [Row; 4] = [
+    (1, "door", 9, Given::Truth(true)),
+    (2, "door", 8, Given::Truth(false)),
+    (3, "note", 1, Given::Long(1000)),
+    (4, "a list", 2, Given::Many),
+];
+
+/// So many characters of two bytes each.
+fn long_text(alloc: Global, count: usize) -> Result<Text, StoreFault> {
+    let mut text = String::new(alloc);
+    for _ in 0..count {
+        text.push_str("\u{e9}")?;
+    }
+    Ok(Text::new(text))
+}
+
+/// A value that is written.
+fn variant_of(alloc: Global, given: Given) -> Result<Variant, StoreFault> {
+    match given {
+        Given::Truth(truth) => Ok(Variant::Scalar(Scalar::Boolean(truth))),
+        Given::Long(count) => Ok(Variant::Scalar(Scalar::String(Some(long_text(alloc, count)?)))),
+        Given::Many => Ok(Variant::Array(Array::Double(Listing::of(Vec::new(alloc))))),
+    }
+}
+
+/// The record of an update.
+fn record_of(alloc: Global, row: &Row) -> Result<Record, StoreFault> {
+    let (number, node, second, given) = *row;
+    let Some(origin) = ReplicaNo::new(7) else {
+        return Err(StoreFault::WrongReplica);
+    };
+    let node = NodeId::Named(1, Text::from_str(alloc, node)?);
+    let user = Text::from_str(alloc, "ann")?;
+    let value = variant_of(alloc, given)?;
+    Ok(Record {
+        origin,
+        number,
+        tick: NOON.saturating_add(SECOND.saturating_mul(60i64.saturating_add_unsigned(number))),
+        node,
+        time: Moment::at(NOON.saturating_add(SECOND.saturating_mul(second))),
+        asked: HistoryUpdateType::Insert,
+        user,
+        value: DataValue {
+            value: Some(value),
+            status: None,
+            source_time: None,
+            source_pico: None,
+            server_time: None,
+            server_pico: None,
+        },
+    })
+}
+
+/// What an archive answers to an update.
+fn learn<A: Archive>(alloc: Global, archive: &mut A, row: &Row) -> Result<bool, LearnFault> {
+    let record = record_of(alloc, row)?;
+    if record.is_lawful() {
+        archive.learn(&record)
+    } else {
+        Err(LearnFault::Store(StoreFault::Refused))
+    }
+}
+
+/// An archive takes all the updates.
+fn learn_all<A: Archive>(alloc: Global, archive: &mut A) -> Result<(), LearnFault> {
+    for row in &ROWS {
+        learn(alloc, archive, row)?;
+    }
+    Ok(())
+}
+
+/// An archive that holds nothing.
+fn empty_archive(alloc: Global) -> Result<ListArchive, StoreFault> {
+    match ReplicaNo::new(7) {
+        Some(own) => Ok(ListArchive::new(alloc, Uuid::nil(), own)),
+        None => Err(StoreFault::WrongReplica),
+    }
+}
+
+/// What the long text's cell holds, and what stands behind it.
+fn put_long(text: &mut Vec<u8>) -> Result<(), Fail> {
+    for _ in 0..200 {
+        text.extend_from_slice("\u{e9}".as_bytes())?;
+    }
+    text.extend_from_slice(b"...</td><td>Good</td><td>2026-03-01T12:00:01.0000000Z</td></tr>\n")?;
+    Ok(())
+}
+
+/// The page.
+fn wanted(alloc: Global) -> Result<Vec<u8>, Fail> {
+    let mut text = Vec::new(alloc);
+    text.extend_from_slice(BEGIN.as_bytes())?;
+    text.extend_from_slice(STYLE.as_bytes())?;
+    text.extend_from_slice(HEADING.as_bytes())?;
+    text.extend_from_slice(DOOR.as_bytes())?;
+    text.extend_from_slice(NOTE.as_bytes())?;
+    put_long(&mut text)?;
+    text.extend_from_slice(NEVER.as_bytes())?;
+    text.extend_from_slice(LIST.as_bytes())?;
+    text.extend_from_slice(END.as_bytes())?;
+    Ok(text)
+}
+
+/// Whether this is the page of an archive.
+fn is_put<A: Archive>(alloc: Global, archive: &mut A, settings: &Settings, page: &[u8]) -> bool {
+    let mut out = Vec::new(alloc);
+    let put = put_front(alloc, archive, settings, &mut out);
+    put.is_ok() && out.as_slice() == page
+}
+
+/// Whether it is that of an archive that took the updates.
+fn is_told(alloc: Global, settings: &Settings, page: &[u8]) -> Result<bool, LearnFault> {
+    let mut archive = empty_archive(alloc)?;
+    learn_all(alloc, &mut archive)?;
+    Ok(is_put(alloc, &mut archive, settings, page))
+}
+
+/// Whether it is where the settings are these.
+fn is_right(alloc: Global) -> Result<bool, Fail> {
+    let settings = Settings::read(alloc, SETTINGS)?;
+    let page = wanted(alloc)?;
+    Ok(is_told(alloc, &settings, page.as_slice()) == Ok(true))
+}
+
+#[test]
+fn a_plants_page_is_put(rt: HostRuntime) -> Result<(), Fail> {
+    assert!(rt; is_right(rt.alloc())?);
+    Ok(())
+}
