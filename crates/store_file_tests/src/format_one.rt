@@ -1,10 +1,13 @@
 //! Stores of format 1, whose moments have no picoseconds: they are opened with tables made anew, or refused.
 
-use crate::store_files::{changed, empty, held, of_three, one, open, refused_after, shown, two};
+use crate::store_files::{
+    Deed, changed, empty, left_behind, of_three, refusal, refused_after, shows, two,
+};
 use archive::{Archive, Direction, StoreFault};
-use records::Moment;
+use records::{Entry, Moment};
 use sqlite::Files;
 use sqlite_disk::Memory;
+use stamp::ReplicaNo;
 use std::alloc::Global;
 use std::test::Fail;
 use ua_binary::{NodeId, Text};
@@ -35,53 +38,59 @@ static FIVE: [&str; 3] = [
 
 /// The files of a store of the two.
 fn first(alloc: Global) -> Option<Files<Memory>> {
-    changed(alloc, changed(alloc, empty(alloc), &TABLES)?, &TWO)
+    changed(alloc, changed(alloc, Some(empty(alloc)), &TABLES), &TWO)
 }
 
 /// The files of one of the five.
 pub(crate) fn first_of_five(alloc: Global) -> Option<Files<Memory>> {
-    changed(alloc, changed(alloc, empty(alloc), &TABLES)?, &FIVE)
+    changed(alloc, changed(alloc, Some(empty(alloc)), &TABLES), &FIVE)
 }
 
-/// The ticks of the modifications at node T, in order, and how many values are live there.
-fn read_all<A: Archive>(alloc: Global, archive: &mut A) -> Result<(Vec<i64>, usize), StoreFault> {
+/// The modifications at node T, in order, and how many values are live there.
+fn read_all<A: Archive>(alloc: Global, archive: &mut A) -> Result<(Vec<Entry>, usize), StoreFault> {
     let node = NodeId::Named(1, Text::from_str(alloc, "T")?);
     let within = archive.vector()?;
     let (from, to) = (Moment::at(1), Moment::at(100));
     let forward = Direction::Forward;
+    let lives = archive
+        .range(alloc, &node, from, to, forward, 10, &within)?
+        .len();
     let entries = archive.log(alloc, &node, from, to, None, forward, 10, &within)?;
-    let lives = archive.range(alloc, &node, from, to, forward, 10, &within)?;
-    let mut ticks = Vec::new(alloc);
-    for entry in entries.iter() {
-        if ticks.push(entry.tick).is_err() {
-            return Err(StoreFault::OutOfMemory);
-        }
+    Ok((entries, lives))
+}
+
+/// Whether these modifications have these ticks.
+fn have_ticks(entries: &[Entry], ticks: [i64; 2]) -> bool {
+    match entries {
+        [first, second] => first.tick == ticks[0] && second.tick == ticks[1],
+        _ => false,
     }
-    Ok((ticks, lives.len()))
+}
+
+/// Whether an archive holds the two, and no value is live.
+pub(crate) fn shows_two<A: Archive>(alloc: Global, archive: &mut A) -> bool {
+    match read_all(alloc, archive) {
+        Ok((entries, lives)) => lives == 0 && have_ticks(entries.as_slice(), [101, 100]),
+        Err(_) => false,
+    }
+}
+
+/// The files of the two, which an archive was opened in, did this, and was closed.
+fn renewed(alloc: Global, files: Option<Files<Memory>>, deed: Deed) -> Option<Files<Memory>> {
+    left_behind(alloc, files?, deed)
 }
 
 #[test]
-fn a_store_of_format_1_is_made_anew(rt: HostRuntime) -> Result<(), Fail> {
+fn a_store_of_format_1_is_made_anew(rt: HostRuntime) {
     let alloc = rt.alloc();
-    let Some(files) = first(alloc) else {
-        return Err(Fail::from("no store"));
-    };
-    let Ok(mut archive) = open(alloc, files, Uuid::nil(), one()?) else {
-        return Err(Fail::from("refused"));
-    };
-    let (ticks, lives) = read_all(alloc, &mut archive)?;
-    assert!(rt; ticks.as_slice() == [101, 100].as_slice() && lives == 0);
-    let Ok(files) = archive.close_files() else {
-        return Err(Fail::from("not closed"));
-    };
-    let rows = shown(
-        alloc,
-        files,
-        "SELECT time, pico, tick, asked, length(value) FROM records2 ORDER BY tick",
+    assert!(rt;
+        shows(
+            alloc,
+            renewed(alloc, first(alloc), Deed::ShowsTwo),
+            "SELECT time, pico, tick, asked, length(value) FROM records2 ORDER BY tick",
+            &[10, 0, 100, 1, 8, 10, 0, 101, 4, 1],
+        )
     );
-    let expected = [10, 0, 100, 1, 8, 10, 0, 101, 4, 1];
-    assert!(rt; rows.is_some_and(|numbers| numbers.as_slice() == expected.as_slice()));
-    Ok(())
 }
 
 /// Tables of format 1 that aren't those of some content.
@@ -95,57 +104,61 @@ static SPOILED: [&[&str]; 7] = [
     &["CREATE TABLE more (a INTEGER)"],
 ];
 
+/// Whether files are refused after these statements.
+fn is_refused(alloc: Global, files: Option<Files<Memory>>, statements: &[&str]) -> bool {
+    refused_after(alloc, files, statements) == Some(StoreFault::Refused)
+}
+
 #[test]
-fn other_stores_of_format_1_are_refused(rt: HostRuntime) -> Result<(), Fail> {
-    let alloc = rt.alloc();
+fn other_stores_of_format_1_are_refused(rt: HostRuntime) {
     for statements in &SPOILED {
-        let Some(files) = first(alloc) else {
-            return Err(Fail::from("no store"));
-        };
-        assert!(rt; refused_after(alloc, files, statements) == Some(StoreFault::Refused));
+        assert!(rt; is_refused(rt.alloc(), first(rt.alloc()), statements));
     }
-    Ok(())
+}
+
+/// The files that an opening was refused by this fault, as they were given back.
+fn given_back<F: Drop>(told: Option<(StoreFault, F)>, fault: StoreFault) -> Option<F> {
+    match told {
+        Some((found, files)) if found == fault => Some(files),
+        _ => None,
+    }
+}
+
+/// The files of the two, behind an opening as another replica's.
+fn behind_another(alloc: Global, number: ReplicaNo) -> Option<Files<Memory>> {
+    let told = refusal(alloc, first(alloc)?, Uuid::nil(), number);
+    given_back(told, StoreFault::WrongReplica)
 }
 
 #[test]
 fn another_replicas_store_of_format_1_stays(rt: HostRuntime) -> Result<(), Fail> {
-    let alloc = rt.alloc();
-    let Some(files) = first(alloc) else {
-        return Err(Fail::from("no store"));
-    };
-    let Err((fault, left)) = open(alloc, files, Uuid::nil(), two()?) else {
-        return Err(Fail::from("opened"));
-    };
-    assert!(rt; fault == StoreFault::WrongReplica);
-    let rows = shown(alloc, left, "SELECT tick, asked FROM records ORDER BY tick");
-    assert!(rt; rows.is_some_and(|numbers| numbers.as_slice() == [100, 1, 101, 4].as_slice()));
+    let number = two()?;
+    assert!(rt;
+        shows(
+            rt.alloc(),
+            behind_another(rt.alloc(), number),
+            "SELECT tick, asked FROM records ORDER BY tick",
+            &[100, 1, 101, 4],
+        )
+    );
     Ok(())
 }
 
 /// The files of an archive of three records with tables of format 1 behind its own.
 fn beside(alloc: Global) -> Option<Files<Memory>> {
-    changed(alloc, of_three(alloc)?, &[TABLES[1], TABLES[2]])
+    changed(alloc, of_three(alloc), &[TABLES[1], TABLES[2]])
+}
+
+/// Whether the tables can be made again once an archive was opened there, which holds three.
+fn are_taken_out(alloc: Global) -> bool {
+    let left = renewed(alloc, beside(alloc), Deed::Holds(3));
+    changed(alloc, left, &[TABLES[1], TABLES[2]]).is_some()
 }
 
 #[test]
-fn empty_tables_of_format_1_behind_an_archives_are_taken_out(rt: HostRuntime) -> Result<(), Fail> {
-    let alloc = rt.alloc();
-    let Some(files) = beside(alloc) else {
-        return Err(Fail::from("no store"));
-    };
-    let Ok(mut archive) = open(alloc, files, Uuid::nil(), one()?) else {
-        return Err(Fail::from("refused"));
-    };
-    assert!(rt; held(alloc, &mut archive) == Some(3));
-    let Ok(files) = archive.close_files() else {
-        return Err(Fail::from("not closed"));
-    };
-    assert!(rt; changed(alloc, files, &[TABLES[1], TABLES[2]]).is_some());
+fn empty_tables_of_format_1_behind_an_archives_are_taken_out(rt: HostRuntime) {
+    assert!(rt; are_taken_out(rt.alloc()));
     for row in &[TWO[0], TWO[1]] {
-        let Some(files) = beside(alloc) else {
-            return Err(Fail::from("no store"));
-        };
-        assert!(rt; refused_after(alloc, files, &[*row]) == Some(StoreFault::Refused));
+        assert!(rt; is_refused(rt.alloc(), beside(rt.alloc()), &[*row]));
     }
-    Ok(())
 }

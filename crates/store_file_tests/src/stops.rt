@@ -2,14 +2,13 @@
 //! crashes, and what is left is opened again: it holds what was learned, or one record more.
 
 use crate::format_one::first_of_five;
-use crate::store_files::{FIVE, Opened, empty, learn_five, one, open};
+use crate::store_files::{FIVE, empty, learn_five, open_one};
 use archive::Archive;
 use history_rows::archives::learn;
 use sqlite::Files;
 use sqlite_disk::{Crash, Disk, Fuse, Memory};
 use std::alloc::Global;
 use std::test::Fail;
-use uuid::Uuid;
 
 /// The file that is stopped.
 #[derive(Clone, Copy, Debug)]
@@ -53,14 +52,6 @@ fn fuse(files: Files<Memory>, fused: Fused, calls: u64) -> Files<Fuse<Memory>> {
     }
 }
 
-/// Opens the store of replica 1 in these files.
-fn open_one<D: Disk + Drop>(alloc: Global, files: Files<D>) -> Opened<D> {
-    match one() {
-        Ok(number) => open(alloc, files, Uuid::nil(), number),
-        Err(fault) => Err((fault, files)),
-    }
-}
-
 /// How many of the records are held: the first so many, to the last byte, where the others can then be learned.
 fn held<A: Archive>(alloc: Global, archive: &mut A) -> Option<usize> {
     let mut held: usize = 0;
@@ -75,10 +66,10 @@ fn held<A: Archive>(alloc: Global, archive: &mut A) -> Option<usize> {
 }
 
 /// How many records were learned, whether all went well, and the files.
-type Ran = (usize, bool, Files<Fuse<Memory>>);
+type Ran<D> = (usize, bool, Files<D>);
 
 /// Opens a store, learns the five records and closes it.
-fn learn_all(alloc: Global, files: Files<Fuse<Memory>>) -> Ran {
+fn learn_all<D: Disk + Drop>(alloc: Global, files: Files<D>) -> Ran<D> {
     let mut archive = match open_one(alloc, files) {
         Ok(archive) => archive,
         Err((_, left)) => return (0, false, left),
@@ -91,7 +82,7 @@ fn learn_all(alloc: Global, files: Files<Fuse<Memory>>) -> Ran {
 }
 
 /// Opens a store of the five records and closes it.
-fn open_and_close(alloc: Global, files: Files<Fuse<Memory>>) -> Ran {
+fn open_and_close<D: Disk + Drop>(alloc: Global, files: Files<D>) -> Ran<D> {
     let archive = match open_one(alloc, files) {
         Ok(archive) => archive,
         Err((_, left)) => return (5, false, left),
@@ -102,20 +93,33 @@ fn open_and_close(alloc: Global, files: Files<Fuse<Memory>>) -> Ran {
     }
 }
 
-/// A run that is stopped behind so many calls of a file.
-fn run_to_a_stop(alloc: Global, run: Run, fused: Fused, calls: u64) -> Option<Ran> {
+/// A run in these files.
+fn ran<D: Disk + Drop>(alloc: Global, run: Run, files: Files<D>) -> Ran<D> {
     match run {
-        Run::Learning => Some(learn_all(alloc, fuse(empty(alloc), fused, calls))),
-        Run::Renewing => Some(open_and_close(alloc, fuse(first_of_five(alloc)?, fused, calls))),
+        Run::Learning => learn_all(alloc, files),
+        Run::Renewing => open_and_close(alloc, files),
     }
+}
+
+/// The files that a run begins with.
+fn before(alloc: Global, run: Run) -> Option<Files<Memory>> {
+    match run {
+        Run::Learning => Some(empty(alloc)),
+        Run::Renewing => first_of_five(alloc),
+    }
+}
+
+/// How many records are held in these files.
+fn held_in<D: Disk + Drop>(alloc: Global, files: Files<D>) -> Option<usize> {
+    let mut archive = open_one(alloc, files).ok()?;
+    held(alloc, &mut archive)
 }
 
 /// How many records are found once the machine crashed.
 fn found_behind_a_crash(alloc: Global, mut files: Files<Fuse<Memory>>) -> Option<usize> {
     files.log.crash();
     files.db.crash();
-    let mut archive = open_one(alloc, files).ok()?;
-    held(alloc, &mut archive)
+    held_in(alloc, files)
 }
 
 fn left_by(learned: usize, ended: bool, found: Option<usize>) -> Left {
@@ -127,12 +131,16 @@ fn left_by(learned: usize, ended: bool, found: Option<usize>) -> Left {
     }
 }
 
+/// What a run leaves that is stopped in these files.
+fn left_in(alloc: Global, run: Run, files: Files<Fuse<Memory>>) -> Left {
+    let (learned, ended, left) = ran(alloc, run, files);
+    left_by(learned, ended, found_behind_a_crash(alloc, left))
+}
+
 /// What a run leaves that is stopped behind so many calls of a file.
 fn stop(alloc: Global, run: Run, fused: Fused, calls: u64) -> Left {
-    match run_to_a_stop(alloc, run, fused, calls) {
-        Some((learned, ended, files)) => {
-            left_by(learned, ended, found_behind_a_crash(alloc, files))
-        }
+    match before(alloc, run) {
+        Some(files) => left_in(alloc, run, fuse(files, fused, calls)),
         None => Left::Otherwise,
     }
 }

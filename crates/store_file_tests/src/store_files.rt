@@ -1,12 +1,13 @@
 //! Archives in files: found again, and refused. What a crash leaves `stops` tells.
 
+use crate::format_one::shows_two;
 use HistoryUpdateType::{Delete, Insert, Update};
 use archive::{Archive, StoreFault};
 use history_rows::archives::{Row, learn};
 use history_rows::updates::operates_all;
 use records::HistoryUpdateType;
 use sql_archive::{FileArchive, SqlArchive};
-use sqlite::{Connection, FileStore, Files, Options};
+use sqlite::{Connection, FileStore, Files, Options, Row as SqlRow};
 use sqlite_disk::{Disk, Memory};
 use stamp::{ReplicaNo, Vector};
 use std::alloc::Global;
@@ -23,7 +24,7 @@ pub(crate) static FIVE: [Row; 5] = [
     (1, 5, 104, 30, Insert, Some(1)),
 ];
 
-pub(crate) fn one() -> Result<ReplicaNo, StoreFault> {
+fn one() -> Result<ReplicaNo, StoreFault> {
     ReplicaNo::new(1).ok_or(StoreFault::WrongReplica)
 }
 
@@ -38,18 +39,22 @@ pub(crate) fn empty(alloc: Global) -> Files<Memory> {
     }
 }
 
-pub(crate) type Opened<D> = Result<SqlArchive<FileStore<D>>, (StoreFault, Files<D>)>;
+/// An archive that was opened, or by which fault it wasn't, and the files.
+type Opened<D> = Result<SqlArchive<FileStore<D>>, (StoreFault, Files<D>)>;
 
-pub(crate) fn open<D: Disk + Drop>(
-    alloc: Global,
-    files: Files<D>,
-    id: Uuid,
-    number: ReplicaNo,
-) -> Opened<D> {
+fn open<D: Disk + Drop>(alloc: Global, files: Files<D>, id: Uuid, number: ReplicaNo) -> Opened<D> {
     if files.may_be_used() {
         SqlArchive::open_files(alloc, files, Options::new(7), id, number)
     } else {
         Err((StoreFault::Broken, files))
+    }
+}
+
+/// Opens the store of replica 1 in these files.
+pub(crate) fn open_one<D: Disk + Drop>(alloc: Global, files: Files<D>) -> Opened<D> {
+    match one() {
+        Ok(number) => open(alloc, files, Uuid::nil(), number),
+        Err(fault) => Err((fault, files)),
     }
 }
 
@@ -78,30 +83,111 @@ pub(crate) fn held<A: Archive>(alloc: Global, archive: &mut A) -> Option<usize> 
     }
 }
 
+// ---- what is opened, used and closed
+
+/// What is done with an archive.
+#[derive(Clone, Copy, Debug)]
+pub(crate) enum Deed {
+    /// Nothing.
+    Nothing,
+    /// It learns the first three of the updates.
+    Three,
+    /// It holds nothing, and learns the five updates.
+    Five,
+    /// It does the operations on one value.
+    Operations,
+    /// It holds the five records, and learns one more.
+    OneMore,
+    /// It holds so many of the updates.
+    Holds(usize),
+    /// The ticks of its modifications at node T are 101 and 100, and no value is live there.
+    ShowsTwo,
+}
+
+/// Whether an archive learns the first three of the updates.
+fn learns_three<A: Archive>(alloc: Global, archive: &mut A) -> bool {
+    for row in FIVE.iter().take(3) {
+        if learn(alloc, archive, row).is_err() {
+            return false;
+        }
+    }
+    true
+}
+
+/// Whether it is done.
+fn is_done<A: Archive>(alloc: Global, archive: &mut A, deed: Deed) -> bool {
+    match deed {
+        Deed::Nothing => true,
+        Deed::Three => learns_three(alloc, archive),
+        Deed::Five => held(alloc, archive) == Some(0) && learn_five(alloc, archive) == 5,
+        Deed::Operations => operates_all(alloc, archive) == Ok(true),
+        Deed::OneMore => goes_on(alloc, archive) == Ok(true),
+        Deed::Holds(count) => held(alloc, archive) == Some(count),
+        Deed::ShowsTwo => shows_two(alloc, archive),
+    }
+}
+
+/// The files that replica 1's archive was opened in, did this, and was closed.
+pub(crate) fn left_behind<D: Disk + Drop>(
+    alloc: Global,
+    files: Files<D>,
+    deed: Deed,
+) -> Option<Files<D>> {
+    let mut archive = open_one(alloc, files).ok()?;
+    if is_done(alloc, &mut archive, deed) {
+        archive.close_files().ok()
+    } else {
+        None
+    }
+}
+
+/// The files of one that did this, as they are.
+fn left_unclosed<D: Disk + Drop>(alloc: Global, files: Files<D>, deed: Deed) -> Option<Files<D>> {
+    let mut archive = open_one(alloc, files).ok()?;
+    if is_done(alloc, &mut archive, deed) {
+        Some(archive.into_files())
+    } else {
+        None
+    }
+}
+
+/// The files of replica 1's archive, which held nothing, did this, and was closed.
+fn files_behind(alloc: Global, deed: Deed) -> Option<Files<Memory>> {
+    left_behind(alloc, empty(alloc), deed)
+}
+
 /// The files of an archive that learned nothing and was closed.
 fn unfilled(alloc: Global) -> Option<Files<Memory>> {
-    let archive = open(alloc, empty(alloc), Uuid::nil(), one().ok()?).ok()?;
-    archive.close_files().ok()
+    files_behind(alloc, Deed::Nothing)
 }
 
 /// The files of an archive that learned the first three of the updates and was closed.
 pub(crate) fn of_three(alloc: Global) -> Option<Files<Memory>> {
-    let mut archive = open(alloc, empty(alloc), Uuid::nil(), one().ok()?).ok()?;
-    for row in FIVE.iter().take(3) {
-        learn(alloc, &mut archive, row).ok()?;
-    }
-    archive.close_files().ok()
+    files_behind(alloc, Deed::Three)
 }
 
 /// The files of an archive that learned five records and was closed.
-fn filled(alloc: Global) -> Result<Files<Memory>, StoreFault> {
-    let Ok(mut archive) = open(alloc, empty(alloc), Uuid::nil(), one()?) else {
-        return Err(StoreFault::Refused);
-    };
-    if held(alloc, &mut archive) != Some(0) || learn_five(alloc, &mut archive) != 5 {
-        return Err(StoreFault::Refused);
+fn filled(alloc: Global) -> Option<Files<Memory>> {
+    files_behind(alloc, Deed::Five)
+}
+
+/// How many records replica 1's archive in these files holds.
+fn held_in<D: Disk + Drop>(alloc: Global, files: Files<D>) -> Option<usize> {
+    let mut archive = open_one(alloc, files).ok()?;
+    held(alloc, &mut archive)
+}
+
+/// By which fault an opening is refused, and the files.
+pub(crate) fn refusal<D: Disk + Drop>(
+    alloc: Global,
+    files: Files<D>,
+    id: Uuid,
+    number: ReplicaNo,
+) -> Option<(StoreFault, Files<D>)> {
+    match open(alloc, files, id, number) {
+        Ok(_) => None,
+        Err(told) => Some(told),
     }
-    archive.close_files().map_err(|_| StoreFault::Broken)
 }
 
 /// How many records of replica 1 are held.
@@ -119,79 +205,163 @@ fn goes_on<A: Archive>(alloc: Global, archive: &mut A) -> Result<bool, StoreFaul
     Ok(found && learn(alloc, archive, &(1, 6, 105, 30, Update, Some(2))) == Ok(true))
 }
 
-#[test]
-fn what_is_closed_is_found_again(rt: HostRuntime) -> Result<(), Fail> {
-    let alloc = rt.alloc();
-    let Ok(mut again) = open(alloc, filled(alloc)?, Uuid::nil(), one()?) else {
-        return Err(Fail::from("refused"));
-    };
-    assert!(rt; goes_on(alloc, &mut again)?);
-    let Ok(mut left) = open(alloc, again.into_files(), Uuid::nil(), one()?) else {
-        return Err(Fail::from("refused"));
-    };
-    assert!(rt; last_number(&mut left)? == 6);
-    Ok(())
+/// How many records of replica 1 are found in these files.
+fn numbered_in<D: Disk + Drop>(alloc: Global, files: Files<D>) -> Option<u64> {
+    let mut archive = open_one(alloc, files).ok()?;
+    last_number(&mut archive).ok()
 }
 
-/// The fault that opening the files of the five records is refused by, and whether the archive itself opens
-/// the files that were given back.
-fn refused(alloc: Global, id: Uuid, number: ReplicaNo) -> Result<(StoreFault, bool), StoreFault> {
-    let Err((fault, files)) = open(alloc, filled(alloc)?, id, number) else {
-        return Err(StoreFault::OutOfMemory);
-    };
-    let found = match open(alloc, files, Uuid::nil(), one()?) {
-        Ok(mut archive) => held(alloc, &mut archive),
-        Err(_) => None,
-    };
-    Ok((fault, found == Some(5)))
+/// The same of files of the five records, behind an archive that learned one more and wasn't
+/// closed.
+fn numbered_behind_one_more<D: Disk + Drop>(alloc: Global, files: Files<D>) -> Option<u64> {
+    numbered_in(alloc, left_unclosed(alloc, files, Deed::OneMore)?)
+}
+
+/// How many records of replica 1 are found again behind the five and one more.
+fn found_again(alloc: Global) -> Option<u64> {
+    numbered_behind_one_more(alloc, filled(alloc)?)
+}
+
+#[test]
+fn what_is_closed_is_found_again(rt: HostRuntime) {
+    assert!(rt; found_again(rt.alloc()) == Some(6));
+}
+
+/// The fault that opening files of the five records is refused by, and whether the archive itself
+/// opens the files that were given back.
+fn refused_in<D: Disk + Drop>(
+    alloc: Global,
+    files: Files<D>,
+    id: Uuid,
+    number: ReplicaNo,
+) -> Option<(StoreFault, bool)> {
+    let (fault, left) = refusal(alloc, files, id, number)?;
+    Some((fault, held_in(alloc, left) == Some(5)))
+}
+
+fn refused(alloc: Global, id: Uuid, number: ReplicaNo) -> Option<(StoreFault, bool)> {
+    refused_in(alloc, filled(alloc)?, id, number)
 }
 
 #[test]
 fn another_archive_and_another_replica_are_refused(rt: HostRuntime) -> Result<(), Fail> {
     let alloc = rt.alloc();
-    assert!(rt; refused(alloc, Uuid::nil(), two()?)? == (StoreFault::WrongReplica, true));
-    assert!(rt; refused(alloc, Uuid::max(), one()?)? == (StoreFault::WrongArchive, true));
-    assert!(rt; refused(alloc, Uuid::max(), two()?)? == (StoreFault::WrongArchive, true));
+    let replica = refused(alloc, Uuid::nil(), two()?);
+    let archive = refused(alloc, Uuid::max(), one()?);
+    let both = refused(alloc, Uuid::max(), two()?);
+    assert!(rt; replica == Some((StoreFault::WrongReplica, true)));
+    assert!(rt; archive == Some((StoreFault::WrongArchive, true)));
+    assert!(rt; both == Some((StoreFault::WrongArchive, true)));
     Ok(())
+}
+
+// ---- what is changed
+
+/// The numbers of a row, behind these.
+fn push_numbers(numbers: &mut Vec<i64>, row: &SqlRow) -> Option<()> {
+    for at in 0..row.column_count() {
+        numbers.push(row.get(at).ok()?).ok()?;
+    }
+    Some(())
+}
+
+/// The numbers of all rows.
+fn numbers_in(alloc: Global, rows: &[SqlRow]) -> Option<Vec<i64>> {
+    let mut numbers = Vec::new(alloc);
+    for row in rows {
+        push_numbers(&mut numbers, row)?;
+    }
+    Some(numbers)
+}
+
+/// A database in these files.
+fn connected<D: Disk + Drop>(alloc: Global, files: Files<D>) -> Option<Connection<FileStore<D>>> {
+    if files.may_be_used() {
+        Connection::open_files(alloc, files, Options::new(7)).ok()
+    } else {
+        None
+    }
+}
+
+/// Whether all statements are executed.
+fn are_executed<D: Disk + Drop>(conn: &mut Connection<FileStore<D>>, statements: &[&str]) -> bool {
+    for sql in statements {
+        if conn.execute(sql, &[]).is_err() {
+            return false;
+        }
+    }
+    true
+}
+
+/// The files of a database after these statements.
+fn executed<D: Disk + Drop>(
+    alloc: Global,
+    files: Files<D>,
+    statements: &[&str],
+) -> Option<Files<D>> {
+    let mut conn = connected(alloc, files)?;
+    if are_executed(&mut conn, statements) {
+        conn.close_files().ok()
+    } else {
+        None
+    }
+}
+
+/// The numbers that a query shows, row by row.
+fn numbers_of<D: Disk + Drop>(
+    alloc: Global,
+    conn: &mut Connection<FileStore<D>>,
+    sql: &str,
+) -> Option<Vec<i64>> {
+    match conn.query_all(sql, &[]) {
+        Ok(rows) => numbers_in(alloc, rows.as_slice()),
+        Err(_) => None,
+    }
+}
+
+/// The numbers that a query shows of the database in these files.
+fn queried<D: Disk + Drop>(alloc: Global, files: Files<D>, sql: &str) -> Option<Vec<i64>> {
+    let mut conn = connected(alloc, files)?;
+    numbers_of(alloc, &mut conn, sql)
 }
 
 /// The files after these statements.
 pub(crate) fn changed(
     alloc: Global,
-    files: Files<Memory>,
+    files: Option<Files<Memory>>,
     statements: &[&str],
 ) -> Option<Files<Memory>> {
-    if !files.may_be_used() {
-        return None;
-    }
-    let Ok(mut conn) = Connection::open_files(alloc, files, Options::new(7)) else {
-        return None;
-    };
-    for sql in statements {
-        conn.execute(sql, &[]).ok()?;
-    }
-    conn.close_files().ok()
+    executed(alloc, files?, statements)
 }
 
-/// What opening files as this archive and replica is refused by after these statements.
-fn refused_as(
+/// The fault that an opening is refused by.
+fn fault_in<D: Disk + Drop>(
     alloc: Global,
-    files: Files<Memory>,
-    statements: &[&str],
+    files: Files<D>,
     id: Uuid,
     number: ReplicaNo,
 ) -> Option<StoreFault> {
-    let files = changed(alloc, files, statements)?;
     match open(alloc, files, id, number) {
         Ok(_) => None,
         Err((fault, _)) => Some(fault),
     }
 }
 
+/// What opening files as this archive and replica is refused by after these statements.
+fn refused_as(
+    alloc: Global,
+    files: Option<Files<Memory>>,
+    statements: &[&str],
+    id: Uuid,
+    number: ReplicaNo,
+) -> Option<StoreFault> {
+    fault_in(alloc, changed(alloc, files, statements)?, id, number)
+}
+
 /// What opening files is refused by after these statements.
 pub(crate) fn refused_after(
     alloc: Global,
-    files: Files<Memory>,
+    files: Option<Files<Memory>>,
     statements: &[&str],
 ) -> Option<StoreFault> {
     refused_as(alloc, files, statements, Uuid::nil(), one().ok()?)
@@ -235,28 +405,28 @@ static OTHER_NUMBERS: [&[&str]; 2] = [
 ];
 
 /// Whether a store of three records is refused after each of some statements.
-fn are_refused(alloc: Global, spoiled: &[&[&str]]) -> Option<bool> {
+fn are_refused(alloc: Global, spoiled: &[&[&str]]) -> bool {
     for statements in spoiled {
-        if refused_after(alloc, of_three(alloc)?, statements) != Some(StoreFault::Refused) {
-            return Some(false);
+        if refused_after(alloc, of_three(alloc), statements) != Some(StoreFault::Refused) {
+            return false;
         }
     }
-    Some(true)
+    true
 }
 
 /// Whether a store of no record is refused after each of some statements.
-fn are_refused_unfilled(alloc: Global, spoiled: &[&[&str]]) -> Option<bool> {
+fn are_refused_unfilled(alloc: Global, spoiled: &[&[&str]]) -> bool {
     for statements in spoiled {
-        if refused_after(alloc, unfilled(alloc)?, statements) != Some(StoreFault::Refused) {
-            return Some(false);
+        if refused_after(alloc, unfilled(alloc), statements) != Some(StoreFault::Refused) {
+            return false;
         }
     }
-    Some(true)
+    true
 }
 
 #[test]
 fn other_tables_are_refused(rt: HostRuntime) -> Result<(), Fail> {
-    assert!(rt; are_refused_unfilled(rt.alloc(), &OTHER_TABLES) == Some(true));
+    assert!(rt; are_refused_unfilled(rt.alloc(), &OTHER_TABLES));
     Ok(())
 }
 
@@ -269,89 +439,68 @@ static BEHIND_META: [&[&str]; 4] = [
 ];
 
 /// Whether a store with other tables is told as another archive's first, then as another replica's.
-fn are_told_by_meta(alloc: Global) -> Option<bool> {
+fn are_told_by_meta(alloc: Global, number: ReplicaNo) -> bool {
     for statements in BEHIND_META {
-        let archive = refused_as(
-            alloc,
-            unfilled(alloc)?,
-            statements,
-            Uuid::max(),
-            two().ok()?,
-        );
-        let replica = refused_as(
-            alloc,
-            unfilled(alloc)?,
-            statements,
-            Uuid::nil(),
-            two().ok()?,
-        );
+        let archive = refused_as(alloc, unfilled(alloc), statements, Uuid::max(), number);
+        let replica = refused_as(alloc, unfilled(alloc), statements, Uuid::nil(), number);
         if archive != Some(StoreFault::WrongArchive) || replica != Some(StoreFault::WrongReplica) {
-            return Some(false);
+            return false;
         }
     }
-    Some(true)
+    true
 }
 
 #[test]
 fn meta_tells_whose_store_it_is_whatever_stands_behind_it(rt: HostRuntime) -> Result<(), Fail> {
-    assert!(rt; are_told_by_meta(rt.alloc()) == Some(true));
+    assert!(rt; are_told_by_meta(rt.alloc(), two()?));
     Ok(())
 }
 
 #[test]
 fn other_rows_of_meta_are_refused(rt: HostRuntime) -> Result<(), Fail> {
-    assert!(rt; are_refused_unfilled(rt.alloc(), &OTHER_META) == Some(true));
+    assert!(rt; are_refused_unfilled(rt.alloc(), &OTHER_META));
     Ok(())
 }
 
 #[test]
 fn other_records_are_refused(rt: HostRuntime) -> Result<(), Fail> {
-    assert!(rt; are_refused(rt.alloc(), &OTHER_RECORDS) == Some(true));
+    assert!(rt; are_refused(rt.alloc(), &OTHER_RECORDS));
     Ok(())
 }
 
 #[test]
 fn other_current_values_are_refused(rt: HostRuntime) -> Result<(), Fail> {
-    assert!(rt; are_refused(rt.alloc(), &OTHER_VALUES) == Some(true));
+    assert!(rt; are_refused(rt.alloc(), &OTHER_VALUES));
     Ok(())
 }
 
 #[test]
 fn other_last_numbers_are_refused(rt: HostRuntime) -> Result<(), Fail> {
-    assert!(rt; are_refused(rt.alloc(), &OTHER_NUMBERS) == Some(true));
+    assert!(rt; are_refused(rt.alloc(), &OTHER_NUMBERS));
     Ok(())
 }
 
 /// The numbers that a query shows of the files of an archive, row by row.
-pub(crate) fn shown(alloc: Global, files: Files<Memory>, sql: &str) -> Option<Vec<i64>> {
-    if !files.may_be_used() {
-        return None;
-    }
-    let Ok(mut conn) = Connection::open_files(alloc, files, Options::new(7)) else {
-        return None;
-    };
-    let rows = conn.query_all(sql, &[]).ok()?;
-    let mut numbers = Vec::new(alloc);
-    for row in rows.iter() {
-        for at in 0..row.column_count() {
-            numbers.push(row.get(at).ok()?).ok()?;
-        }
-    }
-    Some(numbers)
+fn shown(alloc: Global, files: Option<Files<Memory>>, sql: &str) -> Option<Vec<i64>> {
+    queried(alloc, files?, sql)
 }
 
 /// The files of an archive that did the operations on one value, and was closed.
 fn operated(alloc: Global) -> Option<Files<Memory>> {
-    let mut archive = open(alloc, empty(alloc), Uuid::nil(), one().ok()?).ok()?;
-    if operates_all(alloc, &mut archive) != Ok(true) {
-        return None;
-    }
-    archive.close_files().ok()
+    files_behind(alloc, Deed::Operations)
 }
 
-fn shows(alloc: Global, files: Option<Files<Memory>>, sql: &str, wanted: &[i64]) -> Option<bool> {
-    let numbers = shown(alloc, files?, sql)?;
-    Some(numbers.as_slice() == wanted)
+/// Whether a query shows these numbers of the files.
+pub(crate) fn shows(
+    alloc: Global,
+    files: Option<Files<Memory>>,
+    sql: &str,
+    wanted: &[i64],
+) -> bool {
+    match shown(alloc, files, sql) {
+        Some(numbers) => numbers.as_slice() == wanted,
+        None => false,
+    }
 }
 
 /// Queries, and the numbers that they show of the five records.
@@ -378,16 +527,10 @@ static KEPT_OF_ONE: [(&str, &[i64]); 2] = [
 fn current_values_and_last_numbers_stand_beside_the_records(rt: HostRuntime) -> Result<(), Fail> {
     let alloc = rt.alloc();
     for (sql, wanted) in &KEPT_OF_FIVE {
-        assert!(rt;
-            shows(alloc, filled(alloc).ok(), *sql, *wanted) == Some(true),
-            "{sql}"
-        );
+        assert!(rt; shows(alloc, filled(alloc), *sql, *wanted), "{sql}");
     }
     for (sql, wanted) in &KEPT_OF_ONE {
-        assert!(rt;
-            shows(alloc, operated(alloc), *sql, *wanted) == Some(true),
-            "{sql}"
-        );
+        assert!(rt; shows(alloc, operated(alloc), *sql, *wanted), "{sql}");
     }
     Ok(())
 }
