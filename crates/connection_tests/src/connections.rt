@@ -2,7 +2,7 @@
 
 use crate::clients::CLIENTS;
 use crate::rows::{ROWS, SESSION};
-use archive::Archive;
+use archive::{Archive, ListArchive, StoreFault};
 use records::read_record;
 use server_rows::ends::{Narrow, Slow};
 use server_rows::plant::{archive_of, clock, plant};
@@ -66,14 +66,19 @@ fn joined(alloc: Global, parts: &[&str]) -> Result<String, Fail> {
     Ok(text)
 }
 
-/// The answer of a server without settings, over an archive that holds nothing.
-fn answer(alloc: Global, text: &str, out: &mut Vec<u8>) -> Result<Served, HexFault> {
-    let Ok(settings) = Settings::bare(alloc) else {
-        return Err(HexFault::Serve(ServeFault::OutOfMemory));
-    };
+/// A server without settings, over an archive that holds nothing; none for want of memory.
+fn bare_server(alloc: Global) -> Option<Server<ListArchive>> {
+    let settings = Settings::bare(alloc).ok()?;
     let archive = archive_of(alloc, &settings);
-    let mut server = Server::new(alloc, settings, archive);
-    answer_hex(&mut server, text, out, &mut clock())
+    Some(Server::new(alloc, settings, archive))
+}
+
+/// The answer of such a server.
+fn answer(alloc: Global, text: &str, out: &mut Vec<u8>) -> Result<Served, HexFault> {
+    match bare_server(alloc) {
+        Some(mut server) => answer_hex(&mut server, text, out, &mut clock()),
+        None => Err(HexFault::Serve(ServeFault::OutOfMemory)),
+    }
 }
 
 /// Such a server serves a client.
@@ -82,12 +87,10 @@ fn serve_bare<R: Read, W: Write>(
     reader: &mut Counted<R>,
     writer: &mut Counted<W>,
 ) -> Result<Served, ServeFault> {
-    let Ok(settings) = Settings::bare(alloc) else {
-        return Err(ServeFault::OutOfMemory);
-    };
-    let archive = archive_of(alloc, &settings);
-    let mut server = Server::new(alloc, settings, archive);
-    serve(reader, writer, &mut server, &mut clock())
+    match bare_server(alloc) {
+        Some(mut server) => serve(reader, writer, &mut server, &mut clock()),
+        None => Err(ServeFault::OutOfMemory),
+    }
 }
 
 /// A connection in hex digits is answered so.
@@ -97,33 +100,51 @@ fn is_answered(alloc: Global, text: &str, want: &[&str], ending: Served) -> Resu
     Ok(served == ending && is_joined(out.as_slice(), want))
 }
 
+/// The same of a connection in parts.
+fn are_answered(
+    alloc: Global,
+    parts: &[&str],
+    want: &[&str],
+    ending: Served,
+) -> Result<bool, Fail> {
+    let text = joined(alloc, parts)?;
+    is_answered(alloc, text.as_str(), want, ending)
+}
+
 #[test]
 fn answers_in_hex(rt: HostRuntime) -> Result<(), Fail> {
     for (what, input, want, ending) in ROWS {
-        let text = joined(rt.alloc(), input)?;
-        assert!(rt;
-            is_answered(rt.alloc(), text.as_str(), want, ending)?,
-            "{what}"
-        );
+        assert!(rt; are_answered(rt.alloc(), input, want, ending)?, "{what}");
     }
     Ok(())
 }
 
-/// What a plant writes to a client that begins a session and asks this.
-fn served_to<A: Archive>(
-    alloc: Global,
-    server: &mut Server<A>,
-    rows: &[(&str, &str, &str)],
-) -> Result<Vec<u8>, Fail> {
+/// What a client writes that begins a session and asks this.
+fn written_by(alloc: Global, rows: &[(&str, &str, &str)]) -> Result<Vec<u8>, Fail> {
     let mut input = bytes_of(alloc, &[HELLO, OPEN, BEGIN[0], BEGIN[1]])?;
     for (_, request, _) in rows {
         let bytes = bytes_of(alloc, &[request])?;
         input.extend_from_slice(bytes.as_slice())?;
     }
-    let mut reader = Counted::new(input.as_slice());
+    Ok(input)
+}
+
+/// What a plant writes to a client that writes this.
+fn served_to<A: Archive>(
+    alloc: Global,
+    server: &mut Server<A>,
+    input: &[u8],
+) -> Result<Vec<u8>, Fail> {
+    let mut reader = Counted::new(input);
     let mut writer = Counted::new(Vec::new(alloc));
     serve(&mut reader, &mut writer, server, &mut clock())?;
     Ok(writer.into_inner())
+}
+
+/// What was written behind these parts, where it begins with them.
+fn behind<'a>(alloc: Global, written: &'a [u8], parts: &[&str]) -> Result<Option<&'a [u8]>, Fail> {
+    let front = bytes_of(alloc, parts)?;
+    Ok(written.strip_prefix(front.as_slice()))
 }
 
 /// The first row, by its name, whose answer isn't the next one that was written; what is behind all rows is named so.
@@ -132,11 +153,10 @@ fn first_other<'a>(
     written: &[u8],
     rows: &[(&'a str, &str, &str)],
 ) -> Result<Option<&'a str>, Fail> {
-    let begun = bytes_of(alloc, &[ACK, OPENED, BEGUN[0], BEGUN[1]])?;
-    let mut rest = written.strip_prefix(begun.as_slice()).ok_or("a session")?;
+    let begun = behind(alloc, written, &[ACK, OPENED, BEGUN[0], BEGUN[1]])?;
+    let mut rest = begun.ok_or("a session")?;
     for (name, _, answer) in rows {
-        let want = bytes_of(alloc, &[answer])?;
-        match rest.strip_prefix(want.as_slice()) {
+        match behind(alloc, rest, &[answer])? {
             Some(after) => rest = after,
             None => return Ok(Some(name)),
         }
@@ -148,36 +168,74 @@ fn first_other<'a>(
     })
 }
 
+/// The same of what a server writes to a client that asks these.
+fn first_other_of<'a, A: Archive>(
+    alloc: Global,
+    server: &mut Server<A>,
+    rows: &[(&'a str, &str, &str)],
+) -> Result<Option<&'a str>, Fail> {
+    let input = written_by(alloc, rows)?;
+    let written = served_to(alloc, server, input.as_slice())?;
+    first_other(alloc, written.as_slice(), rows)
+}
+
+/// The same of a plant over an archive.
+fn first_other_over<'a, A: Archive + Drop>(
+    alloc: Global,
+    settings: Settings,
+    archive: A,
+    rows: &[(&'a str, &str, &str)],
+) -> Result<Option<&'a str>, Fail> {
+    let mut server = Server::new(alloc, settings, archive);
+    first_other_of(alloc, &mut server, rows)
+}
+
+/// The same of a plant whose archive is a list.
+fn first_other_of_a_plant<'a>(
+    alloc: Global,
+    rows: &[(&'a str, &str, &str)],
+) -> Result<Option<&'a str>, Fail> {
+    let settings = plant(alloc)?;
+    let archive = archive_of(alloc, &settings);
+    first_other_over(alloc, settings, archive, rows)
+}
+
 #[test]
 fn serves_clients_of_a_plant(rt: HostRuntime) -> Result<(), Fail> {
     for (client, rows) in CLIENTS {
-        let settings = plant(rt.alloc())?;
-        let archive = archive_of(rt.alloc(), &settings);
-        let mut server = Server::new(rt.alloc(), settings, archive);
-        let written = served_to(rt.alloc(), &mut server, rows)?;
-        assert_eq!(rt;
-            first_other(rt.alloc(), written.as_slice(), rows)?,
-            None,
-            "{client}"
-        );
+        assert_eq!(rt; first_other_of_a_plant(rt.alloc(), rows)?, None, "{client}");
     }
     Ok(())
 }
 
-/// The same over an archive in SQLite.
+/// The same of a plant whose archive was opened.
+fn first_other_where_opened<'a, A: Archive + Drop>(
+    alloc: Global,
+    settings: Settings,
+    opened: Result<A, StoreFault>,
+    rows: &[(&'a str, &str, &str)],
+) -> Result<Option<&'a str>, Fail> {
+    match opened {
+        Ok(archive) => first_other_over(alloc, settings, archive, rows),
+        Err(_) => Err(Fail::from("not opened")),
+    }
+}
+
+/// The same of a plant whose archive is in SQLite.
+fn first_other_over_a_store<'a>(
+    alloc: Global,
+    rows: &[(&'a str, &str, &str)],
+) -> Result<Option<&'a str>, Fail> {
+    let settings = plant(alloc)?;
+    let opened = SqlArchive::open_in_memory(alloc, settings.archive(), settings.replica());
+    first_other_where_opened(alloc, settings, opened, rows)
+}
+
 #[test]
 fn serves_clients_over_a_store(rt: HostRuntime) -> Result<(), Fail> {
     for (client, rows) in CLIENTS {
-        let settings = plant(rt.alloc())?;
-        let archive = SqlArchive::open_in_memory(
-            rt.alloc(),
-            settings.archive(),
-            settings.replica(),
-        )?;
-        let mut server = Server::new(rt.alloc(), settings, archive);
-        let written = served_to(rt.alloc(), &mut server, rows)?;
         assert_eq!(rt;
-            first_other(rt.alloc(), written.as_slice(), rows)?,
+            first_other_over_a_store(rt.alloc(), rows)?,
             None,
             "{client}"
         );
@@ -189,20 +247,43 @@ fn serves_clients_over_a_store(rt: HostRuntime) -> Result<(), Fail> {
 const INSERT_7: &str =
     "02010100000000000000640000000000000003010001000000540A0000000000000000000103000000616E6E010607000000";
 
-/// What a dump writes of an archive in SQLite that learned the record with these digits.
-fn dumped(alloc: Global, digits: &str) -> Result<Vec<u8>, Fail> {
-    let one = ReplicaNo::new(1).ok_or("a replica")?;
-    let mut archive = SqlArchive::open_in_memory(alloc, Uuid::nil(), one)?;
+/// Whether an archive learns the record with these digits.
+fn is_learned<A: Archive>(alloc: Global, archive: &mut A, digits: &str) -> Result<bool, Fail> {
     let bytes = bytes_of(alloc, &[digits])?;
     let record = read_record(alloc, bytes.as_slice())?;
-    if !record.is_lawful() || archive.learn(&record) != Ok(true) {
-        return Err(Fail::from("not learned"));
-    }
+    Ok(record.is_lawful() && archive.learn(&record) == Ok(true))
+}
+
+/// What a dump writes of an archive.
+fn dump_of<A: Archive>(alloc: Global, archive: &mut A) -> Result<Vec<u8>, Fail> {
     let mut output = Counted::new(Vec::new(alloc));
-    match dump(alloc, &mut archive, &mut output) {
+    match dump(alloc, archive, &mut output) {
         Ok(()) => Ok(output.into_inner()),
         Err(_) => Err(Fail::from("not dumped")),
     }
+}
+
+/// What a dump writes of an archive that learned the record with these digits.
+fn dump_of_one<A: Archive + Drop>(
+    alloc: Global,
+    opened: Result<A, StoreFault>,
+    digits: &str,
+) -> Result<Vec<u8>, Fail> {
+    let mut archive = opened?;
+    if !is_learned(alloc, &mut archive, digits)? {
+        return Err(Fail::from("not learned"));
+    }
+    dump_of(alloc, &mut archive)
+}
+
+/// What a dump writes of an archive in SQLite that learned the record with these digits.
+fn dumped(alloc: Global, digits: &str) -> Result<Vec<u8>, Fail> {
+    let one = ReplicaNo::new(1).ok_or("a replica")?;
+    dump_of_one(
+        alloc,
+        SqlArchive::open_in_memory(alloc, Uuid::nil(), one),
+        digits,
+    )
 }
 
 #[test]
@@ -213,21 +294,29 @@ fn dumps_a_store(rt: HostRuntime) -> Result<(), Fail> {
     Ok(())
 }
 
+/// How a connection ends, and how many calls of its reader and of its writer failed.
+type Ended = (Result<Served, ServeFault>, u64, u64);
+
+/// How a connection to such a server ends.
+fn ended<R: Read, W: Write>(
+    alloc: Global,
+    reader: &mut Counted<R>,
+    writer: &mut Counted<W>,
+) -> Ended {
+    let result = serve_bare(alloc, reader, writer);
+    (result, reader.faults(), writer.faults())
+}
+
 /// The connection is served so from pieces of this size, with no fault; the reader fails at its end where it is told to.
 fn is_served(alloc: Global, bytes: &[u8], size: usize, fails: bool, want: &[u8]) -> bool {
     let mut reader = Counted::new(Slow { bytes, size, fails });
     let mut writer = Counted::new(Vec::new(alloc));
-    let result = serve_bare(alloc, &mut reader, &mut writer);
-    let ending = if fails {
-        Err(ServeFault::Read)
+    let ending: Ended = if fails {
+        (Err(ServeFault::Read), 1, 0)
     } else {
-        Ok(Served::EndOfInput)
+        (Ok(Served::EndOfInput), 0, 0)
     };
-    let faults = if fails { 1 } else { 0 };
-    result == ending
-        && reader.faults() == faults
-        && writer.faults() == 0
-        && writer.into_inner().as_slice() == want
+    ended(alloc, &mut reader, &mut writer) == ending && writer.into_inner().as_slice() == want
 }
 
 /// A writer that takes so many bytes has just these, and its failed call is counted.
@@ -237,15 +326,12 @@ fn is_written(alloc: Global, bytes: &[u8], room: usize, want: &[u8]) -> bool {
         bytes: Vec::new(alloc),
         room,
     });
-    let result = serve_bare(alloc, &mut reader, &mut writer);
-    let (ending, faults) = if room < want.len() {
-        (Err(ServeFault::Write), 1)
+    let ending: Ended = if room < want.len() {
+        (Err(ServeFault::Write), 0, 1)
     } else {
-        (Ok(Served::EndOfInput), 0)
+        (Ok(Served::EndOfInput), 0, 0)
     };
-    result == ending
-        && reader.faults() == 0
-        && writer.faults() == faults
+    ended(alloc, &mut reader, &mut writer) == ending
         && Some(writer.into_inner().bytes.as_slice()) == want.get(..room.min(want.len()))
 }
 
@@ -259,10 +345,16 @@ fn answered_of(front: usize) -> usize {
     }
 }
 
+/// The connection of a Hello, an opening and a message, and its answer.
+fn connection(alloc: Global) -> Result<(Vec<u8>, Vec<u8>), Fail> {
+    let input = bytes_of(alloc, &[HELLO, OPEN, REQUEST])?;
+    let want = bytes_of(alloc, &[ACK, OPENED, ANSWER])?;
+    Ok((input, want))
+}
+
 #[test]
 fn serves_in_pieces(rt: HostRuntime) -> Result<(), Fail> {
-    let input = bytes_of(rt.alloc(), &[HELLO, OPEN, REQUEST])?;
-    let want = bytes_of(rt.alloc(), &[ACK, OPENED, ANSWER])?;
+    let (input, want) = connection(rt.alloc())?;
     assert_eq!(rt; (input.len(), want.len()), (243, 215));
     for size in 1..244 {
         assert!(rt;
@@ -273,24 +365,34 @@ fn serves_in_pieces(rt: HostRuntime) -> Result<(), Fail> {
     Ok(())
 }
 
-#[test]
-fn serves_each_front(rt: HostRuntime) -> Result<(), Fail> {
-    let input = bytes_of(rt.alloc(), &[HELLO, OPEN, REQUEST])?;
-    let want = bytes_of(rt.alloc(), &[ACK, OPENED, ANSWER])?;
+/// Whether a front of so many bytes is served so, with a fault behind it and with none.
+fn is_front_served(alloc: Global, input: &[u8], want: &[u8], count: usize) -> Result<bool, Fail> {
+    let bytes = input.get(..count).ok_or("a front")?;
+    let out = want.get(..answered_of(count)).ok_or("a front")?;
+    Ok(is_served(alloc, bytes, 1, true, out) && is_served(alloc, bytes, 1, false, out))
+}
+
+/// The first front that is served otherwise.
+fn first_other_front(alloc: Global, input: &[u8], want: &[u8]) -> Result<Option<usize>, Fail> {
     for count in 0..244 {
-        let bytes = input.get(..count).ok_or("a front")?;
-        let out = want.get(..answered_of(count)).ok_or("a front")?;
-        for fails in [true, false] {
-            assert!(rt; is_served(rt.alloc(), bytes, 1, fails, out), "{count}");
+        if !is_front_served(alloc, input, want, count)? {
+            return Ok(Some(count));
         }
     }
+    Ok(None)
+}
+
+#[test]
+fn serves_each_front(rt: HostRuntime) -> Result<(), Fail> {
+    let (input, want) = connection(rt.alloc())?;
+    let other = first_other_front(rt.alloc(), input.as_slice(), want.as_slice())?;
+    assert_eq!(rt; other, None);
     Ok(())
 }
 
 #[test]
 fn stops_where_the_writer_does(rt: HostRuntime) -> Result<(), Fail> {
-    let input = bytes_of(rt.alloc(), &[HELLO, OPEN, REQUEST])?;
-    let want = bytes_of(rt.alloc(), &[ACK, OPENED, ANSWER])?;
+    let (input, want) = connection(rt.alloc())?;
     for room in 0..217 {
         assert!(rt;
             is_written(rt.alloc(), input.as_slice(), room, want.as_slice()),
@@ -317,18 +419,14 @@ fn is_served_halting(alloc: Global, bytes: &[u8], want: &[u8]) -> bool {
         },
         halts: false,
     });
-    let result = serve_bare(alloc, &mut reader, &mut writer);
-    result == Ok(Served::EndOfInput)
-        && reader.faults() == 0
-        && writer.faults() == 0
+    ended(alloc, &mut reader, &mut writer) == (Ok(Served::EndOfInput), 0, 0)
         && writer.into_inner().inner.bytes.as_slice() == want
 }
 
 /// A call that was interrupted is tried again, and counts as no failed one.
 #[test]
 fn goes_on_where_it_was_interrupted(rt: HostRuntime) -> Result<(), Fail> {
-    let input = bytes_of(rt.alloc(), &[HELLO, OPEN, REQUEST])?;
-    let want = bytes_of(rt.alloc(), &[ACK, OPENED, ANSWER])?;
+    let (input, want) = connection(rt.alloc())?;
     assert!(rt; is_served_halting(rt.alloc(), input.as_slice(), want.as_slice()));
     Ok(())
 }
@@ -353,14 +451,24 @@ static COUNTS: [(u8, &[&str], Served); 2] = [
     ),
 ];
 
+/// Whether a message of so many chunks is answered so.
+fn are_chunks_answered(
+    alloc: Global,
+    count: u8,
+    want: &[&str],
+    ending: Served,
+) -> Result<bool, Fail> {
+    let input = many_chunks(alloc, count)?;
+    let text = hex::encode(alloc, input.as_slice())?;
+    is_answered(alloc, text.as_str(), want, ending)
+}
+
 /// A message has 64 chunks, and not 65.
 #[test]
 fn bounds_a_message(rt: HostRuntime) -> Result<(), Fail> {
     for (count, want, ending) in COUNTS {
-        let input = many_chunks(rt.alloc(), count)?;
-        let text = hex::encode(rt.alloc(), input.as_slice())?;
         assert!(rt;
-            is_answered(rt.alloc(), text.as_str(), want, ending)?,
+            are_chunks_answered(rt.alloc(), count, want, ending)?,
             "{count}"
         );
     }
@@ -378,20 +486,29 @@ fn many_given_up(alloc: Global, count: u32) -> Result<Vec<u8>, Fail> {
     Ok(bytes)
 }
 
+/// Whether a connection of these bytes ends so, and this goes out.
+fn ends(alloc: Global, input: &[u8], want: &[u8], ending: Result<Served, ServeFault>) -> bool {
+    let mut reader = Counted::new(input);
+    let mut writer = Counted::new(Vec::new(alloc));
+    serve_bare(alloc, &mut reader, &mut writer) == ending && writer.into_inner().as_slice() == want
+}
+
+/// Whether a connection with so many chunks behind the opening ends so, and only the beginning is
+/// answered.
+fn is_bounded(alloc: Global, count: u32, ending: Result<Served, ServeFault>) -> Result<bool, Fail> {
+    let input = many_given_up(alloc, count)?;
+    let want = bytes_of(alloc, &[ACK, OPENED])?;
+    Ok(ends(alloc, input.as_slice(), want.as_slice(), ending))
+}
+
 /// A connection has 1,000,000 chunks, the Hello and the opening among them, and not one more.
 #[test]
 fn bounds_a_connection(rt: HostRuntime) -> Result<(), Fail> {
-    let want = bytes_of(rt.alloc(), &[ACK, OPENED])?;
     for (count, ending) in [
         (999_998, Ok(Served::EndOfInput)),
         (999_999, Err(ServeFault::TooLong)),
     ] {
-        let input = many_given_up(rt.alloc(), count)?;
-        let mut reader = Counted::new(input.as_slice());
-        let mut writer = Counted::new(Vec::new(rt.alloc()));
-        let result = serve_bare(rt.alloc(), &mut reader, &mut writer);
-        assert_eq!(rt; result, ending);
-        assert_eq!(rt; writer.into_inner().as_slice(), want.as_slice());
+        assert!(rt; is_bounded(rt.alloc(), count, ending)?, "{count}");
     }
     Ok(())
 }
