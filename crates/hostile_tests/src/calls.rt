@@ -64,27 +64,35 @@ fn is_acknowledged(alloc: Global, body: &[u8]) -> bool {
     written && out.as_slice() == ACK
 }
 
+/// A byte of a Hello comes, behind which so many are left: it makes the chunk whole where none is.
+fn is_taken(alloc: Global, intake: &mut Intake, byte: u8, left: usize) -> bool {
+    if !is_fed(intake, &[byte]) {
+        return false;
+    }
+    match intake.next_chunk() {
+        Ok(None) => left > 0,
+        Ok(Some(chunk)) => {
+            left == 0 && chunk.kind == Kind::Hello && is_acknowledged(alloc, chunk.body)
+        }
+        Err(_) => false,
+    }
+}
+
 /// A Hello byte by byte: nothing before the last one.
-fn comes_in_pieces(alloc: Global) -> bool {
-    let mut intake = Intake::new(alloc);
+fn are_taken(alloc: Global, intake: &mut Intake) -> bool {
     let mut left = HELLO.len();
     for byte in HELLO {
         left = left.saturating_sub(1);
-        if !is_fed(&mut intake, &[*byte]) {
-            return false;
-        }
-        let same = match intake.next_chunk() {
-            Ok(None) => left > 0,
-            Ok(Some(chunk)) => {
-                left == 0 && chunk.kind == Kind::Hello && is_acknowledged(alloc, chunk.body)
-            }
-            Err(_) => false,
-        };
-        if !same {
+        if !is_taken(alloc, intake, *byte, left) {
             return false;
         }
     }
     true
+}
+
+fn comes_in_pieces(alloc: Global) -> bool {
+    let mut intake = Intake::new(alloc);
+    are_taken(alloc, &mut intake)
 }
 
 /// A node in memory of its own.
@@ -105,22 +113,27 @@ fn is_short_node(node: &NodeId) -> bool
     }
 }
 
-/// The bytes spell `i=85`, all of them, which is written in its shortest form.
+/// A node is `i=85`, which is written in its shortest form.
+fn is_node_written(alloc: Global, node: &NodeId) -> bool {
+    if !is_short_node(node) {
+        return false;
+    }
+    let mut out = Vec::new(alloc);
+    let written = put_node_id(&mut out, node).is_ok()
+        || (out.is_empty() && put_node_id(&mut out, node).is_ok());
+    written && *node == NodeId::Numeric(0, 85) && out.as_slice() == [0u8, 0x55].as_slice()
+}
+
+/// The bytes spell `i=85`, all of them.
 fn is_node(alloc: Global, bytes: &[u8]) -> bool {
     let mut cursor = Cursor::new(bytes);
     let Ok(read) = cursor.node_id() else {
         return false;
     };
-    let Some(node) = owned(alloc, read) else {
-        return false;
-    };
-    if !is_short_node(&node) || !cursor.rest().is_empty() {
-        return false;
+    match owned(alloc, read) {
+        Some(node) => cursor.rest().is_empty() && is_node_written(alloc, &node),
+        None => false,
     }
-    let mut out = Vec::new(alloc);
-    let written = put_node_id(&mut out, &node).is_ok()
-        || (out.is_empty() && put_node_id(&mut out, &node).is_ok());
-    written && node == NodeId::Numeric(0, 85) && out.as_slice() == [0u8, 0x55].as_slice()
 }
 
 fn are_nodes(alloc: Global, spellings: &[&[u8]]) -> bool {
@@ -153,42 +166,64 @@ fn is_short_data(value: &DataValue) -> bool
     close && value.server_pico.is_none() && value.size() < 0x8000_0000
 }
 
-/// The bytes spell a value, which is written so.
-fn is_value(alloc: Global, bytes: &[u8]) -> bool {
+/// A value that the bytes spell, read again where memory was wanting.
+fn value_of(alloc: Global, bytes: &[u8]) -> Result<Variant, VariantFault> {
     let mut cursor = Cursor::new(bytes);
-    let mut read = read_variant(alloc, &mut cursor);
-    if read == Err(VariantFault::OutOfMemory) && cursor.rest() == bytes {
-        read = read_variant(alloc, &mut cursor);
+    match read_variant(alloc, &mut cursor) {
+        Err(VariantFault::OutOfMemory) if cursor.rest() == bytes => {
+            read_variant(alloc, &mut cursor)
+        }
+        read => read,
     }
-    let Ok(value) = read else {
-        return false;
-    };
-    if !is_short_variant(&value) {
+}
+
+/// A value is written so.
+fn is_value_written(alloc: Global, value: &Variant, bytes: &[u8]) -> bool {
+    if !is_short_variant(value) {
         return false;
     }
     let mut out = Vec::new(alloc);
-    let written = put_variant(&mut out, &value).is_ok()
-        || (out.is_empty() && put_variant(&mut out, &value).is_ok());
+    let written = put_variant(&mut out, value).is_ok()
+        || (out.is_empty() && put_variant(&mut out, value).is_ok());
     written && out.as_slice() == bytes
+}
+
+/// The bytes spell a value, which is written so.
+fn is_value(alloc: Global, bytes: &[u8]) -> bool {
+    match value_of(alloc, bytes) {
+        Ok(value) => is_value_written(alloc, &value, bytes),
+        Err(_) => false,
+    }
+}
+
+/// A data value that the bytes spell, read again where memory was wanting.
+fn data_of(alloc: Global, bytes: &[u8]) -> Result<DataValue, VariantFault> {
+    let mut cursor = Cursor::new(bytes);
+    match read_data_value(alloc, &mut cursor) {
+        Err(VariantFault::OutOfMemory) if cursor.rest() == bytes => {
+            read_data_value(alloc, &mut cursor)
+        }
+        read => read,
+    }
+}
+
+/// A data value with these picoseconds is written in so many bytes.
+fn is_data_written(alloc: Global, value: &DataValue, count: usize, pico: Option<u16>) -> bool {
+    if !is_short_data(value) {
+        return false;
+    }
+    let mut out = Vec::new(alloc);
+    let written = put_data_value(&mut out, value).is_ok()
+        || (out.is_empty() && put_data_value(&mut out, value).is_ok());
+    written && value.source_pico == pico && out.len() == count
 }
 
 /// The bytes spell a data value with these picoseconds, which is written in as many bytes.
 fn is_data(alloc: Global, bytes: &[u8], pico: Option<u16>) -> bool {
-    let mut cursor = Cursor::new(bytes);
-    let mut read = read_data_value(alloc, &mut cursor);
-    if read == Err(VariantFault::OutOfMemory) && cursor.rest() == bytes {
-        read = read_data_value(alloc, &mut cursor);
+    match data_of(alloc, bytes) {
+        Ok(value) => is_data_written(alloc, &value, bytes.len(), pico),
+        Err(_) => false,
     }
-    let Ok(value) = read else {
-        return false;
-    };
-    if !is_short_data(&value) {
-        return false;
-    }
-    let mut out = Vec::new(alloc);
-    let written = put_data_value(&mut out, &value).is_ok()
-        || (out.is_empty() && put_data_value(&mut out, &value).is_ok());
-    written && value.source_pico == pico && out.len() == bytes.len()
 }
 
 /// A body of 8,169 bytes is cut into 8,168 and 1.
@@ -208,15 +243,19 @@ fn is_created(sessions: &mut Sessions, id: u32, token: u32) -> bool {
     made == Ok((NodeId::Numeric(1, id), NodeId::Numeric(1, token)))
 }
 
-fn refuses_the_seventeenth(alloc: Global) -> bool {
-    let mut sessions = Sessions::new(alloc);
+fn are_sixteen_created(sessions: &mut Sessions) -> bool {
     for number in 1..17u32 {
         let id = number.saturating_mul(2);
-        if !is_created(&mut sessions, id, id.saturating_add(1)) {
+        if !is_created(sessions, id, id.saturating_add(1)) {
             return false;
         }
     }
-    sessions.create() == Err(SessionFault::TooMany)
+    true
+}
+
+fn refuses_the_seventeenth(alloc: Global) -> bool {
+    let mut sessions = Sessions::new(alloc);
+    are_sixteen_created(&mut sessions) && sessions.create() == Err(SessionFault::TooMany)
 }
 
 /// The bytes spell a vector, which is written so.

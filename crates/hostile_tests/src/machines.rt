@@ -52,32 +52,28 @@ pub(crate) enum Step {
 
 /// A machine between two requests of one client.
 #[derive(Drop)]
-pub(crate) struct Machine {
-    server: Server<ScriptedArchive>,
+struct Machine<A> {
+    server: Server<A>,
     sessions: Sessions,
 }
 
-/// A replica that holds nothing, and whose store refuses its `call`-th call for want of memory.
-pub(crate) fn replica_of(alloc: Global, number: u8, call: u64) -> Option<Replica<ScriptedArchive>> {
+/// An archive that holds nothing, and whose store refuses its `call`-th call for want of memory.
+pub(crate) fn archive_of(alloc: Global, number: u8, call: u64) -> Option<ScriptedArchive> {
     let number = ReplicaNo::new(number)?;
-    let refusal = Failure::OutOfMemory;
-    Some(Replica::new(ScriptedArchive::new(alloc, Uuid::nil(), number, call, refusal)))
+    Some(ScriptedArchive::new(alloc, Uuid::nil(), number, call, Failure::OutOfMemory))
 }
 
-fn make_machine(alloc: Global, number: u8, call: u64) -> Option<Machine> {
-    let server = Server {
-        alloc,
-        settings: plant_of(alloc, number)?,
-        replica: replica_of(alloc, number, call)?,
-    };
+/// The machine of this number over an archive.
+fn machine_over<A: Archive + Drop>(alloc: Global, number: u8, archive: A) -> Option<Machine<A>> {
+    let settings = plant_of(alloc, number)?;
     Some(Machine {
-        server,
+        server: Server::new(alloc, settings, archive),
         sessions: Sessions::new(alloc),
     })
 }
 
 /// The vector of what a replica holds, asked for again where memory was wanting.
-fn vector(replica: &mut Replica<ScriptedArchive>) -> Option<Vector> {
+fn vector<A: Archive>(replica: &mut Replica<A>) -> Option<Vector> {
     match replica.archive.vector() {
         Ok(vector) => Some(vector),
         Err(_) => replica.archive.vector().ok(),
@@ -85,7 +81,7 @@ fn vector(replica: &mut Replica<ScriptedArchive>) -> Option<Vector> {
 }
 
 /// The greatest tick that a replica holds.
-fn top(replica: &mut Replica<ScriptedArchive>) -> Option<i64> {
+fn top<A: Archive>(replica: &mut Replica<A>) -> Option<i64> {
     match replica.archive.top() {
         Ok(top) => Some(top),
         Err(_) => replica.archive.top().ok(),
@@ -93,23 +89,28 @@ fn top(replica: &mut Replica<ScriptedArchive>) -> Option<i64> {
 }
 
 /// How many records of replica 1 and of replica 2 are held, and the greatest tick.
-pub(crate) fn held(replica: &mut Replica<ScriptedArchive>) -> Option<([u64; 2], i64)> {
+pub(crate) fn held<A: Archive>(replica: &mut Replica<A>) -> Option<([u64; 2], i64)> {
     let vector = vector(replica)?;
     let (one, two) = (ReplicaNo::new(1)?, ReplicaNo::new(2)?);
     Some(([vector.get(one), vector.get(two)], top(replica)?))
 }
 
-/// How many records of its own the machine holds.
-fn own(machine: &mut Machine) -> Option<u64> {
-    let number = machine.server.replica.archive.number();
-    let vector = vector(&mut machine.server.replica)?;
+/// How many records of its own a replica holds.
+fn own<A: Archive>(replica: &mut Replica<A>) -> Option<u64> {
+    let number = replica.archive.number();
+    let vector = vector(replica)?;
     Some(vector.get(number))
 }
 
 // ---- messages
 
 /// What a message is answered; nothing where there was no memory for it.
-fn told(alloc: Global, machine: &mut Machine, now: i64, message: &[u8]) -> Option<Vec<u8>> {
+fn told<A: Archive>(
+    alloc: Global,
+    machine: &mut Machine<A>,
+    now: i64,
+    message: &[u8],
+) -> Option<Vec<u8>> {
     let mut body = Vec::new(alloc);
     let answered = answer_message(
         &mut machine.server,
@@ -121,19 +122,8 @@ fn told(alloc: Global, machine: &mut Machine, now: i64, message: &[u8]) -> Optio
     answered.is_ok().then_some(body)
 }
 
-fn is_told(told: &Option<Vec<u8>>, want: &[u8]) -> bool {
-    match told {
-        Some(body) => body.as_slice() == want,
-        None => false,
-    }
-}
-
-/// Whether want of memory is told somewhere in an answer.
-fn wants(told: &Option<Vec<u8>>) -> bool {
-    let Some(body) = told else {
-        return true;
-    };
-    let bytes = body.as_slice();
+/// Whether want of memory is told somewhere in these bytes.
+fn is_want_told(bytes: &[u8]) -> bool {
     for at in 0..bytes.len() {
         if bytes[at..].starts_with(&[0, 0, 3, 0x80]) {
             return true;
@@ -142,19 +132,58 @@ fn wants(told: &Option<Vec<u8>>) -> bool {
     false
 }
 
-/// Whether that is left where so many records were held before.
-fn is_left(machine: &mut Machine, before: Option<u64>, left: Left) -> bool {
-    let more = match left {
-        Left::Records(more) => more,
-        _ => 0,
+/// How an answer is.
+#[derive(Clone, Copy, Debug, PartialEq, Eq)]
+enum Telling {
+    /// As it is with ample memory.
+    Wanted,
+    /// Want of memory is told, or there was none for it.
+    Starved,
+    /// Anything else.
+    Other,
+}
+
+/// How a message is answered.
+fn judged<A: Archive>(
+    alloc: Global,
+    machine: &mut Machine<A>,
+    now: i64,
+    message: &[u8],
+    want: &[u8],
+) -> Telling {
+    let Some(body) = told(alloc, machine, now, message) else {
+        return Telling::Starved;
     };
-    let made = match left {
+    if body.as_slice() == want {
+        Telling::Wanted
+    } else if is_want_told(body.as_slice()) {
+        Telling::Starved
+    } else {
+        Telling::Other
+    }
+}
+
+/// Whether a session that is to be left is there.
+fn is_made(sessions: &Sessions, left: Left) -> bool {
+    match left {
         Left::Session(token) => {
-            machine.sessions.user_of(NodeIdRef::Numeric(1, token)) != Err(SessionFault::IdInvalid)
+            sessions.user_of(NodeIdRef::Numeric(1, token)) != Err(SessionFault::IdInvalid)
         }
         _ => true,
-    };
-    made && own(machine) == before.map(|number| number.saturating_add(more))
+    }
+}
+
+/// How many records are held behind so many before.
+fn count_left(before: Option<u64>, left: Left) -> Option<u64> {
+    match left {
+        Left::Records(more) => before.map(|number| number.saturating_add(more)),
+        _ => before,
+    }
+}
+
+/// Whether that is left where so many records were held before.
+fn is_left<A: Archive>(machine: &mut Machine<A>, before: Option<u64>, left: Left) -> bool {
+    is_made(&machine.sessions, left) && own(&mut machine.server.replica) == count_left(before, left)
 }
 
 /// Whether a message leaves something that wasn't there.
@@ -167,31 +196,32 @@ fn changes(left: Left) -> bool {
 
 /// A message is answered so and leaves that. Where want of memory is told it may have been done, and only its answer is wanting;
 /// else the same message is answered so where nothing was changed, and behind a part of it does the rest.
-fn is_asked(
+fn is_asked<A: Archive>(
     alloc: Global,
-    machine: &mut Machine,
+    machine: &mut Machine<A>,
     now: i64,
     message: &[u8],
     want: &[u8],
     left: Left,
 ) -> bool {
-    let before = own(machine);
-    let first = told(alloc, machine, now, message);
-    if is_told(&first, want) {
-        return is_left(machine, before, left);
-    }
-    if !wants(&first) {
-        return false;
+    let before = own(&mut machine.server.replica);
+    match judged(alloc, machine, now, message, want) {
+        Telling::Wanted => return is_left(machine, before, left),
+        Telling::Starved => {}
+        Telling::Other => return false,
     }
     if changes(left) && is_left(machine, before, left) {
         return true;
     }
-    let unchanged = own(machine) == before;
-    let second = told(alloc, machine, now, message);
-    (is_told(&second, want) || (changes(left) && !unchanged)) && is_left(machine, before, left)
+    let unchanged = own(&mut machine.server.replica) == before;
+    let second = judged(alloc, machine, now, message, want) == Telling::Wanted;
+    (second || (changes(left) && !unchanged)) && is_left(machine, before, left)
 }
 
 // ---- updates
+
+/// The number of an update (4 for a delete), the source time and the value.
+type Operation = (i32, i64, i32);
 
 fn request(alloc: Global, reading: i64) -> Option<Request> {
     let node = NodeId::Named(1, Text::from_str(alloc, "T").ok()?);
@@ -203,9 +233,10 @@ fn request(alloc: Global, reading: i64) -> Option<Request> {
     })
 }
 
-fn operate(
+/// Updates one value; nothing where there was no memory for it.
+fn update<A: Archive>(
     alloc: Global,
-    machine: &mut Machine,
+    archive: &mut A,
     request: &Request,
     perform: i32,
     time: i64,
@@ -215,33 +246,52 @@ fn operate(
     if !is_request(request) || !are_short(&values) {
         return None;
     }
-    let archive = &mut machine.server.replica.archive;
-    let told = if perform == 4 {
-        delete_at(alloc, archive, request, &[Ticks(time)])
+    Some(code_of(&update_data(alloc, archive, request, INT32, perform, &values)))
+}
+
+/// Deletes what there is at a time.
+fn delete<A: Archive>(
+    alloc: Global,
+    archive: &mut A,
+    request: &Request,
+    time: i64,
+) -> Option<Status> {
+    if !is_request(request) {
+        return None;
+    }
+    Some(code_of(&delete_at(alloc, archive, request, &[Ticks(time)])))
+}
+
+fn operate<A: Archive>(
+    alloc: Global,
+    replica: &mut Replica<A>,
+    request: &Request,
+    operation: Operation,
+) -> Option<Status> {
+    let (perform, time, written) = operation;
+    if perform == 4 {
+        delete(alloc, &mut replica.archive, request, time)
     } else {
-        update_data(alloc, archive, request, INT32, perform, &values)
-    };
-    Some(code_of(&told))
+        update(alloc, &mut replica.archive, request, perform, time, written)
+    }
 }
 
 /// An operation has this code; where it was told want of memory nothing was changed, and then it has this code.
-fn is_operated(
+fn is_operated<A: Archive>(
     alloc: Global,
-    machine: &mut Machine,
+    replica: &mut Replica<A>,
     request: &Request,
-    perform: i32,
-    time: i64,
-    written: i32,
+    operation: Operation,
     code: Status,
 ) -> bool {
-    let before = held(&mut machine.server.replica);
-    let first = operate(alloc, machine, request, perform, time, written);
+    let before = held(replica);
+    let first = operate(alloc, replica, request, operation);
     if first == Some(code) {
         return true;
     }
     first == Some(Status::BAD_OUT_OF_MEMORY)
-        && held(&mut machine.server.replica) == before
-        && operate(alloc, machine, request, perform, time, written) == Some(code)
+        && held(replica) == before
+        && operate(alloc, replica, request, operation) == Some(code)
 }
 
 // ---- exchange
@@ -291,8 +341,8 @@ fn is_wanting(told: Result<u32, ExchangeFault>) -> bool {
 }
 
 /// A batch comes to this; where memory was wanting it does so then, in case nothing was learned of it, and else to what is left.
-fn is_merged(
-    replica: &mut Replica<ScriptedArchive>,
+fn is_merged<A: Archive>(
+    replica: &mut Replica<A>,
     batch: &Batch,
     want: Result<u32, ExchangeFault>,
 ) -> bool {
@@ -310,7 +360,7 @@ fn is_merged(
 }
 
 /// What the other replica holds beside these, asked for again where memory was wanting.
-fn answer(alloc: Global, there: &mut Replica<ScriptedArchive>, theirs: &Vector) -> Option<Batch> {
+fn answer<A: Archive>(alloc: Global, there: &mut Replica<A>, theirs: &Vector) -> Option<Batch> {
     let before = held(there);
     match there.answer(alloc, theirs) {
         Ok(batch) => Some(batch),
@@ -319,49 +369,51 @@ fn answer(alloc: Global, there: &mut Replica<ScriptedArchive>, theirs: &Vector) 
     }
 }
 
-fn is_pulled(alloc: Global, here: &mut Machine, there: &mut Machine, count: u32) -> bool {
-    let Some(theirs) = vector(&mut here.server.replica) else {
+fn is_pulled<A: Archive>(
+    alloc: Global,
+    here: &mut Replica<A>,
+    there: &mut Replica<A>,
+    count: u32,
+) -> bool {
+    let Some(theirs) = vector(here) else {
         return false;
     };
-    match answer(alloc, &mut there.server.replica, &theirs) {
-        Some(batch) => is_merged(&mut here.server.replica, &batch, Ok(count)),
+    match answer(alloc, there, &theirs) {
+        Some(batch) => is_merged(here, &batch, Ok(count)),
         None => false,
     }
 }
 
 /// A dialog has so many frames; where memory was wanting it has them then, in case neither end learned anything.
-fn is_conversed(alloc: Global, here: &mut Machine, there: &mut Machine, frames: u32) -> bool {
-    let before = (
-        held(&mut here.server.replica),
-        held(&mut there.server.replica),
-    );
-    let first = converse(alloc, &mut here.server.replica, &mut there.server.replica);
+fn is_conversed<A: Archive>(
+    alloc: Global,
+    here: &mut Replica<A>,
+    there: &mut Replica<A>,
+    frames: u32,
+) -> bool {
+    let before = (held(here), held(there));
+    let first = converse(alloc, here, there);
     if first == Ok(frames) {
         return true;
     }
     if !is_wanting(first) {
         return false;
     }
-    let unchanged = (
-        held(&mut here.server.replica),
-        held(&mut there.server.replica),
-    ) == before;
-    let second = converse(alloc, &mut here.server.replica, &mut there.server.replica);
+    let unchanged = (held(here), held(there)) == before;
+    let second = converse(alloc, here, there);
     second == Ok(frames) || (!unchanged && second.is_ok())
 }
 
 // ---- what is held
 
-fn is_reloaded(machine: &mut Machine) -> bool {
-    let before = held(&mut machine.server.replica);
-    let archive = &mut machine.server.replica.archive;
-    (archive.reload().is_ok() || archive.reload().is_ok())
-        && held(&mut machine.server.replica) == before
+fn is_reloaded<A: Archive>(replica: &mut Replica<A>) -> bool {
+    let before = held(replica);
+    (replica.archive.reload().is_ok() || replica.archive.reload().is_ok())
+        && held(replica) == before
 }
 
 /// The first record of all, asked for again where memory was wanting.
-fn first_record(alloc: Global, machine: &mut Machine) -> Option<Record> {
-    let archive = &mut machine.server.replica.archive;
+fn first_record<A: Archive>(alloc: Global, archive: &mut A) -> Option<Record> {
     let none = Vector::new();
     let mut records = match archive.since(alloc, &none, 1) {
         Ok(records) => records,
@@ -371,54 +423,120 @@ fn first_record(alloc: Global, machine: &mut Machine) -> Option<Record> {
     records.pop()
 }
 
-/// Whether the record in these bytes is held, and is written so; where memory was wanting what was written before stands.
-fn is_first(alloc: Global, machine: &mut Machine, bytes: &[u8]) -> Option<bool> {
-    let wanted = read_record(alloc, bytes).ok()?;
+/// Whether something was found, which is this.
+fn is_found<T: PartialEq + Drop>(found: Option<T>, wanted: &T) -> bool {
+    match found {
+        Some(found) => found == *wanted,
+        None => false,
+    }
+}
+
+/// Whether the record in these bytes is written so; where memory was wanting what was written
+/// before stands. Nothing where there was no memory to read it.
+fn is_written(alloc: Global, bytes: &[u8]) -> Option<bool> {
+    let Ok(record) = read_record(alloc, bytes) else {
+        return None;
+    };
     let mut out = Vec::new(alloc);
-    let written = put_record(&mut out, &wanted).is_ok()
-        || (out.is_empty() && put_record(&mut out, &wanted).is_ok());
-    Some(written && out.as_slice() == bytes && first_record(alloc, machine) == Some(wanted))
+    let written = put_record(&mut out, &record).is_ok()
+        || (out.is_empty() && put_record(&mut out, &record).is_ok());
+    Some(written && out.as_slice() == bytes)
+}
+
+/// Whether the record in these bytes is the first of all; nothing where there was no memory to read
+/// it.
+fn is_first<A: Archive>(alloc: Global, archive: &mut A, bytes: &[u8]) -> Option<bool> {
+    match read_record(alloc, bytes) {
+        Ok(wanted) => Some(is_found(first_record(alloc, archive), &wanted)),
+        Err(_) => None,
+    }
 }
 
 // ---- scripts
 
-fn is_taken(alloc: Global, here: &mut Machine, there: &mut Machine, step: &Step) -> Option<bool> {
-    Some(match step {
-        Step::Ask(now, message, want, left) => {
-            let message = hex::decode(alloc, message.as_bytes()).ok()?;
-            let want = hex::decode(alloc, want.as_bytes()).ok()?;
-            is_asked(
-                alloc,
-                here,
-                *now,
-                message.as_slice(),
-                want.as_slice(),
-                *left,
-            )
-        }
-        Step::Operate(reading, perform, time, written, code) => {
-            let request = request(alloc, *reading)?;
-            is_operated(alloc, here, &request, *perform, *time, *written, *code)
-        }
-        Step::Merge(rows, want) => {
-            let batch = batch_of(alloc, rows)?;
-            is_merged(&mut here.server.replica, &batch, *want)
-        }
-        Step::Pull(count) => is_pulled(alloc, here, there, *count),
-        Step::Converse(frames) => is_conversed(alloc, here, there, *frames),
-        Step::Reload => is_reloaded(here),
-        Step::Holds(numbers, tick) => held(&mut here.server.replica) == Some((*numbers, *tick)),
-        Step::First(digits) => {
-            let bytes = hex::decode(alloc, digits.as_bytes()).ok()?;
-            is_first(alloc, here, bytes.as_slice())?
-        }
-    })
+/// A message in hex digits is answered so and leaves that.
+fn is_asked_in_hex<A: Archive>(
+    alloc: Global,
+    machine: &mut Machine<A>,
+    now: i64,
+    digits: (&str, &str),
+    left: Left,
+) -> Option<bool> {
+    let message = hex::decode(alloc, digits.0.as_bytes()).ok()?;
+    let want = hex::decode(alloc, digits.1.as_bytes()).ok()?;
+    Some(is_asked(
+        alloc,
+        machine,
+        now,
+        message.as_slice(),
+        want.as_slice(),
+        left,
+    ))
 }
 
-fn are_taken(
+/// An operation of ann at a reading has this code.
+fn is_operated_at<A: Archive>(
     alloc: Global,
-    here: &mut Machine,
-    there: &mut Machine,
+    replica: &mut Replica<A>,
+    reading: i64,
+    operation: Operation,
+    code: Status,
+) -> Option<bool> {
+    let request = request(alloc, reading)?;
+    Some(is_operated(alloc, replica, &request, operation, code))
+}
+
+/// A batch of these records comes to this.
+fn are_merged<A: Archive>(
+    alloc: Global,
+    replica: &mut Replica<A>,
+    rows: &[Row],
+    want: Result<u32, ExchangeFault>,
+) -> Option<bool> {
+    let batch = batch_of(alloc, rows)?;
+    Some(is_merged(replica, &batch, want))
+}
+
+/// The record in these hex digits is written so, and is the first of all.
+fn is_first_in_hex<A: Archive>(
+    alloc: Global,
+    replica: &mut Replica<A>,
+    digits: &str,
+) -> Option<bool> {
+    let bytes = hex::decode(alloc, digits.as_bytes()).ok()?;
+    let written = is_written(alloc, bytes.as_slice())?;
+    Some(is_first(alloc, &mut replica.archive, bytes.as_slice())? && written)
+}
+
+fn is_taken<A: Archive>(
+    alloc: Global,
+    here: &mut Machine<A>,
+    there: &mut Machine<A>,
+    step: &Step,
+) -> Option<bool> {
+    let replica = &mut here.server.replica;
+    match step {
+        Step::Ask(now, message, want, left) => {
+            is_asked_in_hex(alloc, here, *now, (*message, *want), *left)
+        }
+        Step::Operate(reading, perform, time, written, code) => {
+            is_operated_at(alloc, replica, *reading, (*perform, *time, *written), *code)
+        }
+        Step::Merge(rows, want) => are_merged(alloc, replica, rows, *want),
+        Step::Pull(count) => { Some(is_pulled(alloc, replica, &mut there.server.replica, *count)) }
+        Step::Converse(frames) => {
+            Some(is_conversed(alloc, replica, &mut there.server.replica, *frames))
+        }
+        Step::Reload => Some(is_reloaded(replica)),
+        Step::Holds(numbers, tick) => Some(held(replica) == Some((*numbers, *tick))),
+        Step::First(digits) => is_first_in_hex(alloc, replica, digits),
+    }
+}
+
+fn are_taken<A: Archive>(
+    alloc: Global,
+    here: &mut Machine<A>,
+    there: &mut Machine<A>,
     steps: &[Step],
 ) -> Option<bool> {
     for step in steps {
@@ -429,28 +547,63 @@ fn are_taken(
     Some(true)
 }
 
-/// Whether each step of a script comes to what it says, at two machines that hold nothing, where the `call`-th call of a machine's
-/// store is refused. Besides how many were.
-pub(crate) fn is_script(
+/// Whether each step of a script comes to what it says, at these machines.
+fn are_played<A: Archive>(
     alloc: Global,
+    one: &mut Machine<A>,
+    two: &mut Machine<A>,
     script: &[(u8, &[Step])],
-    calls: (u64, u64),
-) -> Option<(bool, u64)> {
-    let mut one = make_machine(alloc, 1, calls.0)?;
-    let mut two = make_machine(alloc, 2, calls.1)?;
+) -> Option<bool> {
     for (at, steps) in script {
         let same = if *at == 1 {
-            are_taken(alloc, &mut one, &mut two, steps)?
+            are_taken(alloc, one, two, steps)?
         } else {
-            are_taken(alloc, &mut two, &mut one, steps)?
+            are_taken(alloc, two, one, steps)?
         };
         if !same {
-            return Some((false, 0));
+            return Some(false);
         }
+    }
+    Some(true)
+}
+
+/// The same, besides how many calls of their stores were refused.
+fn are_played_to_the_end<A: Archive>(
+    alloc: Global,
+    one: &mut Machine<A>,
+    two: &mut Machine<A>,
+    script: &[(u8, &[Step])],
+) -> Option<(bool, u64)> {
+    if !are_played(alloc, one, two, script)? {
+        return Some((false, 0));
     }
     let faults = one.server.replica.archive.faults();
     Some((
         true,
         faults.saturating_add(two.server.replica.archive.faults()),
     ))
+}
+
+/// The same at a machine over each of two archives.
+fn is_script_over<A: Archive + Drop>(
+    alloc: Global,
+    one: A,
+    two: A,
+    script: &[(u8, &[Step])],
+) -> Option<(bool, u64)> {
+    let mut one = machine_over(alloc, 1, one)?;
+    let mut two = machine_over(alloc, 2, two)?;
+    are_played_to_the_end(alloc, &mut one, &mut two, script)
+}
+
+/// Whether each step of a script comes to what it says, at two machines that hold nothing, where
+/// the `call`-th call of a machine's store is refused. Besides how many were.
+pub(crate) fn is_script(
+    alloc: Global,
+    script: &[(u8, &[Step])],
+    calls: (u64, u64),
+) -> Option<(bool, u64)> {
+    let one = archive_of(alloc, 1, calls.0)?;
+    let two = archive_of(alloc, 2, calls.1)?;
+    is_script_over(alloc, one, two, script)
 }

@@ -1,7 +1,7 @@
 //! Connections in hex digits.
 
-use crate::machines::{held, replica_of};
-use archive::{Archive, ScriptedArchive};
+use crate::machines::{archive_of, held};
+use archive::Archive;
 use server_rows::plant::clock;
 use server_rows::streams::is_joined;
 use std::alloc::Global;
@@ -12,7 +12,7 @@ use ua_settings::Settings;
 type Told = (Vec<u8>, Result<Served, HexFault>);
 
 /// A server without settings answers a connection.
-fn told(server: &mut Server<ScriptedArchive>, text: &str) -> Told {
+fn told<A: Archive>(server: &mut Server<A>, text: &str) -> Told {
     let mut out = Vec::new(server.alloc);
     let ending = answer_hex(server, text, &mut out, &mut clock());
     (out, ending)
@@ -60,7 +60,43 @@ fn joined(alloc: Global, parts: &[&str]) -> Option<String> {
 }
 
 /// Whether a connection is answered so; where memory was wanting, whether that is told, nothing is held by it, and the same
-/// bytes are then answered so. Besides how many calls of the store were refused.
+/// bytes are then answered so.
+fn is_served<A: Archive>(
+    server: &mut Server<A>,
+    text: &str,
+    want: &[&str],
+    ending: Served,
+    ends: &[&str],
+) -> bool {
+    let before = held(&mut server.replica);
+    let first = told(server, text);
+    if is_told(&first, want, ending) {
+        return true;
+    }
+    if !wants(&first, want, ends) || held(&mut server.replica) != before {
+        return false;
+    }
+    let second = told(server, text);
+    is_told(&second, want, ending)
+}
+
+/// The same at a server over an archive. Besides how many calls of its store were refused.
+fn is_served_over<A: Archive + Drop>(
+    alloc: Global,
+    archive: A,
+    text: &str,
+    want: &[&str],
+    ending: Served,
+    ends: &[&str],
+) -> Option<(bool, u64)> {
+    let settings = Settings::bare(alloc).ok()?;
+    let mut server = Server::new(alloc, settings, archive);
+    let same = is_served(&mut server, text, want, ending, ends);
+    Some((same, server.replica.archive.faults()))
+}
+
+/// The same of a connection in parts, at a server that holds nothing, and whose store refuses its
+/// `call`-th call.
 pub(crate) fn is_stream(
     alloc: Global,
     input: &[&str],
@@ -70,17 +106,6 @@ pub(crate) fn is_stream(
     call: u64,
 ) -> Option<(bool, u64)> {
     let text = joined(alloc, input)?;
-    let mut server = Server {
-        alloc,
-        settings: Settings::bare(alloc).ok()?,
-        replica: replica_of(alloc, 1, call)?,
-    };
-    let before = held(&mut server.replica);
-    let first = told(&mut server, text.as_str());
-    let mut same = is_told(&first, want, ending);
-    if !same && wants(&first, want, ends) && held(&mut server.replica) == before {
-        let second = told(&mut server, text.as_str());
-        same = is_told(&second, want, ending);
-    }
-    Some((same, server.replica.archive.faults()))
+    let archive = archive_of(alloc, 1, call)?;
+    is_served_over(alloc, archive, text.as_str(), want, ending, ends)
 }
