@@ -7,10 +7,11 @@ Each round (5, unless told) makes a store of random values, as `tests/printed.py
 letters that control a terminal, users with such names too, and a text of 64 KB. Of each variable a page of values and one of
 modifications is opened in Chromium, without a window: each row of its table has to have the fields of the CSV's row, the title and
 the heading have to be the node, no script may have run and nothing may be loaded. The path of its drawing and the texts at its edges
-have to be those that a model of them here makes of the CSV; so do those of 20,000 numbers, some of which aren't good. Where PICTURES
+have to be those that a model of them here makes of the CSV, and its marks stand where the CSV of the modifications has a time more
+than once; so it is of 20,000 numbers, some of which aren't good, and some corrected. Where PICTURES
 is a folder, a picture of one page of each kind is left there. Exit status 1 where one differs, or where there is no Chromium.
 """
-import csv, datetime, html.parser, io, math, os, random, shutil, subprocess, sys, tempfile
+import collections, csv, datetime, html.parser, io, math, os, random, shutil, subprocess, sys, tempfile
 import printed, running, usage
 from printed import moment, NOW
 
@@ -33,7 +34,7 @@ class Page(html.parser.HTMLParser):
     def __init__(self, text):
         super().__init__(convert_charrefs=True)
         self.title, self.heading, self.rows, self.tags, self.within = "", "", [], set(), []
-        self.paths, self.edges = [], []
+        self.paths, self.marks, self.edges = [], [], []
         self.feed(text)
         self.close()
 
@@ -44,7 +45,7 @@ class Page(html.parser.HTMLParser):
         if tag in ("td", "th"):
             self.rows[-1].append("")
         if tag == "path":
-            self.paths.append(dict(attributes)["d"])
+            (self.marks if dict(attributes).get("class") == "old" else self.paths).append(dict(attributes)["d"])
         if tag == "span":
             self.edges.append("")
         if tag not in ("meta", "link", "br"):
@@ -56,7 +57,7 @@ class Page(html.parser.HTMLParser):
 
     def handle_data(self, data):
         inside = self.within[-1] if self.within else ""
-        if inside == "title":
+        if inside == "title" and "svg" not in self.within:
             self.title += data
         if inside == "h1":
             self.heading += data
@@ -95,6 +96,22 @@ def number(value, status):
     return number if math.isfinite(number) else None
 
 
+def place_of(time, first, whole):
+    """The column of a time."""
+    return 0 if time <= first else 999 if time - first >= whole else (time - first) * 999 // whole
+
+
+def marking(rows, corrected):
+    """The marks that a page of these rows has, of which those at these times were corrected."""
+    moments = [(ticks(time), time[27:-1].ljust(4, "0"), time) for _, time, value, status in rows]
+    known = [at for at, (_, _, value, status) in zip(moments, rows) if number(value, status) is not None]
+    if not known:
+        return []
+    first, whole = known[0][0], known[-1][0] - known[0][0]
+    places = {place_of(at[0], first, whole) for at in moments if at[2] in corrected and known[0][:2] <= at[:2] <= known[-1][:2]}
+    return ["".join(f"M{place} 1000V950" for place in sorted(places))] if places else []
+
+
 def drawing(rows):
     """The paths and the edges that a page of these rows has."""
     seen = [(ticks(time), number(value, status), time, value) for _, time, value, status in rows]
@@ -110,7 +127,7 @@ def drawing(rows):
 
     columns = {}
     for time, value, _, _ in seen:
-        place = 0 if time <= first else 999 if time - first >= whole else (time - first) * 999 // whole
+        place = place_of(time, first, whole)
         columns.setdefault(place, []).append(None if value is None else depth(value))
     path, pen = "", None
     for place in sorted(columns):
@@ -144,6 +161,10 @@ def wrong(program, settings, folder, name, changes):
     drawn = ([], []) if changes or name.startswith("text") else drawing(rows_of(plain.out.decode())[1:])
     if (page.paths, page.edges) != drawn:
         return f"{words}: drawn {page.paths} {page.edges}, not {drawn}"
+    times = [] if changes else [row[1] for row in rows_of(running.run([*words, "--changes", "--csv"]).out.decode())[1:]]
+    marked = marking(rows_of(plain.out.decode())[1:], {time for time, count in collections.Counter(times).items() if count > 1}) if drawn[0] else []
+    if page.marks != marked:
+        return f"{words}: marked {page.marks}, not {marked}"
     if page.rows != rows:
         return f"{words}: {page.rows}, not {rows}"
     if (page.title, page.heading) != (node, node):
@@ -166,6 +187,8 @@ def many(program, folder, chance, count=20_000):
         status = chance.choice(["Good"] * 50 + ["80000000", "40000000", "00A20000"])
         lines.append(f"ns=1;s=number,{moment(at)},{chance.gauss(0, 1) + math.sin(place / 2_000) * 10},{status}")
     running.run([program, "import", "--settings", settings, "--user", "ann"], ("\n".join(lines) + "\n").encode())
+    corrected = [lines[0], *lines[7::997]]
+    running.run([program, "import", "--settings", settings, "--user", "ann", "--perform", "replace"], ("\n".join(corrected) + "\n").encode())
     return wrong(program, settings, folder, "number", False)
 
 
