@@ -4,10 +4,10 @@
     tests/broken.py PROGRAM [ROUNDS]
 
 With the key the client is told 80040000, the program ends with `store broken` and status 3 within a second, other clients'
-connections are closed, and once the disk is well a new start has each insert that was answered Good, and at most the one that
+connections are closed, the turn in which it broke is told with `slow`, and once the disk is well a new start has each insert that was answered Good, and at most the one that
 broke it. Without the key it goes on, and answers 80040000 to each insert, till it is started again. Needs gcc. A line a round.
 """
-import os, socket, struct, subprocess, sys, tempfile, time
+import os, re, socket, struct, subprocess, sys, tempfile, time
 import running, usage
 from opcua import EPOCH, Client, int32, node, value_at
 
@@ -56,12 +56,15 @@ class Connection:
             return True
 
 
-def started(key):
+def started(key, slow=None):
     port = running.free_port()
     running.write_settings(settings, "settings.toml", 1, port, store)
     text = open(settings).read()
     open(settings, "w").write(text.replace("[archive]\n", "[archive]\nbroken = 'stop'\n", 1) if key else text)
-    environment = dict(os.environ, LD_PRELOAD=library, UNSYNCED=ill)
+    if slow:
+        text = open(settings).read()
+        open(settings, "w").write(text.replace("[server]\n", "[server]\nslow = 100\n", 1))
+    environment = dict(os.environ, LD_PRELOAD=library, UNSYNCED=ill, **({"UNSYNCED_MS": str(slow)} if slow else {}))
     server = subprocess.Popen([program, "serve", "--settings", settings], env=environment, stderr=subprocess.PIPE, text=True)
     assert running.listens(port, server), server.stderr.read()
     return server, port
@@ -92,6 +95,16 @@ def main():
         assert held + 10 <= found <= held + 11, (held, found)
         print(f"round {k + 1}: 10 inserts answered Good, one 80040000; the program ended by itself after {took * 1000:.0f} ms, and {found - held} records more are there", flush=True)
         held = found
+    server, port = started(True, 300)
+    writer = Connection(port)
+    open(ill, "w").close()
+    answer = writer.insert(100 * rounds)
+    os.remove(ill)
+    status, said = server.wait(10), server.stderr.read()
+    turn = re.fullmatch(r"uahist: a turn took (\d+) ms\n" + re.escape(SAID), said)
+    assert UNAVAILABLE in answer and status == 3 and turn and int(turn[1]) >= 300, (status, said)
+    print(f"the turn in which a slow disk failed is told before the store is told to be broken: {turn[1]} ms", flush=True)
+    held = dumped()
     server, port = started(False)
     writer = Connection(port)
     assert INSERTED in writer.insert(90)

@@ -1,5 +1,5 @@
-/* A disk that takes no more: while the file UNSYNCED names stands, fsync and fdatasync fail with EIO. Loaded by LD_PRELOAD; see
-   broken.py. */
+/* A disk that takes no more: while the file UNSYNCED names stands, fsync and fdatasync fail with EIO, after UNSYNCED_MS milliseconds.
+   Loaded by LD_PRELOAD; see broken.py. */
 #define _GNU_SOURCE
 #include <dlfcn.h>
 #include <errno.h>
@@ -9,6 +9,8 @@
 static int fails(void) {
   const char *path = getenv("UNSYNCED");
   if (!path || access(path, F_OK) != 0) return 0;
+  const char *wait = getenv("UNSYNCED_MS");
+  if (wait) usleep(1000 * atoi(wait));
   errno = EIO;
   return 1;
 }
