@@ -23,11 +23,13 @@ pub first_is : (came : List ℕ) (result : Result (Option Request) RequestFault)
     → AnswersFirst head result
 first_is came (Ok None) reads head framing rest accepts few = reads.0 head rest accepts.reads
 first_is came (Ok (Some request)) reads head framing rest accepts few =
-    same_head came head framing rest (λ h. AnswersHead h (Ok request)) accepts reads
+    (same_head came head framing rest
+    (λ h. (length h.fields ≤ 64) × AnswersHead h (Ok request)) accepts reads).1
 first_is came (Err OutOfMemory) reads head framing rest accepts few = tt
 first_is came (Err (Refused why alone)) (inl none) head framing rest accepts few =
     let many = none.0.0 [] head framing rest
     (subst (λ l. AcceptsRequest limits l head framing rest) (sym (append-nil came)) accepts) in
     absurd (omega (arith, many))
 first_is came (Err (Refused why alone)) (inr first) head framing rest accepts few =
-    same_head came head framing rest (λ h. AnswersHead h (Err (Refused why alone))) accepts first
+    (same_head came head framing rest
+    (λ h. (length h.fields ≤ 64) × AnswersHead h (Err (Refused why alone))) accepts first).1

@@ -1,5 +1,5 @@
 -- What a request asks, by the parts of its head, and how it is read from the bytes that came.
-use Rattle.std.specs.Prelude.{◌≡◌, ℕ, ◌<◌, nat_lt, ◌==◌, ◌⊎◌, not, ◌&&◌, ◌||◌, Bool, true, false, ⊤, List, length, map, codes, Option, None, Some, Result, Ok, Err, if◌then◌else◌}
+use Rattle.std.specs.Prelude.{◌≡◌, ℕ, ◌<◌, ◌≤◌, nat_lt, ◌==◌, ◌⊎◌, not, ◌&&◌, ◌||◌, Bool, true, false, ⊤, List, length, map, codes, Option, None, Some, Result, Ok, Err, if◌then◌else◌}
 use Rattle.std.specs.Str.{bytes_eq}
 use Rattle.httparse.specs.Grammar.{RequestHead, print_request, HasNoRequest, MayBecomeRequest}
 use Rattle.httparse.specs.Spans.{name_and_value}
@@ -114,12 +114,17 @@ BeginsWithNone came why =
     HasNoHead limits came 64
     × (error : ReadError) × RequestError 16384 came 64 error × (why ≡ refused_by error)
 
+-- a head of at most 64 fields stands first, and is answered so
+abbrev pub AnswersShort : List ℕ → Result Request RequestFault → Type 0
+AnswersShort came result =
+    BeginsWith came (λ head. (length head.fields ≤ 64) × AnswersHead head result)
+
 -- what came is read so: the request of the head that stands first; nothing yet, where that isn't
 -- whole; or why it is refused
 abbrev pub Reads : List ℕ → Result (Option Request) RequestFault → Type 0
 Reads came (Ok None) = IsCut came
-Reads came (Ok (Some request)) = BeginsWith came (λ head. AnswersHead head (Ok request))
+Reads came (Ok (Some request)) = AnswersShort came (Ok request)
 Reads came (Err OutOfMemory) = ⊤
 Reads came (Err (Refused why head_only)) =
     (BeginsWithNone came why × (head_only ≡ false))
-    ⊎ BeginsWith came (λ head. AnswersHead head (Err (Refused why head_only)))
+    ⊎ AnswersShort came (Err (Refused why head_only))
