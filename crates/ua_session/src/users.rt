@@ -130,7 +130,7 @@ impl Users {
     /// that user's. `IdentityInvalid` for a token of another type and for a password that is encrypted,
     /// whoever it names; else `IdentityRejected`.
     #[tactic(auto, using(crate::proofs::Nobody::anonymity))]
-    pub(crate) fn judge(&self, identity: Identity<'_>) -> Result<&str, SessionFault>
+    pub fn judge(&self, identity: Identity<'_>) -> Result<&str, SessionFault>
         ensures judged { user_name_of result ≡ judgement self.now (claim_of identity.entry) }
         ensures name { IfOk result (λ user. IsUserName user.now) }
     {
