@@ -62,6 +62,7 @@ pub fn plant_of(alloc: Global, number: u8) -> Option<Settings> {
         waiting: 256,
         peers: Peers::new(alloc),
         door: None,
+        web: None,
         ends_broken: false,
         is_strict: false,
         slow: None,

@@ -27,6 +27,7 @@ use Rattle.ua_settings.specs.Judging.{is_short}
 use Rattle.ua_settings.specs.Reading.{folder_in, variable_in, user_in, users_in, table_at, truth_at, access_at, listed_in, values_of, set_values, space_fault, space_in, IsSpaceOrStarved, IsAcceptedOrStarved}
 use Rattle.ua_session.specs.Users.{Allowed}
 use Rattle.ua_settings.specs.declared.door.DoorSettings.{DoorSettings}
+use Rattle.ua_settings.specs.declared.web.WebSettings.{WebSettings}
 use Rattle.ua_settings.specs.declared.peers.PeerCall.{PeerCall}
 use Rattle.ua_settings.specs.declared.reading.Listed.{Listed}
 use Rattle.ua_settings.specs.declared.password.PasswordLine.{PasswordLine}
@@ -253,19 +254,23 @@ users_same lines document server anonymous access named s a may n =
 -- what the tables list, by its parts
 pub same_lists : (lines : List PasswordLine) (document : Members) (space : Layout)
     (users : Allowed) (peers : List PeerCall) (door : Option DoorSettings)
+    (web : Option WebSettings)
     → users ≡ (listed_in lines document space).users
     → peers ≡ (listed_in lines document space).peers
     → door ≡ (listed_in lines document space).door
+    → web ≡ (listed_in lines document space).web
     → (let listed : Listed = record {
       users = users;
       peers = peers;
       door = door;
+      web = web;
       space = space;
     } in listed) ≡ listed_in lines document space
-same_lists lines document space users peers door u p d =
+same_lists lines document space users peers door web u p d w =
     λ i. record {
       users = u i;
       peers = p i;
       door = d i;
+      web = w i;
       space = space;
     }

@@ -6,14 +6,14 @@ use Rattle.std.specs.List.{list_any, AllByRecursion}
 use Rattle.std.specs.Cmp.Lexicographic.{pointwise}
 use Rattle.toml.specs.Data.{Data, Members, no_members, get_member, as_str, as_integer, as_table}
 use Rattle.ua_settings.specs.declared.keys.Section.{Section}
-use Rattle.ua_settings.specs.declared.keys.Section.TheVariants.{Document, Archive, Server, User, Folder, Variable, Peer, Door}
+use Rattle.ua_settings.specs.declared.keys.Section.TheVariants.{Document, Archive, Server, User, Folder, Variable, Peer, Door, Web}
 use Rattle.ua_settings.specs.declared.keys.Wrong.{Wrong}
 use Rattle.ua_settings.specs.declared.keys.Wrong.TheVariants.{Unknown, Missing, Bad}
 use Rattle.ua_settings.specs.declared.password.PasswordLine.{PasswordLine}
 use Rattle.ua_settings.specs.File.{Names, rules, is_name, is_up_to, text_at, tables, names_in}
 use Rattle.ua_settings.specs.Judging.{Spot, test, is_id, is_short, is_replica, is_missing, is_bad, wrong_key, wrong_from, wrong_at, first_wrong}
 use Rattle.ua_settings.proofs.FileParts.{wrong_in, name_of, or_later, or_else}
-use Rattle.ua_settings.specs.Sound.{IsSound, IsSoundArchive, IsSoundServer, IsSoundUser, IsSoundFolder, IsSoundPeer, IsSoundDoor, IsSoundVariable}
+use Rattle.ua_settings.specs.Sound.{IsSound, IsSoundArchive, IsSoundServer, IsSoundUser, IsSoundFolder, IsSoundPeer, IsSoundDoor, IsSoundWeb, IsSoundVariable}
 
 -- ---- nothing is found
 
@@ -64,6 +64,7 @@ each_section lines document wrong none section =
     let six = none_both (wrong_in lines document wrong Variable) _ five.1 in
     let seven = none_both (wrong_in lines document wrong Peer) _ six.1 in
     let eight = none_both (wrong_in lines document wrong Door) _ seven.1 in
+    let nine = none_both (wrong_in lines document wrong Web) _ eight.1 in
     elim section as (λ s. wrong_in lines document wrong s ≡ None) [
       | Document ↦ one.0
       | Archive ↦ two.0
@@ -74,6 +75,7 @@ each_section lines document wrong none section =
       | Variable ↦ six.0
       | Peer ↦ seven.0
       | Door ↦ eight.0
+      | Web ↦ nine.0
     ]
 
 -- ---- a table in which nothing is wrong
@@ -235,6 +237,15 @@ door_sound names members right =
           spoils.1.1.1.0;
     }
 
+web_sound : (names : Names) (members : Members) → IsRight names Web members
+    → IsSoundWeb members
+web_sound names members right =
+    let spoils = spoils_none names Web members right in
+    record {
+      connections = optional_held (is_up_to 1000) as_integer
+          (get_member (codes "connections") members) spoils.1.0;
+    }
+
 variable_sound : (names : Names) (members : Members) → IsRight names Variable members
     → IsSoundVariable names.folders members
 variable_sound names members right =
@@ -280,4 +291,5 @@ sound lines document none =
       variables = all_weaker _ _ (variable_sound (names_in lines document)) _ (all Variable);
       peers = all_weaker _ _ (peer_sound (names_in lines document)) _ (all Peer);
       door = all_weaker _ _ (door_sound (names_in lines document)) _ (all Door);
+      web = all_weaker _ _ (web_sound (names_in lines document)) _ (all Web);
     }

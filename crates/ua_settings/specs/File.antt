@@ -7,7 +7,7 @@ use Rattle.std.specs.Cmp.Lexicographic.{pointwise}
 use Rattle.toml.specs.Data.{Data, Items, no_items, item, Members, no_members, member, get_member, as_str, as_integer, as_bool, as_array, as_table}
 use Rattle.uuid.specs.Text.{parsed}
 use Rattle.ua_settings.specs.declared.keys.Section.{Section}
-use Rattle.ua_settings.specs.declared.keys.Section.TheVariants.{Document, Archive, Server, User, Folder, Variable, Peer, Door}
+use Rattle.ua_settings.specs.declared.keys.Section.TheVariants.{Document, Archive, Server, User, Folder, Variable, Peer, Door, Web}
 use Rattle.ua_settings.specs.declared.keys.Holds.{Holds}
 use Rattle.ua_settings.specs.declared.keys.Holds.TheVariants.{Text, Id, Replica, UpTo, Truth, NodeName, UserName, FolderId, Access, AfterBreak, PasswordFile, Texts, Replicas, OneTable, Tables}
 use Rattle.ua_settings.specs.declared.keys.Wrong.{Wrong}
@@ -39,7 +39,7 @@ document_keys =
     required (codes "archive") OneTable ∷ required (codes "server") OneTable
     ∷ optional (codes "user") Tables ∷ optional (codes "folder") Tables
     ∷ optional (codes "variable") Tables ∷ optional (codes "peer") Tables
-    ∷ optional (codes "door") OneTable ∷ []
+    ∷ optional (codes "door") OneTable ∷ optional (codes "web") OneTable ∷ []
 
 -- those of the table `archive`
 abbrev pub archive_keys : List Rule
@@ -74,6 +74,10 @@ door_keys =
     required (codes "listen") Text ∷ optional (codes "from") Texts
     ∷ optional (codes "replicas") Replicas ∷ optional (codes "ahead") (UpTo 31536000) ∷ []
 
+-- those of the table `web`
+abbrev pub web_keys : List Rule
+web_keys = required (codes "listen") Text ∷ optional (codes "connections") (UpTo 1000) ∷ []
+
 -- those of a table of a peer
 abbrev pub peer_keys : List Rule
 peer_keys = required (codes "address") Text ∷ required (codes "every") (UpTo 86400) ∷ []
@@ -88,11 +92,12 @@ rules Folder = required (codes "id") Text ∷ required (codes "name") Text ∷ [
 rules Variable = variable_keys
 rules Peer = peer_keys
 rules Door = door_keys
+rules Web = web_keys
 
 -- the kinds of tables, in the order in which a document is judged
 abbrev pub sections : List Section
 sections =
-    Document ∷ Archive ∷ Server ∷ User ∷ Folder ∷ Variable ∷ Peer ∷ Door ∷ []
+    Document ∷ Archive ∷ Server ∷ User ∷ Folder ∷ Variable ∷ Peer ∷ Door ∷ Web ∷ []
 
 -- ---- the tables of a document
 
@@ -125,6 +130,8 @@ tables document Variable = many_tables (get_member (codes "variable") document)
 tables document Peer = many_tables (get_member (codes "peer") document)
 tables document Door =
     option_to_list (option_and_then as_table (get_member (codes "door") document))
+tables document Web =
+    option_to_list (option_and_then as_table (get_member (codes "web") document))
 
 -- the text at a key, empty where there is none
 abbrev pub text_at : List ℕ → Members → List ℕ

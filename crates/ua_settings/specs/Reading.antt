@@ -16,6 +16,7 @@ use Rattle.ua_settings.specs.declared.keys.Section.TheVariants.{User, Folder, Va
 use Rattle.ua_settings.specs.declared.keys.Wrong.TheVariants.{Unknown, Missing, Bad}
 use Rattle.ua_settings.specs.declared.password.PasswordLine.{PasswordLine}
 use Rattle.ua_settings.specs.declared.door.DoorSettings.{DoorSettings}
+use Rattle.ua_settings.specs.declared.web.WebSettings.{WebSettings}
 use Rattle.ua_settings.specs.declared.reading.Listed.{Listed}
 use Rattle.ua_settings.specs.File.{is_replica, items_in, password_line, tables, text_at, first_refusal}
 use Rattle.ua_settings.specs.Settings.{SettingsValues}
@@ -130,6 +131,14 @@ door_in door =
       ahead = number_there (codes "ahead") door;
     }
 
+-- where browsers come to, by a table; 8 of their connections at a time, where it doesn't say
+abbrev pub web_in : Members → WebSettings
+web_in web =
+    record {
+      listen = text_at (codes "listen") web;
+      connections = number_or 8 (codes "connections") web;
+    }
+
 -- the table at a key, if there is one
 abbrev pub table_there : List ℕ → Members → Option Members
 table_there key members = option_and_then as_table (get_member key members)
@@ -140,6 +149,7 @@ listed_in lines document space = record {
   users = users_in lines (table_at (codes "server") document) (tables document User);
   peers = map peer_in (tables document Peer);
   door = option_map door_in (table_there (codes "door") document);
+  web = option_map web_in (table_there (codes "web") document);
   space = space;
 }
 
@@ -160,6 +170,7 @@ values_of archive server listed = record {
   waiting = number_or 256 (codes "waiting") server;
   peers = listed.peers;
   door = listed.door;
+  web = listed.web;
   ends_broken = pointwise nat_eq (text_at (codes "broken") archive) (codes "stop");
   is_strict = truth_at (codes "strict") server;
   slow = number_there (codes "slow") server;

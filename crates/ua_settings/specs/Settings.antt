@@ -6,9 +6,9 @@ use Rattle.ua_settings.specs.declared.settings.Parts.{Parts}
 -- the archive's id, the number of this replica of it, and the file of its store, none for memory;
 -- where the server listens, the URL of its endpoint, the URI of the application; who may use it;
 -- its nodes; how many connections it serves at a time, and how many MiB may wait to be written;
--- the peers that it calls, and where peers come to it, if not to the address where clients do;
--- whether it ends once its store is broken, whether others may have a hand in its
--- files, and from how many milliseconds on a turn is told
+-- the peers that it calls, where peers come to it, if not to the address where clients do, and
+-- where browsers come to it, if they do; whether it ends once its store is broken, whether others
+-- may have a hand in its files, and from how many milliseconds on a turn is told
 abbrev pub SettingsValues : Type 0
 SettingsValues = Parts
 
@@ -28,6 +28,7 @@ bare = record {
   waiting = 256;
   peers = [];
   door = None;
+  web = None;
   ends_broken = false;
   is_strict = false;
   slow = None;

@@ -3,7 +3,7 @@ use Rattle.std.specs.Prelude.{◌≡◌, true, codes, nat_eq, List, ℕ, IfSome,
 use Rattle.std.specs.List.{list_any, AllByRecursion}
 use Rattle.std.specs.Cmp.Lexicographic.{pointwise}
 use Rattle.toml.specs.Data.{Members, get_member, as_str, as_integer, as_table}
-use Rattle.ua_settings.specs.declared.keys.Section.TheVariants.{User, Folder, Variable, Peer, Door}
+use Rattle.ua_settings.specs.declared.keys.Section.TheVariants.{User, Folder, Variable, Peer, Door, Web}
 use Rattle.ua_settings.specs.declared.password.PasswordLine.{PasswordLine}
 use Rattle.ua_settings.specs.File.{tables, text_at, is_name, is_up_to, names_in}
 use Rattle.ua_settings.specs.Judging.{is_id, is_replica, is_short, test}
@@ -41,6 +41,9 @@ pub record IsSoundPeer (peer : Members) : Type 0 where
 pub record IsSoundDoor (door : Members) : Type 0 where
   pub ahead : IsUpTo 31536000 (codes "ahead") door
 
+pub record IsSoundWeb (web : Members) : Type 0 where
+  pub connections : IsUpTo 1000 (codes "connections") web
+
 pub record IsSoundVariable (folders : List (List ℕ)) (variable : Members) : Type 0 where
   pub id : is_name (text_at (codes "id") variable) ≡ true
   pub name : is_short (text_at (codes "name") variable) ≡ true
@@ -59,3 +62,4 @@ pub record IsSound (lines : List PasswordLine) (document : Members) : Type 0 whe
       (tables document Variable)
   pub peers : AllByRecursion IsSoundPeer (tables document Peer)
   pub door : AllByRecursion IsSoundDoor (tables document Door)
+  pub web : AllByRecursion IsSoundWeb (tables document Web)

@@ -29,7 +29,7 @@ const MOST_TEXT: usize = 65_536;
 const MOST_NAME: usize = 256;
 
 /// The kinds of tables, in the order in which a document is judged.
-const SECTIONS: [Section; 8] = [
+const SECTIONS: [Section; 9] = [
     Section::Document,
     Section::Archive,
     Section::Server,
@@ -38,6 +38,7 @@ const SECTIONS: [Section; 8] = [
     Section::Variable,
     Section::Peer,
     Section::Door,
+    Section::Web,
 ];
 
 /// What may be wrong, in the order in which it is judged.

@@ -19,6 +19,7 @@ pub enum Section {
     Variable,
     Peer,
     Door,
+    Web,
 }
 
 /// What a key must hold.
@@ -135,7 +136,7 @@ macro_rules! key {
     };
 }
 
-static DOCUMENT: [Key; 7] = [
+static DOCUMENT: [Key; 8] = [
     key!("archive", OneTable),
     key!("server", OneTable),
     key!("user", Tables, optional),
@@ -143,6 +144,7 @@ static DOCUMENT: [Key; 7] = [
     key!("variable", Tables, optional),
     key!("peer", Tables, optional),
     key!("door", OneTable, optional),
+    key!("web", OneTable, optional),
 ];
 
 static ARCHIVE: [Key; 4] = [
@@ -191,6 +193,11 @@ static DOOR: [Key; 4] = [
     key!("ahead", up to 31536000, optional),
 ];
 
+static WEB: [Key; 2] = [
+    key!("listen", Text),
+    key!("connections", up to 1000, optional),
+];
+
 /// The keys of a kind of table.
 pub(crate) fn keys_of(section: Section) -> &'static [Key]
     ensures { map rule_of result.now ≡ rules section }
@@ -204,5 +211,6 @@ pub(crate) fn keys_of(section: Section) -> &'static [Key]
         Section::Variable => &VARIABLE,
         Section::Peer => &PEER,
         Section::Door => &DOOR,
+        Section::Web => &WEB,
     }
 }

@@ -11,6 +11,7 @@ mod peers;
 mod place;
 mod reading;
 mod settings;
+mod web;
 
 pub use door::DoorSettings;
 pub use fault::SettingsFault;
@@ -19,3 +20,4 @@ pub use password::{PasswordLine, holds_password, password_files};
 pub use peers::{PeerCall, Peers};
 pub use place::Place;
 pub use settings::{Parts, Settings};
+pub use web::WebSettings;

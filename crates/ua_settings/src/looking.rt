@@ -236,5 +236,6 @@ pub(crate) fn tables_of<'a>(
         Section::Variable => many(alloc, document, "variable"),
         Section::Peer => many(alloc, document, "peer"),
         Section::Door => one(alloc, document, "door"),
+        Section::Web => one(alloc, document, "web"),
     }
 }

@@ -146,6 +146,7 @@ fn put_heading(section: Section, number: usize, text: &mut String) -> Result<(),
         Section::Variable => write!(text, "[[variable]] {number}, "),
         Section::Peer => write!(text, "[[peer]] {number}, "),
         Section::Door => text.push_str("[door] "),
+        Section::Web => text.push_str("[web] "),
     }
 }
 

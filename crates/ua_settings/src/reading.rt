@@ -10,8 +10,8 @@ ghost use Rattle.ua_space.specs.declared.plan.Plan.{Plan};
 ghost use Rattle.ua_space.specs.Lent.{entry_of, folder_of};
 ghost use Rattle.ua_settings.specs.File.{tables, text_at};
 ghost use Rattle.ua_settings.specs.Judging.{is_id, is_replica, test};
-ghost use Rattle.ua_settings.specs.Reading.{folder_in, variable_in, number_at, table_at, table_there, password_in, user_in, peer_in, door_in, texts_in, replicas_in, listed_in, values_of, IsAcceptedOrStarved, IsSpaceOrStarved, space_fault};
-ghost use Rattle.ua_settings.specs.Sound.{IsSound, IsSoundArchive, IsSoundUser, IsSoundServer, IsSoundPeer, IsSoundDoor};
+ghost use Rattle.ua_settings.specs.Reading.{folder_in, variable_in, number_at, table_at, table_there, password_in, user_in, peer_in, door_in, web_in, texts_in, replicas_in, listed_in, values_of, IsAcceptedOrStarved, IsSpaceOrStarved, space_fault};
+ghost use Rattle.ua_settings.specs.Sound.{IsSound, IsSoundArchive, IsSoundUser, IsSoundServer, IsSoundPeer, IsSoundDoor, IsSoundWeb};
 
 use crate::door::DoorSettings;
 use crate::fault::SettingsFault;
@@ -22,7 +22,8 @@ use crate::looking::{
 };
 use crate::password::{PasswordLine, line_of};
 use crate::peers::Peers;
-use crate::settings::{CONNECTIONS, Parts, Settings, WAITING};
+use crate::settings::{CONNECTIONS, Parts, Settings, WAITING, WEB_CONNECTIONS};
+use crate::web::WebSettings;
 use stamp::ReplicaNo;
 use std::alloc::{AllocError, Global};
 use toml::Table;
@@ -295,12 +296,36 @@ fn read_door(alloc: Global, document: &Table) -> Result<Option<DoorSettings>, Al
     }
 }
 
+/// Where browsers come to, by a table.
+fn read_web_in(alloc: Global, web: &Table) -> Result<WebSettings, AllocError>
+    requires { IsSoundWeb (table_view web.now) }
+    ensures { IfOk result (λ settings. settings ≡ web_in (table_view web.now)) }
+{
+    Ok(WebSettings {
+        listen: Text::from_str(alloc, text(web, "listen"))?,
+        connections: number_or(web, "connections", 1_000, WEB_CONNECTIONS),
+    })
+}
+
+/// Where browsers come to, if they do.
+fn read_web(alloc: Global, document: &Table) -> Result<Option<WebSettings>, AllocError>
+    requires { AllByRecursion IsSoundWeb (tables (table_view document.now) Section.Web) }
+    ensures { IfOk result
+        (λ web. web ≡ option_map web_in (table_there (codes "web") (table_view document.now))) }
+{
+    match table_at(document, "web") {
+        None => Ok(None),
+        Some(web) => Ok(Some(read_web_in(alloc, web)?)),
+    }
+}
+
 /// What the tables of a document list, beside those of the archive and the server.
 #[derive(Drop)]
 pub(crate) struct Listed {
     pub(crate) users: Users,
     pub(crate) peers: Peers,
     pub(crate) door: Option<DoorSettings>,
+    pub(crate) web: Option<WebSettings>,
     pub(crate) space: Space,
 }
 
@@ -331,6 +356,7 @@ fn settings_of(
         waiting: number_or(server, "waiting", 65_536, WAITING),
         peers: listed.peers,
         door: listed.door,
+        web: listed.web,
         ends_broken: text(archive, "broken") == "stop",
         is_strict: truth(server, "strict"),
         slow: number_there(server, "slow", 60_000),
@@ -365,6 +391,7 @@ fn list_of(
         )?,
         peers: read_peers(alloc, peers.as_slice())?,
         door: read_door(alloc, document)?,
+        web: read_web(alloc, document)?,
         space,
     })
 }

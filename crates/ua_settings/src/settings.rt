@@ -14,6 +14,7 @@ use crate::judging::judge;
 use crate::password::PasswordLine;
 use crate::peers::Peers;
 use crate::reading::read_document;
+use crate::web::WebSettings;
 use stamp::ReplicaNo;
 use std::alloc::Global;
 use std::marker::Model;
@@ -28,6 +29,9 @@ pub(crate) const CONNECTIONS: u32 = 64;
 
 /// How many MiB may wait to be written, where the settings don't say.
 pub(crate) const WAITING: u32 = 256;
+
+/// How many connections of browsers are served at a time, where the settings don't say.
+pub(crate) const WEB_CONNECTIONS: u32 = 8;
 
 /// What settings are made of.
 #[derive(Debug, Drop)]
@@ -56,6 +60,8 @@ pub struct Parts {
     pub peers: Peers,
     /// Where peers come to; none where they come to the address where clients do.
     pub door: Option<DoorSettings>,
+    /// Where browsers come to; none where they don't.
+    pub web: Option<WebSettings>,
     /// Whether `serve` ends once its store is broken.
     pub ends_broken: bool,
     /// Whether settings are refused whose files others may write, or read passwords in.
@@ -79,6 +85,7 @@ pub struct Settings {
     waiting: u32,
     peers: Peers,
     door: Option<DoorSettings>,
+    web: Option<WebSettings>,
     ends_broken: bool,
     is_strict: bool,
     slow: Option<u32>,
@@ -103,6 +110,7 @@ impl Model for Settings {
           waiting = s.waiting;
           peers = s.peers;
           door = s.door;
+          web = s.web;
           ends_broken = s.ends_broken;
           is_strict = s.is_strict;
           slow = s.slow;
@@ -147,6 +155,7 @@ impl Settings {
             waiting: WAITING,
             peers: Peers::new(alloc),
             door: None,
+            web: None,
             ends_broken: false,
             is_strict: false,
             slow: None,
@@ -200,6 +209,7 @@ impl Settings {
             waiting: parts.waiting,
             peers: parts.peers,
             door: parts.door,
+            web: parts.web,
             ends_broken: parts.ends_broken,
             is_strict: parts.is_strict,
             slow: parts.slow,
@@ -316,6 +326,16 @@ impl Settings {
         match &self.door {
             None => None,
             Some(door) => Some(door),
+        }
+    }
+
+    /// Where browsers come to, and how many of their connections are served at a time; none where they don't.
+    pub fn web(&self) -> Option<&WebSettings>
+        ensures { option_copied result ≡ self.now.web }
+    {
+        match &self.web {
+            None => None,
+            Some(web) => Some(web),
         }
     }
 }

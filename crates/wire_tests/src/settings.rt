@@ -42,7 +42,7 @@ const HEAD: &str =
     "[archive]\nid = '00000000000000000000000000000000'\nreplica = 1\n[server]\nlisten = ''\nurl = ''\napplication = ''\n";
 
 /// What goes on behind the start, and why it is refused, if it is.
-static ROWS: [(&str, Option<SettingsFault>); 59] = [
+static ROWS: [(&str, Option<SettingsFault>); 68] = [
     ("namespace = ''\nanonymous = true", None),
     ("namespace = ''\nanonymous =", Some(SettingsFault::NotToml)),
     (
@@ -247,6 +247,39 @@ static ROWS: [(&str, Option<SettingsFault>); 59] = [
         Some(SettingsFault::MissingKey),
     ),
     (
+        "namespace = ''\nanonymous = true\n[web]",
+        Some(SettingsFault::MissingKey),
+    ),
+    (
+        "namespace = ''\nanonymous = true\n[web]\nlisten = 1",
+        Some(SettingsFault::BadValue),
+    ),
+    ("namespace = ''\nanonymous = true\n[web]\nlisten = ''", None),
+    (
+        "namespace = ''\nanonymous = true\n[web]\nlisten = ''\nconnections = 1000",
+        None,
+    ),
+    (
+        "namespace = ''\nanonymous = true\n[web]\nlisten = ''\nconnections = 0",
+        Some(SettingsFault::BadValue),
+    ),
+    (
+        "namespace = ''\nanonymous = true\n[web]\nlisten = ''\nconnections = 1001",
+        Some(SettingsFault::BadValue),
+    ),
+    (
+        "namespace = ''\nanonymous = true\n[web]\nlisten = ''\nfrom = []",
+        Some(SettingsFault::UnknownKey),
+    ),
+    (
+        "namespace = ''\nanonymous = true\n[[web]]\nlisten = ''",
+        Some(SettingsFault::BadValue),
+    ),
+    (
+        "namespace = ''\nanonymous = true\n[web]\nconnections = 8",
+        Some(SettingsFault::MissingKey),
+    ),
+    (
         "namespace = ''\nanonymous = true\n[[user]]\nname = 'ann'\npassword_file = 'ann'",
         Some(SettingsFault::BadValue),
     ),
@@ -283,6 +316,7 @@ fn is_sample(settings: &Settings) -> bool {
         && settings.url() == "opc.tcp://localhost:4840"
         && settings.application() == "urn:uahist"
         && settings.door().is_none()
+        && settings.web().is_none()
         && !settings.users().allows_anonymous()
         && settings.users().has_named()
 }
@@ -396,6 +430,34 @@ fn admissions_are_read(rt: HostRuntime) -> Result<(), Fail> {
     Ok(())
 }
 
+/// Where a text has browsers come to, and how many at a time.
+fn web_in(alloc: Global, text: &str, address: &str, connections: u32) -> bool {
+    match Settings::read(alloc, text) {
+        Ok(settings) => settings.web().is_some_and(|web| web.listen.as_str() == address
+            && web.connections == connections),
+        Err(_) => false,
+    }
+}
+
+/// Eight browsers at a time where the text doesn't say.
+#[test]
+fn webs_are_read(rt: HostRuntime) -> Result<(), Fail> {
+    for (rest, connections) in [
+        ("", 8),
+        ("connections = 1\n", 1),
+        ("connections = 900\n", 900),
+    ] {
+        let text = format!(in rt.alloc();
+            "{HEAD}namespace = ''\nanonymous = true\n[web]\nlisten = '127.0.0.1:8080'\n{rest}"
+        )?;
+        assert!(rt;
+            web_in(rt.alloc(), text.as_str(), "127.0.0.1:8080", connections),
+            "{rest}"
+        );
+    }
+    Ok(())
+}
+
 /// The door's text is kept as it is, whatever it spells.
 #[test]
 fn doors_are_read(rt: HostRuntime) -> Result<(), Fail> {
@@ -426,7 +488,7 @@ fn faults_have_numbers(rt: HostRuntime) {
 }
 
 /// What goes on behind the start, and the place where it is refused.
-static PLACES: [(&str, &str); 20] = [
+static PLACES: [(&str, &str); 21] = [
     ("namespace =", "line 8"),
     ("namespace = ''\nanonymous = 1", "[server] anonymous"),
     (
@@ -486,6 +548,10 @@ static PLACES: [(&str, &str); 20] = [
     (
         "namespace = ''\nanonymous = true\n[door]\nlisten = ''\nfrom = 1",
         "[door] from",
+    ),
+    (
+        "namespace = ''\nanonymous = true\n[web]\nlisten = ''\nconnections = 0",
+        "[web] connections",
     ),
     (
         "namespace = ''\nanonymous = true\n[[user]]\nname = 'ann'\npassword_file = 'ann'",
