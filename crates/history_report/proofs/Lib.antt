@@ -3,5 +3,6 @@ pub mod HeaderLemmas
 pub mod HtmlLemmas
 pub mod LineLemmas
 pub mod PageLemmas
+pub mod PortionLemmas
 pub mod PrintingLemmas
 pub mod WalkLemmas

@@ -23,7 +23,7 @@ lines-append IsLine (x ∷ xs) ys s t (line, rest, same, one, others) more = (
   lines-append IsLine xs ys rest t others more,
 )
 
-lines-one : {X : Type 0} (IsLine : X → List ℕ → Type 0) (x : X) (line : List ℕ) → IsLine x line
+pub lines-one : {X : Type 0} (IsLine : X → List ℕ → Type 0) (x : X) (line : List ℕ) → IsLine x line
     → AreLines IsLine (x ∷ []) line
 lines-one IsLine x line one = (line, [], sym (append-nil line), one, refl)
 

@@ -27,7 +27,7 @@ use Rattle.history_report.proofs.PageLemmas.{IsSpanOf, values-all, changes-all}
 
 -- ---- lists
 
-take-front : {X : Type 0} (xs ys : List X) → take (length xs) (xs ++ ys) ≡ xs
+pub take-front : {X : Type 0} (xs ys : List X) → take (length xs) (xs ++ ys) ≡ xs
 take-front [] ys = refl
 take-front (x ∷ xs) ys = ap (λ l. x ∷ l) (take-front xs ys)
 

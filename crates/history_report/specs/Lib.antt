@@ -2,3 +2,4 @@ pub mod Tables
 pub mod Html
 pub mod Reports
 pub mod Paging
+pub mod Portions

@@ -10,6 +10,7 @@ mod lines;
 mod number;
 mod pages;
 mod path;
+mod portions;
 mod printing;
 mod report;
 mod rows;
@@ -21,6 +22,7 @@ pub use fault::ReportFault;
 pub use laws::{
     a_pages_text_holds_no_markup, a_pages_text_is_read_again, a_rows_texts_are_its_fields,
 };
+pub use portions::Portions;
 pub use printing::print_report;
 pub use report::{Form, Report};
 pub use table::put_legible;

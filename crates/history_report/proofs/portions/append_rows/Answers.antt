@@ -1,0 +1,33 @@
+use Rattle.std.proofs.Common.{arith, ◌∙◌}
+use Rattle.history_report.proofs.PortionLemmas.{rows-none, rows-next, rows-all, rows-stop}
+use Rattle.history_report.proofs.portions.append_rows.Goals as goal
+
+pub loop-row-init : goal.loop-row-init
+loop-row-init g c = record {
+  puts = rows-none (g.T.Row.is_line c.args.report.now) g.T.Row.is_textless c.args.rows.now
+      c.args.out.now.items;
+}
+
+pub loop-row-preserved : goal.loop-row-preserved
+loop-row-preserved g c = record {
+  puts = rows-next (g.T.Row.is_line c.args.report.now) g.T.Row.is_textless c.args.rows.now
+      c.args.out.now.items c.loop-row.out.items c.put_line.new.out.items c.loop-row.row-index
+      c.row-item.result (omega arith) c.loop-row.invariant.puts
+      (rw (← c.row-item.is) c.in-Ok.ensures.written);
+}
+
+pub returns-in-Err : goal.returns-in-Err
+returns-in-Err g c =
+    rows-stop (g.T.Row.is_line c.args.report.now) g.T.Row.is_textless c.args.rows.now
+    c.args.out.now.items c.loop-row.out.items c.put_line.new.out.items c.take_back.new.out.items
+    c.loop-row.row-index c.len-start.result c.row-item.result c.in-Err.fault c.take_back.result
+    (c.len-start.ensures ∙ c.args.out.now.ok.0) (omega arith) c.loop-row.invariant.puts
+    c.in-Err.ensures.kept
+    (rw (← c.row-item.is) c.in-Err.ensures.refused) c.take_back.ensures.told
+    c.take_back.ensures.kept
+
+pub returns : goal.returns
+returns g c =
+    rows-all (g.T.Row.is_line c.args.report.now) g.T.Row.is_textless c.args.rows.now
+    c.args.out.now.items c.loop-row.out.items c.loop-row.row-index (omega arith)
+    c.loop-row.invariant.puts

@@ -1,0 +1,217 @@
+//! A history that is made portion by portion.
+
+ghost use Rattle.std.specs.Prelude.{◌≡◌, ◌++◌, true, false, Ok, Err, IfErr, OnOk, OnErr, IsErrOf, MatchResult};
+ghost use Rattle.archive.specs.Store.{IsAskedWithin};
+ghost use Rattle.history_report.specs.Reports.{IsHeader, ReadsFor, footer_of};
+ghost use Rattle.history_report.specs.Paging.{IsPut, values_left, changes_left, fault_told};
+ghost use Rattle.history_report.specs.Portions.{PutsRows, PutsValues, PutsChanges, ending, kept_behind};
+
+use crate::fault::ReportFault;
+use crate::lines::{footer, put_header};
+use crate::pages::{Pages, next_changes, next_values};
+use crate::report::Report;
+use crate::rows::Row;
+use crate::span::span_of;
+use archive::Archive;
+use history_text::TextFault;
+use std::alloc::Global;
+use std::marker::Model;
+
+/// A history that is made portion by portion, of the records that were held when it began: a thread
+/// that serves others too makes a portion, and turns to them. A page of it has no drawing.
+#[derive(Debug, Drop)]
+pub struct Portions {
+    report: Report,
+    pages: Pages,
+}
+
+impl Model for Portions {
+    ghost use Rattle.history_report.specs.Portions.{Remainder};
+
+    ghost Value = { Remainder };
+
+    ghost view = { λ p. record { report = p.report; pages = p.pages } };
+}
+
+/// Appends the header, a page's without a drawing; nothing where memory is wanting.
+fn append_header(alloc: Global, report: &Report, out: &mut Vec<u8>) -> Result<(), ReportFault>
+    ensures written { OnOk result (IsPut out.old.items out.new.items (IsHeader report.now)) }
+    ensures kept { OnErr result (out.new.items ≡ out.old.items) }
+    ensures why { IfErr result (λ why. why ≡ ReportFault.OutOfMemory) }
+{
+    let mut text = Vec::new(alloc);
+    match put_header(alloc, report, b"", &mut text) {
+        Ok(()) => {}
+        Err(_) => return Err(ReportFault::OutOfMemory),
+    }
+    match out.extend_from_slice(text.as_slice()) {
+        Ok(()) => Ok(()),
+        Err(_) => Err(ReportFault::OutOfMemory),
+    }
+}
+
+/// Appends the footer, and tells that nothing is left; nothing where memory is wanting.
+fn append_footer(report: &Report, out: &mut Vec<u8>) -> Result<bool, ReportFault>
+    ensures { MatchResult result
+        (λ more. (more ≡ false) × (out.new.items ≡ out.old.items ++ footer_of report.now))
+        (λ why. (why ≡ ReportFault.OutOfMemory) × (out.new.items ≡ out.old.items)) }
+{
+    match out.extend_from_slice(footer(report)) {
+        Ok(()) => Ok(false),
+        Err(_) => Err(ReportFault::OutOfMemory),
+    }
+}
+
+/// What ends a portion, by why a line wasn't put. Where memory is wanting, what stands behind
+/// `start` is taken back.
+fn take_back(fault: TextFault, start: usize, out: &mut Vec<u8>) -> ReportFault
+    ensures told { result ≡ fault_told fault }
+    ensures kept { out.new.items ≡ kept_behind fault start out.old.items }
+{
+    match fault {
+        TextFault::NoText => ReportFault::NoText,
+        _ => {
+            out.truncate(start);
+            ReportFault::OutOfMemory
+        }
+    }
+}
+
+/// Appends a line for each row, up to one that has no text; nothing where memory is wanting.
+fn append_rows<T: Row>(
+    alloc: Global,
+    report: &Report,
+    rows: &[T],
+    out: &mut Vec<u8>,
+) -> Result<(), ReportFault>
+    ensures { PutsRows (T.is_line report.now) T.is_textless rows.now
+        out.old.items out.new.items result }
+{
+    let start = out.len();
+    for row in rows {
+        match row.put_line(alloc, report, out) {
+            Ok(()) => {}
+            Err(fault) => return Err(take_back(fault, start, out)),
+        }
+    }
+    Ok(())
+}
+
+/// Appends the next page of live values; false: none was left, and the footer was appended.
+fn append_values<A: Archive>(
+    alloc: Global,
+    archive: &mut A,
+    report: &Report,
+    pages: &mut Pages,
+    out: &mut Vec<u8>,
+) -> Result<bool, ReportFault>
+    ensures takes { ReadsFor (A.state archive.old) (A.state archive.new) (ending result)
+        (λ R. PutsValues report.now (values_left report.now.node pages.old R)
+        (values_left report.now.node pages.new R) out.old.items out.new.items result) }
+    ensures asked { IsAskedWithin 100 (A.asked archive.old) (A.asked archive.new) }
+    ensures own { IsErrOf result ReportFault.Write → ⊥ }
+{
+    let page = match next_values(alloc, archive, report, pages) {
+        Ok(page) => page,
+        Err(fault) => return Err(ReportFault::Store(fault)),
+    };
+    let rows = page.as_slice();
+    if rows.is_empty() {
+        return append_footer(report, out);
+    }
+    match append_rows(alloc, report, rows, out) {
+        Ok(()) => Ok(true),
+        Err(fault) => Err(fault),
+    }
+}
+
+/// Appends the next page of modifications; false: none was left, and the footer was appended.
+fn append_changes<A: Archive>(
+    alloc: Global,
+    archive: &mut A,
+    report: &Report,
+    pages: &mut Pages,
+    out: &mut Vec<u8>,
+) -> Result<bool, ReportFault>
+    ensures takes { ReadsFor (A.state archive.old) (A.state archive.new) (ending result)
+        (λ R. PutsChanges report.now (changes_left report.now.node pages.old R)
+        (changes_left report.now.node pages.new R) out.old.items out.new.items result) }
+    ensures asked { IsAskedWithin 100 (A.asked archive.old) (A.asked archive.new) }
+    ensures own { IsErrOf result ReportFault.Write → ⊥ }
+{
+    let page = match next_changes(alloc, archive, report, pages) {
+        Ok(page) => page,
+        Err(fault) => return Err(ReportFault::Store(fault)),
+    };
+    let rows = page.as_slice();
+    if rows.is_empty() {
+        return append_footer(report, out);
+    }
+    match append_rows(alloc, report, rows, out) {
+        Ok(()) => Ok(true),
+        Err(fault) => Err(fault),
+    }
+}
+
+impl Portions {
+    ghost use Rattle.history_report.specs.Portions.{Begins, TakesPortion};
+
+    /// Begins: appends the header, a page's without a drawing. The records that the archive holds
+    /// now are those that the history is of.
+    ///
+    /// Errors: `Store` where the archive met a fault of its store, `OutOfMemory` where memory was
+    /// wanting; then nothing is appended.
+    pub fn begin<A: Archive>(
+        alloc: Global,
+        archive: &mut A,
+        report: Report,
+        out: &mut Vec<u8>,
+    ) -> Result<Portions, ReportFault>
+        ensures begins { Begins report (A.state archive.old) (A.state archive.new) result }
+        ensures header { OnOk result (IsPut out.old.items out.new.items (IsHeader report)) }
+        ensures kept { OnErr result (out.new.items ≡ out.old.items) }
+        ensures asked { IsAskedWithin 0 (A.asked archive.old) (A.asked archive.new) }
+        ensures own { IsErrOf result ReportFault.Write → ⊥ }
+    {
+        let within = match archive.vector() {
+            Ok(within) => within,
+            Err(fault) => return Err(ReportFault::Store(fault)),
+        };
+        let pages = Pages {
+            within,
+            span: span_of(&report),
+            after: None,
+        };
+        match append_header(alloc, &report, out) {
+            Ok(()) => Ok(Portions { report, pages }),
+            Err(fault) => Err(fault),
+        }
+    }
+
+    /// Appends the lines of the next page of at most a hundred values or modifications, and tells
+    /// whether there was one; where none was left, it appends the footer. The archive stays as it
+    /// is.
+    ///
+    /// Errors: `Store` where the archive met a fault of its store, `OutOfMemory` where memory was
+    /// wanting; then nothing is appended. `NoText` where a value has no text: then the lines before
+    /// it are appended. After any of them the history has no end, and nothing more is to be made
+    /// of it.
+    pub fn next<A: Archive>(
+        &mut self,
+        alloc: Global,
+        archive: &mut A,
+        out: &mut Vec<u8>,
+    ) -> Result<bool, ReportFault>
+        ensures takes { TakesPortion self.old self.new (A.state archive.old) (A.state archive.new)
+            out.old.items out.new.items result }
+        ensures same { self.new.report ≡ self.old.report }
+        ensures asked { IsAskedWithin 100 (A.asked archive.old) (A.asked archive.new) }
+        ensures own { IsErrOf result ReportFault.Write → ⊥ }
+    {
+        if self.report.changes {
+            append_changes(alloc, archive, &self.report, &mut self.pages, out)
+        } else {
+            append_values(alloc, archive, &self.report, &mut self.pages, out)
+        }
+    }
+}
