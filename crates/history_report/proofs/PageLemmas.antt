@@ -41,7 +41,7 @@ module _ {X : Type 0} where
   filter_all [] = refl
   filter_all (x ∷ xs) = ap (λ l. x ∷ l) (filter_all xs)
 
-  filter_same : (p q : X → Bool) (xs : List X) → ((x : X) → Has xs x → p x ≡ q x)
+  pub filter_same : (p q : X → Bool) (xs : List X) → ((x : X) → Has xs x → p x ≡ q x)
       → filter p xs ≡ filter q xs
   filter_same p q [] same = refl
   filter_same p q (x ∷ xs) same =
@@ -49,7 +49,7 @@ module _ {X : Type 0} where
       ap (λ b. cond b (x ∷ filter p xs) (filter p xs)) (same x (inl refl))
       ∙ ap (λ l. cond (q x) (x ∷ l) l) rest
 
-  filter_both : (p q : X → Bool) (xs : List X)
+  pub filter_both : (p q : X → Bool) (xs : List X)
       → filter p (filter q xs) ≡ filter (λ x. q x && p x) xs
   filter_both p q [] = refl
   filter_both p q (x ∷ xs) =

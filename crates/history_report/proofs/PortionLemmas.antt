@@ -177,8 +177,8 @@ pub portion-by : (report : Report) (was now : Pages) (t u : Store) (old new : Li
       | false ↦ PutsValues report (values_left report.node was R)
           (values_left report.node now R) old new result
     ])
-    → TakesPortion (record { report = report; pages = was }) (record { report = report; pages = now })
-    t u old new result
+    → TakesPortion (record { report = report; pages = was })
+    (record { report = report; pages = now }) t u old new result
 portion-by report was now t u old new result changes is =
     subst (λ (b : Bool). ReadsFor t u (ending result) (λ R. elim b [
       | true ↦ PutsChanges report (changes_left report.node was R)

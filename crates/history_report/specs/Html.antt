@@ -2,9 +2,11 @@
 use Rattle.std.specs.Prelude.{◌≡◌, ◌⊎◌, ℕ, ℤ, ◌==◌, ◌||◌, ◌&&◌, not, nat_lt, nat_le, Bool, true, false, List, [], ◌∷◌, ◌++◌, codes, drop, Option, Some, None, if◌then◌else◌}
 use Rattle.std.specs.List.{flat_map, list_all}
 use Rattle.std.specs.Str.{bytes_eq}
+use Rattle.form_urlencoded.specs.Form.{byte_serialize}
 use Rattle.history_csv.specs.Nodes.{node_text}
 use Rattle.history_csv.specs.Rows.{value_names, change_names, time_of}
 use Rattle.history_text.specs.Times.{IsTimeText}
+use Rattle.history_report.specs.declared.report.Next.{Next}
 use Rattle.history_report.specs.declared.report.Report.{Report}
 
 -- ---- a text in a page
@@ -139,6 +141,44 @@ IsStretch report text =
     × (text ≡ (if report.changes then codes "Modifications" else codes "Values") ++ from ++ to)
     × IsBound (codes " from ") report.from from × IsBound (codes " before ") report.to to
 
+-- a moment as a field of a query, behind this word; nothing where there is none
+abbrev pub IsField : (word : List ℕ) → Option ℤ → List ℕ → Type 0
+IsField word bound text =
+    elim bound [
+      | None ↦ text ≡ []
+      | Some time ↦ (moment : List ℕ) × (text ≡ word ++ byte_serialize moment)
+          × IsTimeText (time_of time) moment
+    ]
+
+-- what an address begins by: it asks for the history of this node
+abbrev pub history_address : Report → List ℕ
+history_address report = codes "/history?node=" ++ byte_serialize (node_text report.node)
+
+-- the field of a query that asks for modifications, where a report does
+abbrev pub changes_field : Report → List ℕ
+changes_field report = if report.changes then codes "&changes=true" else []
+
+-- the address of the page that has this stretch of a report
+abbrev pub IsNextAddress : Report → Next → List ℕ → Type 0
+IsNextAddress report next address =
+    (from : List ℕ) × (to : List ℕ) × IsField (codes "&from=") (Some next.from) from
+    × IsField (codes "&to=") next.to to
+    × (address ≡ history_address report ++ from ++ to ++ changes_field report)
+
+-- the link to this address
+abbrev pub next_link : (address : List ℕ) → List ℕ
+next_link address =
+    codes "<p><a href=\"" ++ escaped address ++ codes "\">Next page</a></p>\n"
+
+-- the link to the page that a report leads to, nothing where it leads to none
+abbrev pub IsNextLink : Report → List ℕ → Type 0
+IsNextLink report link =
+    elim report.next [
+      | None ↦ link ≡ []
+      | Some next ↦ (address : List ℕ) × (link ≡ next_link address)
+          × IsNextAddress report next address
+    ]
+
 -- the byte is of a path: a digit, a blank, or the letter of a step: M to a place, H across, V along
 abbrev pub is_path_byte : ℕ → Bool
 is_path_byte b = nat_le 48 b && nat_le b 57 || b == 32 || b == 77 || b == 72 || b == 86
@@ -207,11 +247,14 @@ table_top report =
     codes "<table>\n<thead>\n" ++ head_row (if report.changes then change_names else value_names)
     ++ codes "</thead>\n<tbody>\n"
 
--- the part of a page above its rows: the node, the stretch, a drawing, the columns' names
+-- the part of a page above its rows: the node, the stretch, the link to the next page, a drawing,
+-- the columns' names
 abbrev pub IsPageHeader : Report → List ℕ → Type 0
 IsPageHeader report header =
-    (stretch : List ℕ) × (drawing : List ℕ) × IsStretch report stretch × IsDrawing report drawing
-    × (header ≡ page_top report ++ stretch ++ codes "</p>\n" ++ drawing ++ table_top report)
+    (stretch : List ℕ) × (link : List ℕ) × (drawing : List ℕ) × IsStretch report stretch
+    × IsNextLink report link × IsDrawing report drawing
+    × (header
+    ≡ page_top report ++ stretch ++ codes "</p>\n" ++ link ++ drawing ++ table_top report)
 
 -- the part of a page below its rows: by it a reader sees that the page is whole
 abbrev pub page_footer : List ℕ

@@ -3,3 +3,4 @@ pub mod Html
 pub mod Reports
 pub mod Paging
 pub mod Portions
+pub mod Parts

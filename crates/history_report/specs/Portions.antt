@@ -64,8 +64,8 @@ PutsRows IsLine HasNoText xs old new result =
       | Err why ↦ (why ≡ fault.OutOfMemory) × (new ≡ old)
     ]
 
--- what is kept of a text behind which a line wasn't put: all of it, where that line has no text, and
--- otherwise so many bytes
+-- what is kept of a text behind which a line wasn't put: all of it, where a value has no text, and
+-- so many bytes otherwise
 abbrev pub kept_behind : TextFault → (start : ℕ) → List ℕ → List ℕ
 kept_behind why start text = elim why [ Why.NoText ↦ text | _ ↦ take start text ]
 
@@ -74,7 +74,8 @@ kept_behind why start text = elim why [ Why.NoText ↦ text | _ ↦ take start t
 abbrev pub PutsPage : {X : Type 0} → (X → List ℕ → Type 0) → (rest more : List X)
     → (old new : List ℕ) → Type 0
 PutsPage {X} IsLine rest more old new =
-    (page : List X) × (page ++ more ≡ rest) × (page ≡ [] → ⊥) × IsPut old new (AreLines IsLine page)
+    (page : List X) × (page ++ more ≡ rest) × (page ≡ [] → ⊥)
+    × IsPut old new (AreLines IsLine page)
 
 -- behind a text stands a page of the rest; behind the last one the footer; where a value has no
 -- text, the lines before it; and after any other fault nothing
@@ -110,7 +111,8 @@ abbrev pub IsPortion : (was now : Remainder) → Content → (old new : List ℕ
     → Result Bool ReportFault → Type 0
 IsPortion was now R old new result =
     elim was.report.changes [
-      | true ↦ PutsChanges was.report (changes_to_come was R) (changes_to_come now R) old new result
+      | true ↦ PutsChanges was.report (changes_to_come was R) (changes_to_come now R) old new
+          result
       | false ↦ PutsValues was.report (values_to_come was R) (values_to_come now R) old new result
     ]
 

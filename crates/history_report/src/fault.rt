@@ -1,4 +1,4 @@
-//! What ended a report before its end.
+//! What ended a report, or a part of one, before its end.
 
 use archive::StoreFault;
 use thiserror::Error;
@@ -18,4 +18,15 @@ pub enum ReportFault {
     /// Memory ran out.
     #[error("out of memory")]
     OutOfMemory,
+}
+
+/// What ended the first part of a report before its end.
+#[derive(Clone, Copy, Debug, PartialEq, Eq, Error)]
+pub enum PartFault {
+    /// The report met this fault.
+    #[error("{0}")]
+    Report(ReportFault),
+    /// The first 501 modifications are of one moment, and a page has at most 500 rows.
+    #[error("more than 500 modifications of one moment")]
+    Crowded,
 }

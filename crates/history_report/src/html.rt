@@ -9,6 +9,7 @@ ghost use Rattle.history_text.specs.Times.{IsTimeText};
 ghost use Rattle.history_report.specs.Html.{is_forbidden, printable_byte, entity, escaped, data_cell, page_row, head_row, page_begin, page_middle, page_footer, IsBound, IsStretch, IsDrawing, IsPageHeader};
 ghost use Rattle.history_report.specs.Paging.{IsPut};
 
+use crate::link::put_next_link;
 use crate::report::Report;
 use crate::table::{Made, Shown};
 use history_csv::node_text;
@@ -265,14 +266,13 @@ fn put_top(node: &[u8], out: &mut Vec<u8>) -> Result<(), AllocError>
     out.extend_from_slice(b"</h1>\n<p>")
 }
 
-/// Appends the end of the stretch, a drawing, and a page's table up to its rows.
+/// Appends a drawing, and a page's table up to its rows.
 fn put_head(changes: bool, drawing: &[u8], out: &mut Vec<u8>) -> Result<(), AllocError>
-    ensures { OnOk result (out.new.items ≡ out.old.items ++ codes "</p>\n" ++ drawing.now
+    ensures { OnOk result (out.new.items ≡ out.old.items ++ drawing.now
         ++ codes "<table>\n<thead>\n"
         ++ head_row (if changes then change_names else value_names)
         ++ codes "</thead>\n<tbody>\n") }
 {
-    out.extend_from_slice(b"</p>\n")?;
     out.extend_from_slice(drawing)?;
     out.extend_from_slice(b"<table>\n<thead>\n")?;
     out.extend_from_slice(head_row(changes))?;
@@ -292,6 +292,8 @@ pub(crate) fn put_page_header(
     let node = node_text(alloc, &report.node)?;
     put_top(node.as_slice(), out)?;
     put_stretch(alloc, report, out)?;
+    out.extend_from_slice(b"</p>\n")?;
+    put_next_link(alloc, report, out)?;
     put_head(report.changes, drawing, out)?;
     Ok(())
 }

@@ -1,8 +1,12 @@
 //! What holds of all pages: a law is the contract of a function that does nothing.
 
-ghost use Rattle.std.specs.Prelude.{◌≡◌, ◌∷◌, [], ℕ, List, false};
+ghost use Rattle.std.specs.Prelude.{◌≡◌, ◌∷◌, ◌++◌, [], ℕ, ℤ, List, true, false};
 ghost use Rattle.std.specs.List.{list_any};
 ghost use Rattle.history_report.specs.Html.{escaped, is_markup, IsPath, has_forbidden, printable_after, said, page_row, texts_in};
+ghost use Rattle.records.specs.Contents.{Content};
+ghost use Rattle.history_report.specs.declared.report.Report.{Report};
+ghost use Rattle.history_report.specs.Reports.{is_in_stretch, values_asked, changes_asked};
+ghost use Rattle.history_report.specs.Parts.{part_before, rest_from};
 
 /// No text in a page has a byte that begins or ends a tag, or an attribute's value, and neither has
 /// a drawing's path.
@@ -31,4 +35,16 @@ pub fn a_rows_texts_are_its_fields()
         → texts_in (page_row (node ∷ time ∷ value ∷ status ∷ change ∷ changed ∷ user ∷ []))
         ≡ [] ∷ escaped time ∷ [] ∷ escaped value ∷ [] ∷ escaped status ∷ [] ∷ escaped change
         ∷ [] ∷ escaped changed ∷ [] ∷ escaped user ∷ [] ∷ [] }
+{}
+
+/// The rows of the part of a report before a moment that it asks for, and then those of the rest,
+/// are all of its rows: so whoever follows the links of parts sees each row once, in order.
+#[tactic(auto, using(crate::proofs::PartLemmas::values_both, crate::proofs::PartLemmas::changes_both))]
+pub fn a_part_and_the_rest_are_the_whole()
+    ensures values { (R : Content) (report : Report) (time : ℤ) → is_in_stretch report time ≡ true
+        → values_asked R (part_before report time) ++ values_asked R (rest_from report time)
+        ≡ values_asked R report }
+    ensures changes { (R : Content) (report : Report) (time : ℤ) → is_in_stretch report time ≡ true
+        → changes_asked R (part_before report time) ++ changes_asked R (rest_from report time)
+        ≡ changes_asked R report }
 {}

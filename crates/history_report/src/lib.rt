@@ -7,8 +7,10 @@ mod figure;
 mod html;
 mod laws;
 mod lines;
+mod link;
 mod number;
 mod pages;
+mod parts;
 mod path;
 mod portions;
 mod printing;
@@ -18,11 +20,13 @@ mod span;
 mod table;
 mod trend;
 
-pub use fault::ReportFault;
+pub use fault::{PartFault, ReportFault};
 pub use laws::{
-    a_pages_text_holds_no_markup, a_pages_text_is_read_again, a_rows_texts_are_its_fields,
+    a_pages_text_holds_no_markup, a_pages_text_is_read_again, a_part_and_the_rest_are_the_whole,
+    a_rows_texts_are_its_fields,
 };
+pub use parts::put_part;
 pub use portions::Portions;
 pub use printing::print_report;
-pub use report::{Form, Report};
+pub use report::{Form, Next, Report};
 pub use table::put_legible;

@@ -17,6 +17,15 @@ pub enum Form {
     Page,
 }
 
+/// The stretch of a node's history that a page leads to.
+#[derive(Clone, Copy, Debug)]
+pub struct Next {
+    /// Its first moment.
+    pub from: Moment,
+    /// The moment before which it ends; absent, it doesn't end.
+    pub to: Option<Moment>,
+}
+
 /// What is to be printed of a node's history.
 #[derive(Debug, Drop)]
 pub struct Report {
@@ -30,4 +39,7 @@ pub struct Report {
     pub changes: bool,
     /// In which form.
     pub form: Form,
+    /// The stretch that a page leads to by a link; absent, it leads to none. A table and rows of
+    /// CSV don't tell it.
+    pub next: Option<Next>,
 }

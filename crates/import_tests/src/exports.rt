@@ -29,6 +29,7 @@ fn printed<A: Archive>(server: &mut Server<A>, node: &str) -> Option<Vec<u8>> {
         to: None,
         changes: false,
         form: Form::Csv,
+        next: None,
     };
     let mut output = Counted::new(Vec::new(server.alloc));
     let archive = &mut server.replica.archive;

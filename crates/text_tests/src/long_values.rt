@@ -86,6 +86,7 @@ fn printed<A: Archive>(
         to: None,
         changes: false,
         form,
+        next: None,
     };
     let mut output = Counted::new(Noting {
         bytes: Vec::new(alloc),

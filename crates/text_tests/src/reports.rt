@@ -402,6 +402,7 @@ fn is_printed<A: Archive>(alloc: Global, archive: &mut A, case: &Case<'_>) -> bo
         to: to.map(moment_of),
         changes,
         form,
+        next: None,
     };
     let mut output = Counted::new(Vec::new(alloc));
     let ended = print_report(alloc, archive, &report, &mut output);
@@ -502,6 +503,7 @@ fn line_count<A: Archive>(alloc: Global, archive: &mut A, changes: bool) -> Opti
         to: None,
         changes,
         form: Table,
+        next: None,
     };
     let mut output = Counted::new(Vec::new(alloc));
     if print_report(alloc, archive, &report, &mut output).is_err() {

@@ -124,6 +124,7 @@ fn page_of<A: Archive>(alloc: Global, archive: &mut A, changes: bool) -> Option<
         to: None,
         changes,
         form: Form::Page,
+        next: None,
     };
     let mut output = Counted::new(Vec::new(alloc));
     match print_report(alloc, archive, &report, &mut output) {

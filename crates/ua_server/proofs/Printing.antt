@@ -190,6 +190,7 @@ answer_of node from to words = do
     to = t;
     changes = words.changes;
     form = form_asked words;
+    next = None;
   })
 
 words-line : (node : Option NodeId) (from to : Result (Option ℤ) ProgramFault)

@@ -41,6 +41,7 @@ report_asked asked = do
     to = to;
     changes = asked.changes;
     form = form_asked asked;
+    next = None;
   })
 
 -- this was answered, unless memory for it was wanting

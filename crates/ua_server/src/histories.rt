@@ -101,6 +101,7 @@ fn report_asked(alloc: Global, asked: HistoryWords<'_>) -> Result<Report, Progra
         to,
         changes: asked.changes,
         form: form_asked(&asked),
+        next: None,
     })
 }
 

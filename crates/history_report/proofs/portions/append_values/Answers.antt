@@ -14,15 +14,18 @@ returns-in-Err-clause-takes g c =
     let state = g.A.Archive.state in
     let report = c.args.report.now in
     let old = c.args.out.now.items in
-    portion-fails (IsValueLine report) (λ (h : Held). IsTextless h.value.value) (footer_of report) (state c.args.archive.now)
+    portion-fails (IsValueLine report) (λ (h : Held). IsTextless h.value.value)
+    (footer_of report) (state c.args.archive.now)
     (state c.next_values.new.archive) (values_left report.node c.args.pages.now)
-    (values_left report.node c.next_values.new.pages) old old c.in-Err.fault c.in-Err.ensures.pages refl
+    (values_left report.node c.next_values.new.pages)
+    old old c.in-Err.fault c.in-Err.ensures.pages refl
 
 pub returns-then-is_empty-clause-takes : goal.returns-then-is_empty-clause-takes
 returns-then-is_empty-clause-takes g c =
     let state = g.A.Archive.state in
     let report = c.args.report.now in
-    portion-closes (IsValueLine report) (λ (h : Held). IsTextless h.value.value) (footer_of report) (state c.args.archive.now)
+    portion-closes (IsValueLine report) (λ (h : Held). IsTextless h.value.value)
+    (footer_of report) (state c.args.archive.now)
     (state c.next_values.new.archive) (values_left report.node c.args.pages.now)
     (values_left report.node c.next_values.new.pages) c.args.out.now.items
     c.append_footer.new.out.items c.in-Ok.page.items c.in-Ok.ensures.pages
@@ -36,13 +39,15 @@ returns-in-Ok-append_rows-clause-takes g c =
     let report = c.args.report.now in
     let old = c.args.out.now.items in
     let new = c.append_rows.new.out.items in
-    portion-goes (IsValueLine report) (λ (h : Held). IsTextless h.value.value) (footer_of report) (state c.args.archive.now)
+    portion-goes (IsValueLine report) (λ (h : Held). IsTextless h.value.value)
+    (footer_of report) (state c.args.archive.now)
     (state c.next_values.new.archive) (values_left report.node c.args.pages.now)
     (values_left report.node c.next_values.new.pages) old new c.in-Ok.page.items
     c.in-Ok.ensures.pages
     (λ none. some-items c.as_slice-rows.result.now (sym c.if-is_empty.ensures)
     (c.as_slice-rows.ensures.value ∙ none))
-    (subst (λ (l : List Held). PutsRows (IsValueLine report) (λ (h : Held). IsTextless h.value.value) l old new (Ok tt))
+    (subst (λ (l : List Held). PutsRows (IsValueLine report)
+    (λ (h : Held). IsTextless h.value.value) l old new (Ok tt))
     c.as_slice-rows.ensures.value c.in-Ok-append_rows.ensures)
 
 pub returns-clause-takes : goal.returns-clause-takes
@@ -51,9 +56,11 @@ returns-clause-takes g c =
     let report = c.args.report.now in
     let old = c.args.out.now.items in
     let new = c.append_rows.new.out.items in
-    portion-breaks (IsValueLine report) (λ (h : Held). IsTextless h.value.value) (footer_of report) (state c.args.archive.now)
+    portion-breaks (IsValueLine report) (λ (h : Held). IsTextless h.value.value)
+    (footer_of report) (state c.args.archive.now)
     (state c.next_values.new.archive) (values_left report.node c.args.pages.now)
     (values_left report.node c.next_values.new.pages) old new c.in-Ok.page.items
     c.in-Ok.ensures.pages c.in-Err-append_rows.fault
-    (subst (λ (l : List Held). PutsRows (IsValueLine report) (λ (h : Held). IsTextless h.value.value) l old new
+    (subst (λ (l : List Held). PutsRows (IsValueLine report)
+    (λ (h : Held). IsTextless h.value.value) l old new
     (Err c.in-Err-append_rows.fault)) c.as_slice-rows.ensures.value c.in-Err-append_rows.ensures)

@@ -1,0 +1,214 @@
+-- An archive is read, and then again, for a part of a history.
+use Rattle.std.proofs.Common.{◌≡◌, ℕ, ℤ, Bool, true, false, List, [], ◌++◌, take, Option, Some, None, Result, Ok, Err, refl, ap, ◌∙◌, subst, inl, inr}
+use Rattle.std.specs.Prelude.{if◌then◌else◌}
+use Rattle.std.specs.Ordering.{int_eq}
+use Rattle.records.specs.Contents.{Content, vec}
+use Rattle.records.specs.declared.shown.Held.{Held}
+use Rattle.records.specs.declared.shown.Entry.{Entry}
+use Rattle.stamp.specs.Numbers.{number_of}
+use Rattle.archive.specs.Store.{Store, IsLawfulContent, faults_of}
+use Rattle.archive.specs.Steps.{Transitions}
+use Rattle.archive.specs.declared.fault.StoreFault.{StoreFault}
+use Rattle.archive.proofs.Acting.{moves-then, moves-as, faults-append}
+use Rattle.history_report.specs.declared.fault.PartFault.{PartFault}
+use Rattle.history_report.specs.declared.fault.PartFault.TheVariants as part_fault
+use Rattle.history_report.specs.declared.fault.ReportFault.{ReportFault}
+use Rattle.history_report.specs.declared.fault.ReportFault.TheVariants as fault
+use Rattle.history_report.specs.declared.pages.Pages.{Pages}
+use Rattle.history_report.specs.declared.report.Report.{Report}
+use Rattle.history_report.specs.Reports.{PrintsReport, ReadsFor, report_faults, values_asked, changes_asked}
+use Rattle.history_report.specs.Paging.{IsPut, Fails, values_left, changes_left}
+use Rattle.history_report.specs.Parts.{part_up_to, part_fault_told, end_between, IsFirstPart, AreCrowded, IsPrinted, PutsPart, ReadsPart, IsEnd}
+use Rattle.history_report.proofs.PageLemmas.{IsSpanOf, values-all, changes-all}
+use Rattle.history_report.proofs.PartLemmas.{EndsChanges}
+use Rattle.history_report.proofs.PrintingLemmas.{AreShown}
+use Rattle.history_report.proofs.WalkLemmas.{Stays, walk-fails}
+
+-- ---- one reading after the other
+
+-- the same reading, told in other words
+pub reads-as : (s t : Store) (result : Result (Unit {0}) ReportFault) (P Q : Content → Type 0)
+    → ((R : Content) → P R → Q R) → ReadsFor s t result P → ReadsFor s t result Q
+reads-as s t result P Q so (used, reads) = (
+  used,
+  moves-as s t used
+      (λ marks R S. (S ≡ R) × ((faults_of used ≡ report_faults result) × P R))
+      (λ marks R S. (S ≡ R) × ((faults_of used ≡ report_faults result) × Q R))
+      (λ ms R S p. (p.0, (p.1.0, so R p.1.1))) reads,
+)
+
+-- a reading that met no fault, and then another, of the same content
+pub reads-then : (s t u : Store) (result : Result (Unit {0}) ReportFault)
+    (P Q To : Content → Type 0) → ((R : Content) → P R → Q R → To R) → ReadsFor s t (Ok tt) P
+    → ReadsFor t u result Q → ReadsFor s u result To
+reads-then s t u result P Q To both (used, reads) (later, more) = (
+  used ++ later,
+  moves-then s t u used later
+      (λ marks R S. (S ≡ R) × ((faults_of used ≡ []) × P R))
+      (λ marks R S. (S ≡ R) × ((faults_of later ≡ report_faults result) × Q R))
+      (λ marks R S. (S ≡ R) × ((faults_of (used ++ later) ≡ report_faults result) × To R))
+      (λ ms ns R S T p q. (
+        q.0 ∙ p.0,
+        (
+          faults-append used later ∙ (ap (λ fs. fs ++ faults_of later) p.1.0 ∙ q.1.0),
+          both R p.1.1 (subst Q p.0 q.1.1),
+        ),
+      )) reads more,
+)
+
+-- calls that met no fault are such a reading
+pub reads-quiet : (s t : Store) (P : Content → Type 0)
+    → Transitions s t [] (λ marks R S. (S ≡ R) × P R) → ReadsFor s t (Ok tt) P
+reads-quiet s t P quiet = (
+  [],
+  moves-as s t [] (λ marks R S. (S ≡ R) × P R)
+      (λ marks R S. (S ≡ R) × (([] ≡ report_faults (Ok tt)) × P R))
+      (λ ms R S p. (p.0, (refl, p.1))) quiet,
+)
+
+-- ---- a part
+
+-- the same reading for a part, told in other words
+pub part-as : {A : Type 0} (s t : Store) (result : Result A PartFault) (C D : Content → Type 0)
+    (P Q : A → Content → Type 0) → ((R : Content) → C R → D R)
+    → ((a : A) (R : Content) → P a R → Q a R) → ReadsPart s t result C P → ReadsPart s t result D Q
+part-as s t (Ok a) C D P Q crowds so reads = reads-as s t (Ok tt) (P a) (Q a) (so a) reads
+part-as s t (Err part_fault.Crowded) C D P Q crowds so reads = reads-as s t (Ok tt) C D crowds reads
+part-as s t (Err (part_fault.Report why)) C D P Q crowds so reads = reads
+
+-- what ended one call ends another
+pub part-ends : {A B : Type 0} (s t : Store) (why : PartFault) (C : Content → Type 0)
+    (P : A → Content → Type 0) (Q : B → Content → Type 0) → ReadsPart s t (Err why) C P
+    → ReadsPart s t (Err why) C Q
+part-ends s t part_fault.Crowded C P Q reads = reads
+part-ends s t (part_fault.Report why) C P Q reads = reads
+
+-- a reading, and then one that isn't crowded
+pub part-then : {A : Type 0} (s t u : Store) (result : Result A PartFault) (P : Content → Type 0)
+    (C : Content → Type 0) (Q To : A → Content → Type 0)
+    → ((a : A) (R : Content) → P R → Q a R → To a R) → ReadsFor s t (Ok tt) P
+    → ReadsPart t u result (λ R. ⊥) Q → ReadsPart s u result C To
+part-then s t u (Ok a) P C Q To both reads more =
+    reads-then s t u (Ok tt) P (Q a) (To a) (both a) reads more
+part-then s t u (Err part_fault.Crowded) P C Q To both reads more =
+    reads-then s t u (Ok tt) P (λ R. ⊥) C (λ R p q. absurd q) reads more
+part-then s t u (Err (part_fault.Report why)) P C Q To both reads more = (
+  more.0,
+  reads-then s t u (Err why) P (λ R. Unit {0}) (λ R. Unit {0}) (λ R p q. tt) reads more.1,
+)
+
+-- the store met a fault
+pub part-fails : {A : Type 0} (s t u : Store) (why : StoreFault) (C : Content → Type 0)
+    (P : A → Content → Type 0) → Stays s t → Fails t u why
+    → ReadsPart s u (Err (part_fault.Report (fault.Store why))) C P
+part-fails s t u why C P stays fails = (λ e. absurd cc, (walk-fails s t u why stays fails).1)
+
+-- memory was wanting behind a reading
+pub part-starves : {A : Type 0} (s t : Store) (C P : Content → Type 0)
+    (Q : A → Content → Type 0) → ReadsFor s t (Ok tt) P
+    → ReadsPart s t (Err (part_fault.Report fault.OutOfMemory)) C Q
+part-starves s t C P Q (used, reads) = (
+  λ e. absurd cc,
+  (
+    used,
+    moves-as s t used (λ marks R S. (S ≡ R) × ((faults_of used ≡ []) × P R))
+        (λ marks R S. (S ≡ R)
+        × ((faults_of used ≡ report_faults (Err fault.OutOfMemory)) × Unit {0}))
+        (λ ms R S p. (p.0, (p.1.0, tt))) reads,
+  ),
+)
+
+-- a report ended by this
+pub part-stops : {A : Type 0} (s t : Store) (why : ReportFault) (C P : Content → Type 0)
+    (Q : A → Content → Type 0) → ReadsFor s t (Err why) P
+    → ReadsPart s t (Err (part_fault_told why)) C Q
+part-stops s t fault.Write C P Q reads = part-starves s t C P Q reads
+part-stops s t fault.OutOfMemory C P Q reads = part-starves s t C P Q reads
+part-stops s t fault.NoText C P Q reads =
+    (λ e. absurd cc, reads-as s t (Err fault.NoText) P (λ R. Unit {0}) (λ R p. tt) reads)
+part-stops s t (fault.Store why) C P Q reads =
+    (λ e. absurd cc, reads-as s t (Err (fault.Store why)) P (λ R. Unit {0}) (λ R p. tt) reads)
+
+-- ---- which rows are seen
+
+module _ (report : Report) (pages : Pages) (t u w : Store) (shown : AreShown t u pages.within)
+    (span : IsSpanOf report pages.span.from pages.span.to) where
+  pub seen-values : (page : List Held) → Transitions u w [] (λ marks R S. (S ≡ R)
+      × IsLawfulContent R × (page ≡ take 501 (values_left report.node pages R)))
+      → ReadsFor t w (Ok tt) (λ R. page ≡ take 501 (values_asked R report))
+  seen-values page asks = reads-quiet t w (λ R. page ≡ take 501 (values_asked R report))
+      (moves-then t u w [] [] (λ marks R S. (S ≡ R) × IsLawfulContent R
+      × ((o : ℕ) → number_of pages.within o ≡ vec R o))
+      (λ marks R S. (S ≡ R) × IsLawfulContent R
+      × (page ≡ take 501 (values_left report.node pages R)))
+      (λ marks R S. (S ≡ R) × (page ≡ take 501 (values_asked R report)))
+      (λ ms ns R S T p q. (
+        q.0 ∙ p.0,
+        subst (λ C. page ≡ take 501 (values_left report.node pages C)) p.0 q.2
+            ∙ ap (take 501) (values-all R report pages p.1 p.2 span),
+      )) shown asks)
+
+  pub seen-changes : pages.after ≡ None → (page : List Entry)
+      → Transitions u w [] (λ marks R S. (S ≡ R)
+      × IsLawfulContent R × (page ≡ take 501 (changes_left report.node pages R)))
+      → ReadsFor t w (Ok tt) (λ R. page ≡ take 501 (changes_asked R report))
+  seen-changes first page asks = reads-quiet t w (λ R. page ≡ take 501 (changes_asked R report))
+      (moves-then t u w [] [] (λ marks R S. (S ≡ R) × IsLawfulContent R
+      × ((o : ℕ) → number_of pages.within o ≡ vec R o))
+      (λ marks R S. (S ≡ R) × IsLawfulContent R
+      × (page ≡ take 501 (changes_left report.node pages R)))
+      (λ marks R S. (S ≡ R) × (page ≡ take 501 (changes_asked R report)))
+      (λ ms ns R S T p q. (
+        q.0 ∙ p.0,
+        subst (λ C. page ≡ take 501 (changes_left report.node pages C)) p.0 q.2
+            ∙ ap (take 501) (changes-all R report pages p.1 p.2 span first),
+      )) shown asks)
+
+-- an end that is missing is for no fault of a report
+never : (first last : Option ℤ) (why : ReportFault)
+    → Err (part_fault.Report why) ≡ end_between first last → ⊥
+never None last why e = absurd cc
+never (Some first) None why e = absurd cc
+never (Some first) (Some last) why e = go (int_eq first last) e
+  where
+    go : (b : Bool) → Err (part_fault.Report why)
+        ≡ (if b then Err part_fault.Crowded else Ok (Some last)) → ⊥
+    go true k = absurd cc
+    go false k = absurd cc
+
+-- what is told of the end of modifications
+pub ends-changes : (report : Report) (s t : Store) (result : Result (Option ℤ) PartFault)
+    (first last : Option ℤ) → result ≡ end_between first last
+    → ReadsFor s t (Ok tt) (λ R. EndsChanges (changes_asked R report) result)
+    → ReadsPart s t result (λ R. AreCrowded (changes_asked R report))
+    (λ end R. IsEnd (λ (e : Entry). e.time) (changes_asked R report) end)
+ends-changes report s t (Ok end) first last is reads = reads
+ends-changes report s t (Err part_fault.Crowded) first last is reads = reads
+ends-changes report s t (Err (part_fault.Report why)) first last is reads =
+    absurd (never first last why is)
+
+-- ---- what is printed
+
+-- the whole of a report, behind nothing
+pub printed-whole : (R : Content) (report : Report) (text : List ℕ)
+    → PrintsReport report R (Some []) (Some text) (Ok tt) → IsPrinted R report text
+printed-whole R report text (inl (header, is, behind)) = (header, is, behind)
+printed-whole R report text (inr (why, is, other, none)) = absurd cc
+
+-- what was printed was put behind a text
+pub printed-put : (R : Content) (report : Report) (empty printed text shown old new : List ℕ)
+    → empty ≡ [] → text ≡ printed → shown ≡ text → new ≡ old ++ shown
+    → PrintsReport report R (Some empty) (Some printed) (Ok tt)
+    → IsPut old new (IsPrinted R report)
+printed-put R report empty printed text shown old new none is same put prints = (
+  printed,
+  put ∙ ap (λ l. old ++ l) (same ∙ is),
+  printed-whole R report printed
+      (subst (λ (l : List ℕ). PrintsReport report R (Some l) (Some printed) (Ok tt)) none prints),
+)
+
+-- the first part of a report was put behind a text
+pub part-put : (report : Report) (end : Option ℤ) (old new : List ℕ) (R : Content)
+    → IsFirstPart R report (part_up_to report end)
+    → IsPut old new (IsPrinted R (part_up_to report end)) → PutsPart report old new R
+part-put report end old new R first put = (part_up_to report end, first, put)

@@ -1,0 +1,202 @@
+//! One page of a history, which leads to the rest by a link.
+
+ghost use Rattle.std.specs.Prelude.{◌≡◌, true, slice_get, OnErr, MatchResult};
+ghost use Rattle.std.specs.Option.{option_map};
+ghost use Rattle.archive.specs.Store.{IsAskedWithin};
+ghost use Rattle.history_report.specs.Reports.{values_asked, changes_asked};
+ghost use Rattle.history_report.specs.Paging.{IsPut};
+ghost use Rattle.history_report.specs.Parts.{part_up_to, end_between, part_fault_told, IsFirstPart, AreCrowded, IsPrinted, PutsPart, ReadsPart, IsEnd};
+
+use crate::fault::{PartFault, ReportFault};
+use crate::printing::print_report;
+use crate::report::{Next, Report};
+use crate::span::{Span, span_of};
+use archive::{Archive, Direction};
+use counted_io::Counted;
+use records::{Entry, Held, Moment};
+use std::alloc::Global;
+
+/// The most rows of a part.
+const MOST: usize = 500;
+
+/// How many rows are looked at: those of a part, and the next one.
+const SEEN: usize = 501;
+
+/// The time of the live value at a place.
+fn value_time(rows: &[Held], place: usize) -> Option<Moment>
+    ensures { result ≡ option_map (λ h. h.time) (slice_get rows.now place) }
+{
+    match rows.get(place) {
+        Some(row) => Some(row.time),
+        None => None,
+    }
+}
+
+/// The time of the modification at a place.
+fn change_time(rows: &[Entry], place: usize) -> Option<Moment>
+    ensures { result ≡ option_map (λ e. e.time) (slice_get rows.now place) }
+{
+    match rows.get(place) {
+        Some(row) => Some(row.time),
+        None => None,
+    }
+}
+
+/// The end of a first part, by the times of the first row and of the 501st: there is none where
+/// these are one, and none is needed where there is no 501st.
+fn end_between(first: Option<Moment>, last: Option<Moment>) -> Result<Option<Moment>, PartFault>
+    ensures { result ≡ end_between first last }
+{
+    match (first, last) {
+        (Some(first), Some(last)) => {
+            if first == last {
+                Err(PartFault::Crowded)
+            } else {
+                Ok(Some(last))
+            }
+        }
+        _ => Ok(None),
+    }
+}
+
+/// The end of the first part of the live values that a report asks for.
+fn end_of_values<A: Archive>(
+    alloc: Global,
+    archive: &mut A,
+    report: &Report,
+) -> Result<Option<Moment>, PartFault>
+    ensures reads { ReadsPart (A.state archive.old) (A.state archive.new) result (λ R. ⊥)
+        (λ end R. IsEnd (λ h. h.time) (values_asked R report.now) end) }
+    ensures asked { IsAskedWithin 501 (A.asked archive.old) (A.asked archive.new) }
+{
+    let within = match archive.vector() {
+        Ok(within) => within,
+        Err(fault) => return Err(PartFault::Report(ReportFault::Store(fault))),
+    };
+    let Span { from, to } = span_of(report);
+    let way = Direction::Forward;
+    match archive.range(alloc, &report.node, from, to, way, SEEN, &within) {
+        Ok(page) => Ok(value_time(page.as_slice(), MOST)),
+        Err(fault) => Err(PartFault::Report(ReportFault::Store(fault))),
+    }
+}
+
+/// The end of the first part of the modifications that a report asks for.
+fn end_of_changes<A: Archive>(
+    alloc: Global,
+    archive: &mut A,
+    report: &Report,
+) -> Result<Option<Moment>, PartFault>
+    ensures reads { ReadsPart (A.state archive.old) (A.state archive.new) result
+        (λ R. AreCrowded (changes_asked R report.now))
+        (λ end R. IsEnd (λ e. e.time) (changes_asked R report.now) end) }
+    ensures asked { IsAskedWithin 501 (A.asked archive.old) (A.asked archive.new) }
+{
+    let within = match archive.vector() {
+        Ok(within) => within,
+        Err(fault) => return Err(PartFault::Report(ReportFault::Store(fault))),
+    };
+    let Span { from, to } = span_of(report);
+    let way = Direction::Forward;
+    let page = match archive.log(alloc, &report.node, from, to, None, way, SEEN, &within) {
+        Ok(page) => page,
+        Err(fault) => return Err(PartFault::Report(ReportFault::Store(fault))),
+    };
+    let rows = page.as_slice();
+    end_between(change_time(rows, 0), change_time(rows, MOST))
+}
+
+/// The end of the first part of a report.
+fn end_of<A: Archive>(
+    alloc: Global,
+    archive: &mut A,
+    report: &Report,
+) -> Result<Option<Moment>, PartFault>
+    ensures reads { ReadsPart (A.state archive.old) (A.state archive.new) result
+        (λ R. (report.now.changes ≡ true) × AreCrowded (changes_asked R report.now))
+        (λ end R. IsFirstPart R report.now (part_up_to report.now end)) }
+    ensures asked { IsAskedWithin 501 (A.asked archive.old) (A.asked archive.new) }
+{
+    if report.changes {
+        end_of_changes(alloc, archive, report)
+    } else {
+        end_of_values(alloc, archive, report)
+    }
+}
+
+/// The part of a report before a moment, with a link to the rest; all of it where there is none.
+fn part_up_to(report: Report, end: Option<Moment>) -> Report
+    ensures { result ≡ part_up_to report end }
+{
+    let mut part = report;
+    if let Some(time) = end {
+        part.next = Some(Next {
+            from: time,
+            to: part.to,
+        });
+        part.to = Some(time);
+    }
+    part
+}
+
+/// What ends a part, by what ended its report: a write into memory fails for want of memory.
+fn fault_of(fault: ReportFault) -> PartFault
+    ensures { result ≡ part_fault_told fault }
+{
+    match fault {
+        ReportFault::Write => PartFault::Report(ReportFault::OutOfMemory),
+        _ => PartFault::Report(fault),
+    }
+}
+
+/// Appends a report.
+fn append_report<A: Archive>(
+    alloc: Global,
+    archive: &mut A,
+    report: &Report,
+    out: &mut Vec<u8>,
+) -> Result<(), PartFault>
+    ensures reads { ReadsPart (A.state archive.old) (A.state archive.new) result (λ R. ⊥)
+        (λ done R. IsPut out.old.items out.new.items (IsPrinted R report.now)) }
+    ensures kept { OnErr result (out.new.items ≡ out.old.items) }
+    ensures asked { IsAskedWithin 100 (A.asked archive.old) (A.asked archive.new) }
+{
+    let mut output = Counted::new(Vec::new(alloc));
+    match print_report(alloc, archive, report, &mut output) {
+        Ok(()) => {}
+        Err(fault) => return Err(fault_of(fault)),
+    }
+    let text = output.into_inner();
+    match out.extend_from_slice(text.as_slice()) {
+        Ok(()) => Ok(()),
+        Err(_) => Err(PartFault::Report(ReportFault::OutOfMemory)),
+    }
+}
+
+/// Appends the first part of a node's history, of at most 500 values or modifications, as
+/// `print_report` prints it, its header and its footer too. Where it isn't all of the history, it
+/// ends before a moment, and a page leads by a link to the history from that moment on. The archive
+/// stays as it is. At most 501 values are in memory at a time, and the text.
+///
+/// Errors, after which nothing is appended: `Report` where the report met this fault, but never
+/// `Write`: a want of memory is `OutOfMemory`; `Crowded` where the first 501 modifications are of
+/// one moment.
+pub fn put_part<A: Archive>(
+    alloc: Global,
+    archive: &mut A,
+    report: Report,
+    out: &mut Vec<u8>,
+) -> Result<(), PartFault>
+    ensures reads { ReadsPart (A.state archive.old) (A.state archive.new) result
+        (λ R. (report.changes ≡ true) × AreCrowded (changes_asked R report))
+        (λ done R. PutsPart report out.old.items out.new.items R) }
+    ensures kept { OnErr result (out.new.items ≡ out.old.items) }
+    ensures asked { IsAskedWithin 501 (A.asked archive.old) (A.asked archive.new) }
+{
+    let end = match end_of(alloc, archive, &report) {
+        Ok(end) => end,
+        Err(fault) => return Err(fault),
+    };
+    let part = part_up_to(report, end);
+    append_report(alloc, archive, &part, out)
+}
