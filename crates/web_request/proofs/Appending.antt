@@ -1,8 +1,7 @@
 -- What is appended field by field is appended as a whole.
 use Rattle.std.proofs.Common.{◌≡◌, ℕ, List, ◌++◌, append_assoc, ap, ◌∙◌}
 use Rattle.std.specs.Prelude.{codes}
-use Rattle.std.specs.Fmt.{decimal}
-use Rattle.web_request.specs.Heads.{connection_text, facts, field, guards, kind_text}
+use Rattle.web_request.specs.Heads.{connection_text, facts, field, framing, guards, kind_text}
 use Rattle.web_request.specs.declared.answer.Answer.{Answer}
 
 -- two steps are one
@@ -15,16 +14,15 @@ three : (o a b c x y z : List ℕ) → a ≡ o ++ x → b ≡ a ++ y → c ≡ b
 three o a b c x y z p q r = joined o b c (x ++ y) z (joined o a b x y p q) r
 
 -- the fields that tell of the body and of the connection
-pub told : (answer : Answer) (o a b c kind length connection : List ℕ)
-    → kind ≡ kind_text answer.kind → length ≡ decimal answer.length
-    → connection ≡ connection_text answer.keeps_open
+pub told : (answer : Answer) (o a b c kind connection : List ℕ)
+    → kind ≡ kind_text answer.kind → connection ≡ connection_text answer.keeps_open
     → a ≡ o ++ field (codes "Content-Type") kind
-    → b ≡ a ++ field (codes "Content-Length") length
+    → b ≡ a ++ framing answer.body
     → c ≡ b ++ field (codes "Connection") connection → c ≡ o ++ facts answer
-told answer o a b c kind length connection k l n p q r =
-    three o a b c (field (codes "Content-Type") kind) (field (codes "Content-Length") length)
+told answer o a b c kind connection k n p q r =
+    three o a b c (field (codes "Content-Type") kind) (framing answer.body)
     (field (codes "Connection") connection) p q r
-    ∙ (λ i. o ++ ((field (codes "Content-Type") (k i) ++ field (codes "Content-Length") (l i))
+    ∙ (λ i. o ++ ((field (codes "Content-Type") (k i) ++ framing answer.body)
     ++ field (codes "Connection") (n i)))
 
 -- the fields that every answer has

@@ -6,6 +6,8 @@ use Rattle.web_request.specs.declared.answer.Kind.TheVariants.{Html, Csv, Json}
 use Rattle.web_request.specs.declared.answer.Status.{Status}
 use Rattle.web_request.specs.declared.answer.Status.TheVariants.{Success, BadRequest, Unauthorized, Forbidden, NotFound, MethodNotAllowed, ContentTooLarge, FieldsTooLarge, InternalError, Unavailable}
 use Rattle.web_request.specs.declared.answer.Answer.{Answer}
+use Rattle.web_request.specs.declared.answer.Body.{Body}
+use Rattle.web_request.specs.declared.answer.Body.TheVariants.{Length, Chunked, UntilClose}
 
 -- a status by its code and its reason (RFC 9110, 15; RFC 6585, 5)
 abbrev pub status_text : Status → List ℕ
@@ -56,11 +58,18 @@ demand _ = []
 abbrev pub connection_text : Bool → List ℕ
 connection_text keeps_open = if keeps_open then codes "keep-alive" else codes "close"
 
--- what the body is, its length in bytes, and whether the connection is kept
+-- how the end of a body is told (RFC 9112, 6.3): by its length in bytes, by its last chunk, or by
+-- the connection's end
+abbrev pub framing : Body → List ℕ
+framing (Length n) = field (codes "Content-Length") (decimal n)
+framing Chunked = field (codes "Transfer-Encoding") (codes "chunked")
+framing UntilClose = []
+
+-- what the body is, how its end is told, and whether the connection is kept
 abbrev pub facts : Answer → List ℕ
 facts answer =
     field (codes "Content-Type") (kind_text answer.kind)
-    ++ field (codes "Content-Length") (decimal answer.length)
+    ++ framing answer.body
     ++ field (codes "Connection") (connection_text answer.keeps_open)
 
 -- the head of an answer, and the empty line behind it

@@ -66,6 +66,7 @@ request_by method target minor headers length = do
     head_only = head_only;
     credentials = credentials;
     keeps_open = keeps_open minor known;
+    takes_chunks = nat_lt 0 minor;
     length = length;
   })
 

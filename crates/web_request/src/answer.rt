@@ -36,13 +36,24 @@ pub enum Kind {
     Json,
 }
 
+/// How the end of a body is told (RFC 9112, 6.3).
+#[derive(Clone, Copy, Debug, PartialEq, Eq)]
+pub enum Body {
+    /// By how many bytes it has, also where only the head is asked for.
+    Length(usize),
+    /// By an empty chunk, as `put_chunk` and `put_last_chunk` write it.
+    Chunked,
+    /// By the connection's end.
+    UntilClose,
+}
+
 /// What the head of an answer tells.
 #[derive(Clone, Copy, Debug, PartialEq, Eq)]
 pub struct Answer {
     pub status: Status,
     pub kind: Kind,
-    /// How many bytes the body has, also where only the head is asked for.
-    pub length: usize,
+    /// How the end of the body is told.
+    pub body: Body,
     /// The connection is kept for a next request.
     pub keeps_open: bool,
 }

@@ -1,9 +1,9 @@
 //! How the head of an answer is written.
 
 ghost use Rattle.std.specs.Prelude.{◌≡◌, [], ◌++◌, codes, IfOk, OnOk, OnErr};
-ghost use Rattle.web_request.specs.Heads.{status_text, kind_text, line, field, guards, demand, connection_text, facts, head_text};
+ghost use Rattle.web_request.specs.Heads.{status_text, kind_text, line, field, guards, demand, connection_text, framing, facts, head_text};
 
-use crate::answer::{Answer, Kind, Status};
+use crate::answer::{Answer, Body, Kind, Status};
 use itoa::Buffer;
 use std::alloc::{AllocError, Global};
 
@@ -107,13 +107,24 @@ fn put_demand(out: &mut Vec<u8>, status: Status) -> Result<(), AllocError>
     }
 }
 
+/// Appends the field by which the end of a body is told, where there is one.
+fn put_framing(out: &mut Vec<u8>, body: Body) -> Result<(), AllocError>
+    ensures { OnOk result (out.new.items ≡ out.old.items ++ framing body) }
+{
+    let mut buffer = Buffer::new();
+    match body {
+        Body::Length(length) => put_field(out, "Content-Length", buffer.format(length)),
+        Body::Chunked => put_field(out, "Transfer-Encoding", "chunked"),
+        Body::UntilClose => Ok(()),
+    }
+}
+
 /// Appends the fields that tell of the body and of the connection.
 fn put_facts(out: &mut Vec<u8>, answer: Answer) -> Result<(), AllocError>
     ensures { OnOk result (out.new.items ≡ out.old.items ++ facts answer) }
 {
-    let mut buffer = Buffer::new();
     put_field(out, "Content-Type", kind_text(answer.kind))?;
-    put_field(out, "Content-Length", buffer.format(answer.length))?;
+    put_framing(out, answer.body)?;
     put_field(out, "Connection", connection_text(answer.keeps_open))?;
     Ok(())
 }
@@ -132,8 +143,8 @@ pub(crate) fn head_text(alloc: Global, answer: Answer) -> Result<Vec<u8>, AllocE
 }
 
 /// Appends the head of an answer, with the empty line behind it (RFC 9112, 4 and 5): the status,
-/// and fields for what the body is, its length and whether the connection is kept; no cache keeps
-/// it, and a page in it loads nothing but its own style, has no script and isn't shown in another.
+/// and fields for what the body is, how its end is told and whether the connection is kept; no cache
+/// keeps it, and a page in it loads nothing but its own style, has no script and isn't shown in another.
 /// With 401 it asks for Basic credentials in UTF-8 (RFC 7617, 2), with 405 it tells GET and HEAD.
 /// The one error is that memory ran out, and then nothing is appended.
 pub fn put_head(alloc: Global, out: &mut Vec<u8>, answer: Answer) -> Result<(), AllocError>

@@ -55,6 +55,8 @@ pub struct Request {
     pub credentials: Option<Credentials>,
     /// The connection may be kept for a next request (RFC 9112, 9.3).
     pub keeps_open: bool,
+    /// Its answer may come in chunks: it is of HTTP/1.1 (RFC 9112, 6.1).
+    pub takes_chunks: bool,
     /// How many bytes it took.
     pub length: usize,
 }
@@ -92,8 +94,16 @@ pub enum Refusal {
     /// A part of the query is wrong (400).
     Part(Part),
     /// The Authorization field isn't Basic with the base64 of a name, a colon and a password, or
-    /// stands twice (401).
+    /// stands twice, or who asks isn't let in (401).
     Credentials,
+    /// There is no variable of this node id (404).
+    Unknown,
+    /// The archive met a fault of its store (503).
+    Store,
+    /// A value of a history has no text (500).
+    NoText,
+    /// More modifications stand at one moment than a page shows (500).
+    Crowded,
 }
 
 /// Why there is no request.

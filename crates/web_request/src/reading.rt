@@ -83,6 +83,7 @@ fn request_by(alloc: Global, head: &Head<'_>) -> Result<Request, Fault>
         head_only,
         credentials,
         keeps_open: keeps_open(head.minor, &known),
+        takes_chunks: head.minor > 0,
         length: head.length,
     })
 }

@@ -3,10 +3,18 @@
 ghost use Rattle.std.specs.Prelude.{◌≡◌, ◌++◌, IfOk, OnOk, OnErr};
 ghost use Rattle.web_request.specs.Refusals.{status_of, part_advice, advice, page_text, refusal_text};
 
-use crate::answer::{Answer, Kind, Status};
+use crate::answer::{Answer, Body, Kind, Status};
 use crate::heads::{head_text, status_text};
 use crate::page::{Part, Refusal};
 use std::alloc::{AllocError, Global};
+
+/// What is told of a value that has no text.
+const NO_TEXT: &str =
+    "A value of this history is an array, or of a type that isn't written as text.";
+
+/// What is told of too many modifications at one moment.
+const CROWDED: &str =
+    "More than 500 modifications stand at one moment: ask for them by /history.csv.";
 
 /// The status of a refusal.
 fn status_of(why: Refusal) -> Status
@@ -16,9 +24,11 @@ fn status_of(why: Refusal) -> Status
         Refusal::NotHttp | Refusal::Part(_) => Status::BadRequest,
         Refusal::TooLong => Status::FieldsTooLarge,
         Refusal::Method => Status::MethodNotAllowed,
-        Refusal::Path => Status::NotFound,
+        Refusal::Path | Refusal::Unknown => Status::NotFound,
         Refusal::Body => Status::ContentTooLarge,
         Refusal::Credentials => Status::Unauthorized,
+        Refusal::Store => Status::Unavailable,
+        Refusal::NoText | Refusal::Crowded => Status::InternalError,
     }
 }
 
@@ -48,6 +58,10 @@ fn advice(why: Refusal) -> &'static str
         Refusal::Body => "Expected a request without a body.",
         Refusal::Part(part) => part_advice(part),
         Refusal::Credentials => "Expected a name and a password by the scheme Basic.",
+        Refusal::Unknown => "There is no variable of this node id.",
+        Refusal::Store => "The archive can't be read now.",
+        Refusal::NoText => NO_TEXT,
+        Refusal::Crowded => CROWDED,
     }
 }
 
@@ -77,7 +91,7 @@ fn refusal_text(alloc: Global, why: Refusal, head_only: bool) -> Result<Vec<u8>,
     let answer = Answer {
         status: status_of(why),
         kind: Kind::Html,
-        length: page.len(),
+        body: Body::Length(page.len()),
         keeps_open: false,
     };
     let mut out = head_text(alloc, answer)?;

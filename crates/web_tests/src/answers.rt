@@ -1,7 +1,9 @@
 //! The heads of answers, and how refusals are told.
 
 use std::alloc::{AllocError, Global};
-use web_request::{Answer, Kind, Part, Refusal, Status, put_head, put_refusal};
+use web_request::{
+    Answer, Body, Kind, Part, Refusal, Status, put_chunk, put_head, put_last_chunk, put_refusal,
+};
 
 /// Whether the head of an answer is written so, behind what was there.
 fn is_head(alloc: Global, answer: Answer, text: &str) -> bool {
@@ -13,12 +15,12 @@ fn is_head(alloc: Global, answer: Answer, text: &str) -> bool {
 }
 
 /// Answers, each with its head.
-static HEADS: [(Answer, &str); 3] = [
+static HEADS: [(Answer, &str); 5] = [
     (
         Answer {
             status: Status::Success,
             kind: Kind::Csv,
-            length: 12_345,
+            body: Body::Length(12_345),
             keeps_open: true,
         },
         "HTTP/1.1 200 OK\r\nContent-Type: text/csv; charset=utf-8\r\nContent-Length: 12345\r\nConnection: keep-alive\r\nCache-Control: no-store\r\nContent-Security-Policy: default-src 'none'; style-src 'unsafe-inline'\r\nX-Content-Type-Options: nosniff\r\nX-Frame-Options: DENY\r\nReferrer-Policy: no-referrer\r\n\r\n",
@@ -27,7 +29,7 @@ static HEADS: [(Answer, &str); 3] = [
         Answer {
             status: Status::Unauthorized,
             kind: Kind::Html,
-            length: 0,
+            body: Body::Length(0),
             keeps_open: false,
         },
         "HTTP/1.1 401 Unauthorized\r\nContent-Type: text/html; charset=utf-8\r\nContent-Length: 0\r\nConnection: close\r\nCache-Control: no-store\r\nContent-Security-Policy: default-src 'none'; style-src 'unsafe-inline'\r\nX-Content-Type-Options: nosniff\r\nX-Frame-Options: DENY\r\nReferrer-Policy: no-referrer\r\nWWW-Authenticate: Basic realm=\"uahist\", charset=\"UTF-8\"\r\n\r\n",
@@ -36,10 +38,28 @@ static HEADS: [(Answer, &str); 3] = [
         Answer {
             status: Status::MethodNotAllowed,
             kind: Kind::Json,
-            length: 2,
+            body: Body::Length(2),
             keeps_open: false,
         },
         "HTTP/1.1 405 Method Not Allowed\r\nContent-Type: application/json\r\nContent-Length: 2\r\nConnection: close\r\nCache-Control: no-store\r\nContent-Security-Policy: default-src 'none'; style-src 'unsafe-inline'\r\nX-Content-Type-Options: nosniff\r\nX-Frame-Options: DENY\r\nReferrer-Policy: no-referrer\r\nAllow: GET, HEAD\r\n\r\n",
+    ),
+    (
+        Answer {
+            status: Status::Success,
+            kind: Kind::Csv,
+            body: Body::Chunked,
+            keeps_open: false,
+        },
+        "HTTP/1.1 200 OK\r\nContent-Type: text/csv; charset=utf-8\r\nTransfer-Encoding: chunked\r\nConnection: close\r\nCache-Control: no-store\r\nContent-Security-Policy: default-src 'none'; style-src 'unsafe-inline'\r\nX-Content-Type-Options: nosniff\r\nX-Frame-Options: DENY\r\nReferrer-Policy: no-referrer\r\n\r\n",
+    ),
+    (
+        Answer {
+            status: Status::Success,
+            kind: Kind::Csv,
+            body: Body::UntilClose,
+            keeps_open: false,
+        },
+        "HTTP/1.1 200 OK\r\nContent-Type: text/csv; charset=utf-8\r\nConnection: close\r\nCache-Control: no-store\r\nContent-Security-Policy: default-src 'none'; style-src 'unsafe-inline'\r\nX-Content-Type-Options: nosniff\r\nX-Frame-Options: DENY\r\nReferrer-Policy: no-referrer\r\n\r\n",
     ),
 ];
 
@@ -60,7 +80,7 @@ fn told(alloc: Global, why: Refusal, head_only: bool) -> Result<Vec<u8>, AllocEr
 }
 
 /// Refusals, each with how its answer begins, and a line of its page.
-static TOLD: [(Refusal, &str, &str); 12] = [
+static TOLD: [(Refusal, &str, &str); 16] = [
     (
         Refusal::NotHttp,
         "HTTP/1.1 400 Bad Request\r\n",
@@ -121,6 +141,26 @@ static TOLD: [(Refusal, &str, &str); 12] = [
         "HTTP/1.1 400 Bad Request\r\n",
         "\n<p>Expected each of node, from, to and changes once.</p>",
     ),
+    (
+        Refusal::Unknown,
+        "HTTP/1.1 404 Not Found\r\n",
+        "\n<p>There is no variable of this node id.</p>",
+    ),
+    (
+        Refusal::Store,
+        "HTTP/1.1 503 Service Unavailable\r\n",
+        "\n<p>The archive can't be read now.</p>",
+    ),
+    (
+        Refusal::NoText,
+        "HTTP/1.1 500 Internal Server Error\r\n",
+        "\n<p>A value of this history is an array, or of a type that isn't written as text.</p>",
+    ),
+    (
+        Refusal::Crowded,
+        "HTTP/1.1 500 Internal Server Error\r\n",
+        "\n<p>More than 500 modifications stand at one moment: ask for them by /history.csv.</p>",
+    ),
 ];
 
 /// Whether a refusal is told so: by a page, and by its head alone.
@@ -155,6 +195,27 @@ fn a_refusal_is_told_whole(rt: HostRuntime) -> Result<(), AllocError> {
     assert_eq!(rt;
         text.as_slice(),
         b"HTTP/1.1 405 Method Not Allowed\r\nContent-Type: text/html; charset=utf-8\r\nContent-Length: 188\r\nConnection: close\r\nCache-Control: no-store\r\nContent-Security-Policy: default-src 'none'; style-src 'unsafe-inline'\r\nX-Content-Type-Options: nosniff\r\nX-Frame-Options: DENY\r\nReferrer-Policy: no-referrer\r\nAllow: GET, HEAD\r\n\r\n<!DOCTYPE html>\n<html lang=\"en\">\n<head><meta charset=\"utf-8\"><title>405 Method Not Allowed</title></head>\n<body><h1>405 Method Not Allowed</h1>\n<p>Expected GET or HEAD.</p></body>\n</html>\n".as_slice()
+    );
+    Ok(())
+}
+
+/// Pieces as chunks, and the last chunk.
+fn chunks(alloc: Global, pieces: &[&[u8]]) -> Result<Vec<u8>, AllocError> {
+    let mut out = Vec::new(alloc);
+    for piece in pieces {
+        put_chunk(&mut out, piece)?;
+    }
+    put_last_chunk(&mut out)?;
+    Ok(out)
+}
+
+#[test]
+fn pieces_are_chunks(rt: HostRuntime) -> Result<(), AllocError> {
+    let alloc = rt.alloc();
+    let text = chunks(alloc, &[b"Wiki", b"", b"pedia in\n\nchunks."])?;
+    assert_eq!(rt;
+        text.as_slice(),
+        b"4\r\nWiki\r\n11\r\npedia in\n\nchunks.\r\n0\r\n\r\n".as_slice()
     );
     Ok(())
 }
