@@ -16,12 +16,15 @@ static ROWS: [(&str, &str); 6] = [
          application = ''\nnamespace = ''\nanonymous = false\n\
          [[user]]\nname = 'ann'\npassword = 'pw'\n\
          [[peer]]\naddress = '10.1.0.2:4841'\nevery = 60\n\
-         [door]\nlisten = '10.1.0.1:4841'\n",
+         [door]\nlisten = '10.1.0.1:4841'\n\
+         [web]\nlisten = '10.1.0.1:8080'\n",
         "store /var/plant.db\n\
          listens at 0.0.0.0:4840; clients are told opc.tcp://plant-a:4840\n\
          there are users with a name; without a name: not allowed\n\
          0 variables, 0 folders\n\
-         1 peer is called; the door listens at 10.1.0.1:4841\n",
+         1 peer is called; the door listens at 10.1.0.1:4841\n\
+         browsers come to 10.1.0.1:8080, 8 at a time\n\
+         warning: browsers send passwords unencrypted: have a proxy with TLS in front of [web]\n",
     ),
     (
         "[server]\nlisten = '0.0.0.0:4840'\nurl = 'opc.tcp://localhost:4840'\n\
@@ -37,12 +40,14 @@ static ROWS: [(&str, &str); 6] = [
     ),
     (
         "store = 'plant.db'\n[server]\nlisten = '127.0.0.1:4840'\nurl = 'opc.tcp://127.0.0.1:4840'\n\
-         application = ''\nnamespace = ''\nanonymous = true\nanonymous_access = 'read'\n",
+         application = ''\nnamespace = ''\nanonymous = true\nanonymous_access = 'read'\n\
+         [web]\nlisten = '0.0.0.0:80'\nconnections = 100\n",
         "store plant.db\n\
          listens at 127.0.0.1:4840; clients are told opc.tcp://127.0.0.1:4840\n\
          there are no users with a name; without a name: allowed, reads only\n\
          0 variables, 0 folders\n\
          0 peers are called; peers come to the clients' address\n\
+         browsers come to 0.0.0.0:80, 100 at a time\n\
          warning: nobody may write: there are no users with a name, and others may not\n\
          warning: the store's path is relative: from another folder it makes a new, empty archive\n",
     ),

@@ -5,6 +5,7 @@ use Rattle.uuid.specs.Text.{hyphenated_text, lower}
 use Rattle.ua_session.specs.Users.{Allowed}
 use Rattle.ua_session.specs.declared.identity.Access.TheVariants.{Read, Write}
 use Rattle.ua_settings.specs.declared.door.DoorSettings.{DoorSettings}
+use Rattle.ua_settings.specs.declared.web.WebSettings.{WebSettings}
 use Rattle.ua_settings.specs.Settings.{SettingsValues}
 use Rattle.ua_space.specs.declared.layout.Layout.{Layout}
 use Rattle.history_report.specs.Tables.{legible}
@@ -72,8 +73,22 @@ door_words door =
 abbrev pub peers_line : SettingsValues → List ℕ
 peers_line s = called_words (length s.peers) ++ door_words s.door
 
--- what settings say
-abbrev pub settings_facts : SettingsValues → List (List ℕ)
-settings_facts s =
+-- where browsers come to it, and how many of their connections are served at a time
+abbrev pub web_line : WebSettings → List ℕ
+web_line own =
+    codes "browsers come to " ++ legible own.listen ++ codes ", "
+    ++ decimal own.connections ++ codes " at a time"
+
+-- the same, where they come
+abbrev pub web_facts : Option WebSettings → List (List ℕ)
+web_facts web = elim web [ None ↦ [] | Some own ↦ web_line own ∷ [] ]
+
+-- what all settings say
+abbrev pub plain_facts : SettingsValues → List (List ℕ)
+plain_facts s =
     archive_line s ∷ store_line s ∷ listen_line s ∷ users_line s.users ∷ variables_line s.space
     ∷ peers_line s ∷ []
+
+-- what settings say
+abbrev pub settings_facts : SettingsValues → List (List ℕ)
+settings_facts s = plain_facts s ++ web_facts s.web

@@ -70,6 +70,13 @@ door_warning s =
     warned (is_none s.door && not (is_local s.listen))
     (codes "there is no [door], so whoever reaches the clients' address can exchange records")
 
+-- browsers elsewhere send names and passwords as they are
+abbrev pub web_warning : SettingsValues → List (List ℕ)
+web_warning s =
+    warned (nat_lt 0 (length s.users.named)
+    && option_map_or (λ web. not (is_local web.listen)) s.web false)
+    (codes "browsers send passwords unencrypted: have a proxy with TLS in front of [web]")
+
 -- the store's path is taken from the folder in which the program is started
 abbrev pub path_warning : SettingsValues → List (List ℕ)
 path_warning s =
@@ -101,4 +108,4 @@ own_warnings s peers = flat_map (own_warning s) peers
 abbrev pub warnings : SettingsValues → List (List ℕ)
 warnings s =
     scheme_warning s ++ local_warning s ++ nobody_warning s ++ anonymous_warning s
-    ++ door_warning s ++ path_warning s ++ repeated_warnings s.peers ++ own_warnings s s.peers
+    ++ door_warning s ++ web_warning s ++ path_warning s ++ repeated_warnings s.peers ++ own_warnings s s.peers

@@ -4,13 +4,13 @@ ghost use Rattle.std.specs.Prelude.{◌≡◌, ◌++◌, length, IfOk, OnOk};
 ghost use Rattle.std.specs.Option.{option_copied};
 ghost use Rattle.settings_check.specs.Texts.{text_of};
 ghost use Rattle.settings_check.specs.Nodes.{variable_ids};
-ghost use Rattle.settings_check.specs.Facts.{archive_line, store_line, listen_line, users_line, named_words, anonymous_words, variables_line, called_words, door_words, peers_line, settings_facts};
+ghost use Rattle.settings_check.specs.Facts.{archive_line, store_line, listen_line, users_line, named_words, anonymous_words, variables_line, called_words, door_words, peers_line, web_line, web_facts, plain_facts, settings_facts};
 
 use crate::nodes::{folders_of, variables_of};
 use crate::texts::{put_counted, put_number, put_shown};
 use std::alloc::{AllocError, Global};
 use ua_session::{Access, Users};
-use ua_settings::{DoorSettings, Settings};
+use ua_settings::{DoorSettings, Settings, WebSettings};
 use ua_space::Space;
 use uuid::Uuid;
 
@@ -144,13 +144,32 @@ fn put_peers(out: &mut Vec<u8>, settings: &Settings) -> Result<(), AllocError>
     put_door(out, settings.door())
 }
 
-/// Appends what settings say.
-pub(crate) fn put_facts(
-    alloc: Global,
-    out: &mut Vec<u8>,
-    settings: &Settings,
-) -> Result<(), AllocError>
-    ensures { OnOk result (out.new.items ≡ out.old.items ++ text_of (settings_facts settings.now)) }
+/// Appends where browsers come to it, and how many of their connections are served at a time.
+fn put_browsers(out: &mut Vec<u8>, own: &WebSettings) -> Result<(), AllocError>
+    ensures { OnOk result (out.new.items ≡ out.old.items ++ web_line own.now) }
+{
+    out.extend_from_slice(b"browsers come to ")?;
+    put_shown(out, own.listen.as_str())?;
+    out.extend_from_slice(b", ")?;
+    put_number(out, u64::from(own.connections))?;
+    out.extend_from_slice(b" at a time")
+}
+
+/// Appends the same, where they come.
+fn put_web(out: &mut Vec<u8>, web: Option<&WebSettings>) -> Result<(), AllocError>
+    ensures { OnOk result
+        (out.new.items ≡ out.old.items ++ text_of (web_facts (option_copied web.entry))) }
+{
+    let Some(own) = web else {
+        return Ok(());
+    };
+    put_browsers(out, own)?;
+    out.extend_from_slice(b"\n")
+}
+
+/// Appends what all settings say.
+fn put_plain(alloc: Global, out: &mut Vec<u8>, settings: &Settings) -> Result<(), AllocError>
+    ensures { OnOk result (out.new.items ≡ out.old.items ++ text_of (plain_facts settings.now)) }
 {
     put_archive(out, settings)?;
     out.push(b'\n')?;
@@ -164,4 +183,16 @@ pub(crate) fn put_facts(
     out.push(b'\n')?;
     put_peers(out, settings)?;
     out.extend_from_slice(b"\n")
+}
+
+/// Appends what settings say.
+pub(crate) fn put_facts(
+    alloc: Global,
+    out: &mut Vec<u8>,
+    settings: &Settings,
+) -> Result<(), AllocError>
+    ensures { OnOk result (out.new.items ≡ out.old.items ++ text_of (settings_facts settings.now)) }
+{
+    put_plain(alloc, out, settings)?;
+    put_web(out, settings.web())
 }

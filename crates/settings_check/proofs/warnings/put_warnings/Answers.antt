@@ -1,7 +1,7 @@
 use Rattle.std.proofs.Common.{◌≡◌, ◌++◌, List, ◌∙◌, OnOk, subst}
 use Rattle.ua_settings.specs.declared.peers.PeerCall.{PeerCall}
 use Rattle.settings_check.specs.Texts.{text_of}
-use Rattle.settings_check.specs.Warnings.{scheme_warning, local_warning, nobody_warning, anonymous_warning, door_warning, path_warning, repeated_warnings, own_warnings}
+use Rattle.settings_check.specs.Warnings.{scheme_warning, local_warning, nobody_warning, anonymous_warning, door_warning, web_warning, path_warning, repeated_warnings, own_warnings}
 use Rattle.settings_check.proofs.TextLemmas.{next, next-last}
 use Rattle.settings_check.proofs.warnings.put_warnings.Goals as goal
 
@@ -15,6 +15,7 @@ returns c =
     next-last result _ seventh new _ (own_warnings s s.peers)
     (next _ sixth seventh _ (repeated_warnings s.peers)
     (next _ _ sixth _ (path_warning s)
+    (next _ _ _ _ (web_warning s)
     (next _ _ _ _ (door_warning s)
     (next _ _ _ _ (anonymous_warning s)
     (next _ _ _ _ (nobody_warning s)
@@ -23,6 +24,7 @@ returns c =
     c.in_ok-put_nobody.ensures)
     c.in_ok-put_anonymous.ensures)
     c.in_ok-put_door.ensures)
+    c.in_ok-put_web.ensures)
     c.in_ok-put_path.ensures)
     (subst (λ (l : List PeerCall). seventh ≡ sixth ++ text_of (repeated_warnings l))
     (c.as_slice.ensures ∙ c.peers.ensures) c.in_ok-put_repeated.ensures))
