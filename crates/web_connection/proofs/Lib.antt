@@ -1,0 +1,5 @@
+mod AccessLemmas
+mod StatusLemmas
+mod AskingLemmas
+mod PageLemmas
+mod StepLemmas

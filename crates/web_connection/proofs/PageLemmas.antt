@@ -1,0 +1,218 @@
+-- What is told of what was found.
+use Rattle.std.proofs.Common.{◌≡◌, ℕ, Bool, List, [], ◌∷◌, ◌++◌, Option, None, Some, Result, Ok, Err, true, false, inr, refl, sym, subst, ap, ◌∙◌}
+use Rattle.std.specs.Prelude.{⊤, MatchResult}
+use Rattle.std.specs.declared.alloc.AllocError.{AllocError}
+use Rattle.http1.specs.Encoder.{piece_text}
+use Rattle.stamp.specs.Numbers.{number_of}
+use Rattle.records.specs.Contents.{Content, vec}
+use Rattle.archive.specs.Store.{Store}
+use Rattle.archive.specs.declared.fault.StoreFault.{StoreFault}
+use Rattle.history_report.specs.declared.fault.PartFault.{PartFault}
+use Rattle.history_report.specs.declared.fault.PartFault.TheVariants as part
+use Rattle.history_report.specs.declared.fault.ReportFault.{ReportFault}
+use Rattle.history_report.specs.declared.report.Form.TheVariants as form
+use Rattle.history_report.specs.declared.report.Report.{Report}
+use Rattle.history_report.specs.Paging.{IsPut}
+use Rattle.history_report.specs.Reports.{IsHeader, changes_asked, report_faults}
+use Rattle.history_report.specs.Parts.{AreCrowded, IsFirstPart, PutsPart, ReadsPart}
+use Rattle.history_report.specs.Portions.{Begins, Remainder, IsPortion, IsWhole, ending}
+use Rattle.settings_check.specs.Stored.{IsVectorOf, Reads}
+use Rattle.web_page.specs.declared.fault.PageFault.{PageFault}
+use Rattle.web_page.specs.Front.{page_faults}
+use Rattle.ua_settings.specs.Settings.{SettingsValues}
+use Rattle.web_request.specs.Refusals.{refusal_text}
+use Rattle.web_request.specs.declared.answer.Kind.{Kind}
+use Rattle.web_request.specs.declared.answer.Kind.TheVariants.{Html, Json}
+use Rattle.web_request.specs.declared.page.Page.{Page}
+use Rattle.web_request.specs.declared.page.Question.{Question}
+use Rattle.web_request.specs.declared.page.Refusal.{Refusal}
+use Rattle.web_request.specs.declared.page.Refusal.TheVariants as why
+use Rattle.web_request.specs.declared.page.Request.{Request}
+use Rattle.web_connection.specs.Answers.{BeginsCsv, GoesOn, IsCrowded, IsHistoryPage, IsPortionText, OnlyAsks, Makes, TellsCsv, rest_of, TellsAsked, TellsPage, TellsRefusal, TellsStore, AnswersRequest, refusal_of, report_of}
+use Rattle.web_connection.specs.Status.{status_text}
+use Rattle.web_connection.specs.Texts.{page_text, csv_head, coding_of}
+use Rattle.web_connection.specs.declared.sending.Sending.{Sending}
+use Rattle.web_connection.specs.declared.sending.Told.{Told}
+use Rattle.web_connection.proofs.AskingLemmas.{made-as, one-fault, only-asked, reads-of}
+
+-- a page that was put behind nothing
+pub page-told : (kind : Kind) (head_only : Bool) (IsPage : List ℕ → Type 0)
+    (empty page text : List ℕ) → empty ≡ [] → text ≡ page → IsPut empty page IsPage
+    → TellsPage kind head_only IsPage [] (page_text kind text head_only)
+page-told kind head_only IsPage empty page text none same (line, puts, holds) =
+    inr (
+      refl,
+      line,
+      holds,
+      ap (λ p. page_text kind p head_only) (same ∙ (puts ∙ ap (λ e. e ++ line) none)),
+    )
+
+-- a fault of the store
+pub store-told : (head_only : Bool) (fault : StoreFault)
+    → TellsStore head_only (fault ∷ []) (refusal_text why.Store head_only)
+store-told head_only fault = (one-fault fault, refl)
+
+-- how the server does
+pub state-told : (s : SettingsValues) (R : Content) (head_only : Bool) (numbers : List ℕ)
+    → IsVectorOf numbers R → TellsPage Json head_only (λ page. page ≡ status_text s (vec R)) []
+    (page_text Json (status_text s (number_of numbers)) head_only)
+state-told s R head_only numbers same =
+    inr (
+      refl,
+      status_text s (number_of numbers),
+      ap (status_text s) (λ i replica. same replica i),
+      refl,
+    )
+
+-- a history that is begun
+pub csv-begun : (R : Content) (question : Question) (report : Report) (chunked : Bool)
+    (left : Remainder) (empty names sent text : List ℕ) → report ≡ report_of question form.Csv
+    → empty ≡ [] → sent ≡ names → IsPut empty names (IsHeader report)
+    → text ≡ csv_head chunked ++ piece_text (coding_of chunked) sent → IsWhole report left R
+    → BeginsCsv R question chunked text (Some (record { portions = left; chunked = chunked }))
+csv-begun R question report chunked left empty names sent text asked none same (line, puts, holds) told whole = (
+  line,
+  subst (λ (r : Report). IsHeader r line) asked holds,
+  told ∙ ap (λ p. csv_head chunked ++ piece_text (coding_of chunked) p)
+      (same ∙ (puts ∙ ap (λ e. e ++ line) none)),
+  left,
+  subst (λ (r : Report). IsWhole r left R) asked whole,
+  refl,
+)
+
+-- the first part of a history
+pub history-told : (R : Content) (question : Question) (report : Report) (head_only : Bool)
+    (empty page text : List ℕ) → report ≡ report_of question form.Page → empty ≡ []
+    → text ≡ page → PutsPart report empty page R
+    → TellsPage Html head_only (IsHistoryPage R question) [] (page_text Html text head_only)
+history-told R question report head_only empty page text asked none same shown =
+    let puts = shown.2 in
+    inr (
+      refl,
+      puts.0,
+      (shown.0, subst (λ (r : Report). IsFirstPart R r shown.0) asked shown.1, puts.2),
+      ap (λ p. page_text Html p head_only) (same ∙ (puts.1 ∙ ap (λ e. e ++ puts.0) none)),
+    )
+
+-- what a request is answered, by why it is refused
+abbrev Judged : SettingsValues → Content → Request → Option Refusal → List StoreFault → List ℕ
+    → Option Sending → Type 0
+Judged s R request judged faults text sending =
+    elim judged [
+      | Some cause ↦ TellsRefusal cause request.head_only faults text × (sending ≡ None)
+      | None ↦ TellsAsked s R request.page request.head_only request.takes_chunks faults text
+          sending
+    ]
+
+-- a request that is refused
+pub refused : (s : SettingsValues) (R : Content) (request : Request) (judged : Option Refusal)
+    (cause : Refusal) (text : List ℕ) → judged ≡ refusal_of s request → judged ≡ Some cause
+    → text ≡ refusal_text cause request.head_only → AnswersRequest s R request [] text None
+refused s R request judged cause text by is told =
+    subst (λ (o : Option Refusal). Judged s R request o [] text None) (sym is ∙ by)
+    ((refl, told), refl)
+
+-- one that isn't
+pub taken : (s : SettingsValues) (R : Content) (request : Request) (judged : Option Refusal)
+    (faults : List StoreFault) (text : List ℕ) (sending : Option Sending)
+    → judged ≡ refusal_of s request → judged ≡ None
+    → TellsAsked s R request.page request.head_only request.takes_chunks faults text sending
+    → AnswersRequest s R request faults text sending
+taken s R request judged faults text sending by is told =
+    subst (λ (o : Option Refusal). Judged s R request o faults text sending) (sym is ∙ by) told
+
+-- the page that is asked for
+pub asked-as : (s : SettingsValues) (R : Content) (asked page : Page) (head_only chunked : Bool)
+    (faults : List StoreFault) (text : List ℕ) (sending : Option Sending) → asked ≡ page
+    → TellsAsked s R page head_only chunked faults text sending
+    → TellsAsked s R asked head_only chunked faults text sending
+asked-as s R asked page head_only chunked faults text sending is told =
+    subst (λ (p : Page). TellsAsked s R p head_only chunked faults text sending) (sym is) told
+
+-- a history that is crowded
+pub crowded-told : (R : Content) (question : Question) (report : Report)
+    → report ≡ report_of question form.Page
+    → (report.changes ≡ true) × AreCrowded (changes_asked R report) → IsCrowded R question
+crowded-told R question report asked crowds =
+    subst (λ (r : Report). (r.changes ≡ true) × AreCrowded (changes_asked R r)) asked crowds
+
+-- ---- what was asked where nothing is made
+
+-- a front page was made, or not
+pub front-asks : (s t : Store) (result : Result (Unit {0}) PageFault) (P : Content → Type 0)
+    → MatchResult result (λ done. Reads s t [] P)
+    (λ why. Reads s t (page_faults why) (λ R. ⊤)) → OnlyAsks s t
+front-asks s t (Ok done) P reads = only-asked s t [] P reads
+front-asks s t (Err why) P reads = only-asked s t (page_faults why) (λ R. ⊤) reads
+
+-- a history was begun, or not
+pub begin-asks : (report : Report) (s t : Store) (result : Result Remainder ReportFault)
+    → Begins report s t result → OnlyAsks s t
+begin-asks report s t (Ok left) begins =
+    only-asked s t [] (λ R. IsWhole report left R) (reads-of s t (λ R. IsWhole report left R) begins)
+begin-asks report s t (Err why) begins =
+    only-asked s t (report_faults (Err why)) (λ R. Unit {0}) begins.1
+
+-- a part of a history was made, or not
+pub part-asks : (s t : Store) (result : Result (Unit {0}) PartFault) (Crowds : Content → Type 0)
+    (Holds : Unit {0} → Content → Type 0) → ReadsPart s t result Crowds Holds → OnlyAsks s t
+part-asks s t (Ok done) Crowds Holds reads = only-asked s t [] (Holds done) reads
+part-asks s t (Err part.Crowded) Crowds Holds reads = only-asked s t [] Crowds reads
+part-asks s t (Err (part.Report why)) Crowds Holds reads =
+    only-asked s t (report_faults (Err why)) (λ R. Unit {0}) reads.1
+
+-- ---- a portion
+
+-- a portion that is sent
+pub portion-told : (R : Content) (was : Sending) (now : Remainder) (result : Result Bool ReportFault)
+    (empty portion sent text : List ℕ) (sending : Option Sending) → empty ≡ []
+    → sent ≡ portion → IsPortion was.portions now R empty portion result
+    → IsPortionText was.chunked sent result text → sending ≡ rest_of was.chunked now result
+    → GoesOn R was (report_faults (ending result)) text sending
+portion-told R was now result empty portion sent text sending none same puts told rest = (
+  portion,
+  now,
+  result,
+  refl,
+  subst (λ (e : List ℕ). IsPortion was.portions now R e portion result) none puts,
+  subst (λ (p : List ℕ). IsPortionText was.chunked p result text) same told,
+  rest,
+)
+
+-- a fault of the store, by the text that tells it
+pub store-refused : (head_only : Bool) (fault : StoreFault) (text : List ℕ)
+    → text ≡ refusal_text why.Store head_only → TellsStore head_only (fault ∷ []) text
+store-refused head_only fault text told = (one-fault fault, told)
+
+-- ---- what is told by another step
+
+-- what is told is told so, too
+pub result-as : (s t : Store) (result : Result Told AllocError)
+    (P Q : Content → List StoreFault → List ℕ → Option Sending → Type 0)
+    → ((R : Content) (faults : List StoreFault) (text : List ℕ) (sending : Option Sending)
+    → P R faults text sending → Q R faults text sending)
+    → MatchResult result (λ told. Makes s t (λ R faults. P R faults told.text.items told.sending))
+    (λ starved. OnlyAsks s t)
+    → MatchResult result (λ told. Makes s t (λ R faults. Q R faults told.text.items told.sending))
+    (λ starved. OnlyAsks s t)
+result-as s t (Ok told) P Q says made =
+    made-as s t (λ (R : Content) (faults : List StoreFault). P R faults told.text.items told.sending)
+    (λ (R : Content) (faults : List StoreFault). Q R faults told.text.items told.sending)
+    (λ R faults p. says R faults told.text.items told.sending p) made
+result-as s t (Err starved) P Q says asks = asks
+
+-- the head of a history alone
+pub csv-alone : (R : Content) (question : Question) (head_only chunked : Bool) (text : List ℕ)
+    → head_only ≡ true → text ≡ csv_head chunked
+    → TellsCsv R question head_only chunked [] text None
+csv-alone R question head_only chunked text alone told =
+    subst (λ (b : Bool). TellsCsv R question b chunked [] text None) (sym alone)
+    (refl, told, refl)
+
+-- a history that is begun, or can't be read now
+pub csv-goes : (R : Content) (question : Question) (head_only chunked : Bool)
+    (faults : List StoreFault) (text : List ℕ) (sending : Option Sending) → head_only ≡ false
+    → TellsCsv R question false chunked faults text sending
+    → TellsCsv R question head_only chunked faults text sending
+csv-goes R question head_only chunked faults text sending whole told =
+    subst (λ (b : Bool). TellsCsv R question b chunked faults text sending) (sym whole) told

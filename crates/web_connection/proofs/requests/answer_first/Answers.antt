@@ -1,0 +1,49 @@
+use Rattle.std.proofs.Common.{◌≡◌, List, [], Option, Ok, Err, inl, inr, refl, subst}
+use Rattle.records.specs.Contents.{Content}
+use Rattle.archive.specs.declared.fault.StoreFault.{StoreFault}
+use Rattle.web_request.specs.Requests.{Reads as IsRead}
+use Rattle.web_request.specs.declared.page.Request.{Request}
+use Rattle.web_request.specs.declared.page.RequestFault.{RequestFault}
+use Rattle.web_connection.specs.Answers.{AnswersRequest}
+use Rattle.web_connection.proofs.AskingLemmas.{made-alone, made-as}
+use Rattle.web_connection.proofs.requests.answer_first.Goals as goal
+
+pub returns-in-Ok-None-clause-answers : goal.returns-in-Ok-None-clause-answers
+returns-in-Ok-None-clause-answers g c =
+    let state = g.A.Archive.state in (
+      subst (λ (read : Option Request). IsRead c.args.came.now (Ok read)) c.in-Ok-None.field-0-is
+          c.in-Ok-None.ensures.reads,
+      made-alone (state c.args.archive.now) (λ R (faults : List StoreFault). faults ≡ []) (λ R. refl),
+    )
+
+pub returns-in_ok-answer_request-in-Ok-Some-clause-answers :
+    goal.returns-in_ok-answer_request-in-Ok-Some-clause-answers
+returns-in_ok-answer_request-in-Ok-Some-clause-answers g c =
+    let state = g.A.Archive.state in
+    let s = c.args.settings.now in
+    let request = c.in-Ok-Some.request in
+    let told = c.in_ok-answer_request-in-Ok-Some.field-0 in
+    made-as (state c.args.archive.now) (state c.answer_request.new.archive)
+    (λ (R : Content) (faults : List StoreFault).
+    AnswersRequest s R request faults told.text.items told.sending) _
+    (λ R faults p. inr (
+      request,
+      subst (λ (read : Option Request). IsRead c.args.came.now (Ok read))
+          c.in-Ok-Some.field-0-is c.in-Ok-Some.ensures.reads,
+      p,
+    ))
+    c.in_ok-answer_request-in-Ok-Some.ensures.answers
+
+pub returns-in_ok-refusal_text-in-Err-Refused-clause-answers :
+    goal.returns-in_ok-refusal_text-in-Err-Refused-clause-answers
+returns-in_ok-refusal_text-in-Err-Refused-clause-answers g c =
+    let state = g.A.Archive.state in
+    made-alone (state c.args.archive.now) _
+    (λ R. inl (
+      c.in-Err-Refused.why,
+      c.in-Err-Refused.head_only,
+      subst (λ (fault : RequestFault).
+          IsRead c.args.came.now (Err fault)) c.in-Err-Refused.field-0-is c.in-Err-Refused.ensures.reads,
+      (refl, c.in_ok-refusal_text-in-Err-Refused.ensures),
+      refl,
+    ))

@@ -1,0 +1,31 @@
+use Rattle.std.proofs.Common.{List, ℕ, Option}
+use Rattle.records.specs.Contents.{Content}
+use Rattle.archive.specs.declared.fault.StoreFault.{StoreFault}
+use Rattle.web_connection.specs.Answers.{AnswersRequest, TellsAsked}
+use Rattle.web_connection.specs.declared.sending.Sending.{Sending}
+use Rattle.web_connection.proofs.AskingLemmas.{made-alone}
+use Rattle.web_connection.proofs.PageLemmas.{refused, result-as, taken}
+use Rattle.web_connection.proofs.requests.answer_request.Goals as goal
+
+pub returns-in_ok-refusal_text-in-Some-clause-answers :
+    goal.returns-in_ok-refusal_text-in-Some-clause-answers
+returns-in_ok-refusal_text-in-Some-clause-answers g c =
+    let state = g.A.Archive.state in
+    let s = c.args.settings.now in
+    made-alone (state c.args.archive.now) _
+    (λ R. refused s R c.args.request c.refusal_of.result c.in-Some.why
+    c.in_ok-refusal_text-in-Some.field-0.items c.refusal_of.ensures c.in-Some.is
+    c.in_ok-refusal_text-in-Some.ensures)
+
+pub returns-in-None-clause-answers : goal.returns-in-None-clause-answers
+returns-in-None-clause-answers g c =
+    let state = g.A.Archive.state in
+    let s = c.args.settings.now in
+    let request = c.args.request in
+    result-as (state c.args.archive.now) (state c.told_request.new.archive) c.told_request.result
+    (λ (R : Content) (faults : List StoreFault) (text : List ℕ) (sending : Option Sending).
+    TellsAsked s R request.page request.head_only request.takes_chunks faults text sending)
+    (λ (R : Content) (faults : List StoreFault) (text : List ℕ) (sending : Option Sending).
+    AnswersRequest s R request faults text sending)
+    (λ R faults text sending p. taken s R request c.refusal_of.result faults text sending
+    c.refusal_of.ensures c.in-None.is p) c.told_request.ensures.answers

@@ -1,0 +1,262 @@
+-- What a browser's connection is answered.
+use Rattle.std.specs.Prelude.{◌≡◌, ◌≢◌, ◌⊎◌, ⊤, ℕ, Bool, true, false, List, [], ◌++◌, Option, None, Some, is_some, not, Result, Ok, Err, if◌then◌else◌}
+use Rattle.std.specs.declared.alloc.AllocError.{AllocError}
+use Rattle.http1.specs.Encoder.{piece_text, end_text}
+use Rattle.records.specs.Contents.{Content, vec}
+use Rattle.archive.specs.Store.{Store}
+use Rattle.archive.specs.declared.fault.StoreFault.{StoreFault}
+use Rattle.ua_space.specs.declared.layout.Layout.{Layout}
+use Rattle.ua_space.specs.Space.{value_type_at}
+use Rattle.ua_binary.specs.declared.values.NodeId.{NodeId}
+use Rattle.ua_settings.specs.Settings.{SettingsValues}
+use Rattle.history_report.specs.declared.fault.ReportFault.{ReportFault}
+use Rattle.history_report.specs.declared.fault.ReportFault.TheVariants as fault
+use Rattle.history_report.specs.declared.report.Form.{Form}
+use Rattle.history_report.specs.declared.report.Form.TheVariants as form
+use Rattle.history_report.specs.declared.report.Report.{Report}
+use Rattle.history_report.specs.Reports.{IsHeader, report_faults, changes_asked}
+use Rattle.history_report.specs.Parts.{AreCrowded, IsFirstPart, IsPrinted}
+use Rattle.history_report.specs.Portions.{Remainder, IsWhole, IsPortion, ending}
+use Rattle.settings_check.specs.Stored.{Reads}
+use Rattle.web_page.specs.Front.{IsFront}
+use Rattle.web_request.specs.Refusals.{refusal_text}
+use Rattle.web_request.specs.Requests.{Reads as IsRead, IsCut}
+use Rattle.web_request.specs.declared.answer.Kind.{Kind}
+use Rattle.web_request.specs.declared.answer.Kind.TheVariants.{Html, Json}
+use Rattle.web_request.specs.declared.page.Page.{Page}
+use Rattle.web_request.specs.declared.page.Page.TheVariants as page
+use Rattle.web_request.specs.declared.page.Question.{Question}
+use Rattle.web_request.specs.declared.page.Refusal.{Refusal}
+use Rattle.web_request.specs.declared.page.Refusal.TheVariants as why
+use Rattle.web_request.specs.declared.page.Request.{Request}
+use Rattle.web_request.specs.declared.page.RequestFault.TheVariants.{Refused}
+use Rattle.web_connection.specs.Access.{is_let_in}
+use Rattle.web_connection.specs.Texts.{page_text, csv_head, coding_of}
+use Rattle.web_connection.specs.Status.{status_text}
+use Rattle.web_connection.specs.declared.sending.Sending.{Sending}
+use Rattle.web_connection.specs.declared.step.WebStep.{WebStep}
+use Rattle.web_connection.specs.declared.step.WebStep.TheVariants.{NeedsInput, Continues, Ended}
+
+-- ---- what a connection keeps
+
+-- the bytes that came of its request, and what of a history is still to be sent, if one is being
+-- sent
+pub record WebState : Type 0 where
+  pub came : List ℕ
+  pub sending : Option Sending
+
+-- the same by its parts
+abbrev pub web_of : (came : List ℕ) → Option Sending → WebState
+web_of came sending = record { came = came; sending = sending }
+
+-- nothing came, and nothing is being sent
+abbrev pub new_web : WebState
+new_web = web_of [] None
+
+-- with the next bytes of the browser; what comes while a history is being sent is left aside
+abbrev pub with_input : WebState → List ℕ → WebState
+with_input web bytes =
+    elim web.sending [ None ↦ record web { came = web.came ++ bytes } | Some sending ↦ web ]
+
+-- nothing is being sent, and what came is no whole head, and may become one
+abbrev pub NeedsRequest : WebState → Type 0
+NeedsRequest web = (web.sending ≡ None) × IsCut web.came
+
+-- ---- answers that end at once
+
+-- this refusal is told, and the store met no fault
+abbrev pub TellsRefusal : Refusal → (head_only : Bool) → List StoreFault → List ℕ → Type 0
+TellsRefusal why head_only faults text = (faults ≡ []) × (text ≡ refusal_text why head_only)
+
+-- the store met a fault, and it is told that the archive can't be read now
+abbrev pub TellsStore : (head_only : Bool) → List StoreFault → List ℕ → Type 0
+TellsStore head_only faults text = (faults ≢ []) × (text ≡ refusal_text why.Store head_only)
+
+-- a page of which this holds is told, or its head alone; or that the archive can't be read now
+abbrev pub TellsPage : Kind → (head_only : Bool) → (List ℕ → Type 0) → List StoreFault → List ℕ
+    → Type 0
+TellsPage kind head_only IsPage faults text =
+    TellsStore head_only faults text
+    ⊎ ((faults ≡ []) × (page : List ℕ) × IsPage page × (text ≡ page_text kind page head_only))
+
+-- the page says how the server does, by the number of each replica's last record
+abbrev pub IsStatus : SettingsValues → Content → List ℕ → Type 0
+IsStatus s R page = page ≡ status_text s (vec R)
+
+-- ---- histories
+
+-- the settings have a variable of this id
+abbrev pub is_variable : Layout → NodeId → Bool
+is_variable space node = is_some (value_type_at space node)
+
+-- the report that a question asks for
+abbrev pub report_of : Question → Form → Report
+report_of question form =
+    record {
+      node = question.node;
+      from = question.from;
+      to = question.to;
+      changes = question.changes;
+      form = form;
+      next = None;
+    }
+
+-- more modifications of one moment come first than a page shows
+abbrev pub IsCrowded : Content → Question → Type 0
+IsCrowded R question =
+    (question.changes ≡ true) × AreCrowded (changes_asked R (report_of question form.Page))
+
+-- the page is the first part of a history, which leads to the rest
+abbrev pub IsHistoryPage : Content → Question → List ℕ → Type 0
+IsHistoryPage R question page =
+    (part : Report) × IsFirstPart R (report_of question form.Page) part × IsPrinted R part page
+
+-- such a page of a history is told, or that it is crowded, where it is, or that a value has no text
+abbrev pub TellsHistory : Content → Question → (head_only : Bool) → List StoreFault → List ℕ
+    → Type 0
+TellsHistory R question head_only faults text =
+    TellsPage Html head_only (IsHistoryPage R question) faults text
+    ⊎ ((IsCrowded R question × TellsRefusal why.Crowded head_only faults text)
+    ⊎ TellsRefusal why.NoText head_only faults text)
+
+-- The head of a history as CSV is told, and the names of its fields as its first portion; the whole
+-- history is still to be sent.
+abbrev pub BeginsCsv : Content → Question → (chunked : Bool) → List ℕ → Option Sending → Type 0
+BeginsCsv R question chunked text sending =
+    (names : List ℕ) × IsHeader (report_of question form.Csv) names
+    × (text ≡ csv_head chunked ++ piece_text (coding_of chunked) names)
+    × (left : Remainder) × IsWhole (report_of question form.Csv) left R
+    × (sending ≡ Some (record { portions = left; chunked = chunked }))
+
+-- a history as CSV is begun, or its head is told where that alone is asked for; or it is told that
+-- the archive can't be read now
+abbrev pub TellsCsv : Content → Question → (head_only chunked : Bool) → List StoreFault → List ℕ
+    → Option Sending → Type 0
+TellsCsv R question head_only chunked faults text sending =
+    elim head_only [
+      | true ↦ (faults ≡ []) × (text ≡ csv_head chunked) × (sending ≡ None)
+      | false ↦ (TellsStore false faults text × (sending ≡ None))
+          ⊎ ((faults ≡ []) × BeginsCsv R question chunked text sending)
+    ]
+
+-- A portion of a history as it is sent, and behind the last one the end. Where the store met a
+-- fault, or a value has no text, the history is broken off without it.
+abbrev pub IsPortionText : (chunked : Bool) → (portion : List ℕ) → Result Bool ReportFault
+    → List ℕ → Type 0
+IsPortionText chunked portion result text =
+    elim result [
+      | Ok false ↦ text ≡ piece_text (coding_of chunked) portion ++ end_text (coding_of chunked) []
+      | Err fault.OutOfMemory ↦ ⊥
+      | Err fault.Write ↦ ⊥
+      | _ ↦ text ≡ piece_text (coding_of chunked) portion
+    ]
+
+-- what is still to be sent behind a portion, where it isn't the last
+abbrev pub rest_of : (chunked : Bool) → Remainder → Result Bool ReportFault → Option Sending
+rest_of chunked left result =
+    elim result [
+      | Ok true ↦ Some (record { portions = left; chunked = chunked })
+      | _ ↦ None
+    ]
+
+-- the next portion of a history that is being sent
+abbrev pub GoesOn : Content → Sending → List StoreFault → List ℕ → Option Sending → Type 0
+GoesOn R was faults text sending =
+    (portion : List ℕ) × (now : Remainder) × (result : Result Bool ReportFault)
+    × (faults ≡ report_faults (ending result)) × IsPortion was.portions now R [] portion result
+    × IsPortionText was.chunked portion result text × (sending ≡ rest_of was.chunked now result)
+
+-- ---- a request
+
+-- a history is asked for of a node that is no variable of the settings
+abbrev pub lacks_variable : Layout → Page → Bool
+lacks_variable space asked =
+    elim asked [
+      | page.Front ↦ false
+      | page.History question ↦ not (is_variable space question.node)
+      | page.Csv question ↦ not (is_variable space question.node)
+      | page.Status ↦ false
+    ]
+
+-- why a request isn't answered by its page, if it isn't: who asks isn't let in, or there is no such
+-- variable
+abbrev pub refusal_of : SettingsValues → Request → Option Refusal
+refusal_of s request =
+    if is_let_in s request.credentials
+    then (if lacks_variable s.space request.page then Some why.Unknown else None)
+    else Some why.Credentials
+
+-- what somebody who is let in is told: the page that is asked for
+abbrev pub TellsAsked : SettingsValues → Content → Page → (head_only chunked : Bool)
+    → List StoreFault → List ℕ → Option Sending → Type 0
+TellsAsked s R asked head_only chunked faults text sending =
+    elim asked [
+      | page.Front ↦ TellsPage Html head_only (IsFront s R) faults text × (sending ≡ None)
+      | page.History question ↦ TellsHistory R question head_only faults text × (sending ≡ None)
+      | page.Csv question ↦ TellsCsv R question head_only chunked faults text sending
+      | page.Status ↦ TellsPage Json head_only (IsStatus s R) faults text × (sending ≡ None)
+    ]
+
+-- what is told of a request: why it is refused, if it is; else its page
+abbrev pub AnswersRequest : SettingsValues → Content → Request → List StoreFault → List ℕ
+    → Option Sending → Type 0
+AnswersRequest s R request faults text sending =
+    elim (refusal_of s request) [
+      | Some cause ↦ TellsRefusal cause request.head_only faults text × (sending ≡ None)
+      | None ↦ TellsAsked s R request.page request.head_only request.takes_chunks faults text
+          sending
+    ]
+
+-- what came is refused, or a request was read, which is answered
+abbrev pub AnswersFirst : SettingsValues → Content → (came : List ℕ) → List StoreFault → List ℕ
+    → Option Sending → Type 0
+AnswersFirst s R came faults text sending =
+    ((cause : Refusal) × (head_only : Bool) × IsRead came (Err (Refused cause head_only))
+    × TellsRefusal cause head_only faults text × (sending ≡ None))
+    ⊎ ((request : Request) × IsRead came (Ok (Some request))
+    × AnswersRequest s R request faults text sending)
+
+-- ---- a step
+
+-- it goes on as long as something is still to be sent
+abbrev pub step_of : Option Sending → WebStep
+step_of sending = elim sending [ None ↦ Ended | Some left ↦ Continues ]
+
+-- no whole request came, and all stays
+abbrev pub Waits : WebState → List StoreFault → List ℕ → WebState → Type 0
+Waits web faults made next = NeedsRequest web × (faults ≡ []) × (made ≡ []) × (next ≡ web)
+
+-- the answer to a request is begun, or goes on
+abbrev pub GoesFurther : SettingsValues → Content → (came : List ℕ) → Option Sending
+    → List StoreFault → (made : List ℕ) → Option Sending → Type 0
+GoesFurther s R came old faults made new =
+    elim old [
+      | None ↦ AnswersFirst s R came faults made new
+      | Some was ↦ GoesOn R was faults made new
+    ]
+
+-- A step made this of the answer, over what an archive held, and its store met these faults. Where
+-- memory was wanting, it made nothing.
+abbrev pub IsAnswer : SettingsValues → Content → WebState → List StoreFault → (made : List ℕ)
+    → Result WebStep AllocError → WebState → Type 0
+IsAnswer s R web faults made (Err starved) next = made ≡ []
+IsAnswer s R web faults made (Ok NeedsInput) next = Waits web faults made next
+IsAnswer s R web faults made (Ok step) next =
+    (step ≡ step_of next.sending)
+    × GoesFurther s R web.came web.sending faults made next.sending
+
+-- an archive was asked, which stays as it is, and by what it held a step made this of the answer;
+-- its store met the faults that the answer is by, and no other
+abbrev pub AnswersWeb : SettingsValues → Store → Store → WebState → (made : List ℕ)
+    → Result WebStep AllocError → WebState → Type 0
+AnswersWeb s old new web made result next =
+    (faults : List StoreFault)
+    × Reads old new faults (λ R. IsAnswer s R web faults made result next)
+
+-- an archive was asked, which stays as it is, and a text of which this holds was made by it
+abbrev pub Makes : Store → Store → (Content → List StoreFault → Type 0) → Type 0
+Makes old new Holds = (faults : List StoreFault) × Reads old new faults (λ R. Holds R faults)
+
+-- an archive was asked, which stays as it is
+abbrev pub OnlyAsks : Store → Store → Type 0
+OnlyAsks old new = Makes old new (λ R faults. ⊤)

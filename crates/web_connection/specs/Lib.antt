@@ -1,0 +1,4 @@
+pub mod Access
+pub mod Texts
+pub mod Status
+pub mod Answers

@@ -1,0 +1,160 @@
+//! A browser's connection: the bytes that came of its request, and what is still to be sent.
+
+ghost use Rattle.std.specs.Prelude.{◌≡◌, ◌++◌, [], List, ℕ, None, Ok, IfOk, OnOk, OnErr, MatchOption, MatchResult};
+ghost use Rattle.archive.specs.Store.{IsAskedWithin};
+ghost use Rattle.web_connection.specs.declared.step.WebStep.TheVariants.{NeedsInput};
+ghost use Rattle.web_request.specs.Requests.{IsCut};
+ghost use Rattle.web_connection.specs.Answers.{AnswersWeb, GoesFurther, Makes, NeedsRequest, OnlyAsks, new_web, with_input, web_of, step_of};
+
+use crate::history::next_portion;
+use crate::requests::answer_first;
+use crate::sending::{Sending, Told};
+use crate::step::WebStep;
+use archive::Archive;
+use std::alloc::{AllocError, Global};
+use std::marker::Model;
+use ua_settings::Settings;
+
+/// What a step comes to, by what of a history is still to be sent.
+fn step_of(sending: &Option<Sending>) -> WebStep
+    ensures same { result ≡ step_of sending.now }
+    ensures goes { result ≡ NeedsInput → ⊥ }
+{
+    match sending {
+        None => WebStep::Ended,
+        Some(_) => WebStep::Continues,
+    }
+}
+
+/// What is told next, by what came and what of a history is still to be sent; none where no whole
+/// head came.
+fn tell_next<A: Archive>(
+    alloc: Global,
+    came: &[u8],
+    sending: Option<Sending>,
+    settings: &Settings,
+    archive: &mut A,
+) -> Result<Option<Told>, AllocError>
+    ensures answers { MatchResult result
+        (λ answer. MatchOption answer
+        ((sending ≡ None) × IsCut came.now
+        × Makes (A.state archive.old) (A.state archive.new) (λ R faults. faults ≡ []))
+        (λ told. Makes (A.state archive.old) (A.state archive.new)
+        (λ R faults. GoesFurther settings.now R came.now sending faults told.text.items
+        told.sending)))
+        (λ starved. OnlyAsks (A.state archive.old) (A.state archive.new)) }
+    ensures asked { IsAskedWithin 501 (A.asked archive.old) (A.asked archive.new) }
+{
+    match sending {
+        None => answer_first(alloc, archive, settings, came),
+        Some(left) => match next_portion(alloc, archive, left) {
+            Ok(told) => Ok(Some(told)),
+            Err(_) => Err(AllocError),
+        },
+    }
+}
+
+/// Appends what is told; what is still to be sent is kept.
+fn send(out: &mut Vec<u8>, told: Told, sending: &mut Option<Sending>) -> Result<WebStep, AllocError>
+    ensures ok { IfOk result (λ step. (out.new.items ≡ out.old.items ++ told.text.items)
+        × (sending.new ≡ told.sending) × (step ≡ step_of told.sending)) }
+    ensures err { OnErr result (out.new.items ≡ out.old.items) }
+    ensures goes { result ≡ Ok NeedsInput → ⊥ }
+{
+    out.extend_from_slice(told.text.as_slice())?;
+    *sending = told.sending;
+    Ok(step_of(sending))
+}
+
+/// Makes the next part of the answer.
+fn take_step<A: Archive>(
+    came: &[u8],
+    sending: &mut Option<Sending>,
+    settings: &Settings,
+    archive: &mut A,
+    out: &mut Vec<u8>,
+) -> Result<WebStep, AllocError>
+    ensures answers { (made : List ℕ) × (out.new.items ≡ out.old.items ++ made)
+        × AnswersWeb settings.now (A.state archive.old) (A.state archive.new)
+        (web_of came.now sending.old) made result (web_of came.now sending.new) }
+    ensures lacks { result ≡ Ok NeedsInput
+        → (out.new.items ≡ out.old.items) × NeedsRequest (web_of came.now sending.new) }
+    ensures asked { IsAskedWithin 501 (A.asked archive.old) (A.asked archive.new) }
+{
+    let alloc = *out.allocator();
+    match tell_next(alloc, came, sending.take(), settings, archive) {
+        Ok(None) => Ok(WebStep::NeedsInput),
+        Ok(Some(told)) => send(out, told, sending),
+        Err(_) => Err(AllocError),
+    }
+}
+
+/// One connection of a browser, which carries one request. It reads and writes nothing: `feed` takes
+/// the bytes that came, and `answer` makes what is to be written.
+#[derive(Drop)]
+pub struct WebConnection {
+    came: Vec<u8>,
+    sending: Option<Sending>,
+}
+
+impl Model for WebConnection {
+    ghost use Rattle.web_connection.specs.Answers.{WebState, web_of};
+
+    ghost Value = { WebState };
+
+    ghost view = { λ c. web_of c.came.items c.sending };
+}
+
+impl WebConnection {
+    /// Nothing came yet. It takes no memory.
+    pub fn new(alloc: Global) -> WebConnection
+        ensures { result ≡ new_web }
+    {
+        WebConnection {
+            came: Vec::new(alloc),
+            sending: None,
+        }
+    }
+
+    /// Takes the next bytes of the browser; what comes while a history is being sent is left aside.
+    /// The one error is want of memory, which changes nothing.
+    pub fn feed(&mut self, bytes: &[u8]) -> Result<(), AllocError>
+        ensures ok { OnOk result (self.new ≡ with_input self.old bytes.now) }
+        ensures err { OnErr result (self.new ≡ self.old) }
+    {
+        if self.sending.is_some() {
+            return Ok(());
+        }
+        self.came.extend_from_slice(bytes)
+    }
+
+    /// Makes the next part of the answer, and appends it to `out`: what came is refused, or the page
+    /// that is asked for is told, whole or its head alone; a history as CSV goes on at each call, by at
+    /// most a hundred values or modifications of the records that were held when it began. Who isn't
+    /// one of the settings' users is told that, and no page. The archive stays as it is; where its
+    /// store meets a fault that is told, or a history that was begun is broken off.
+    ///
+    /// The one error is want of memory, and then nothing is appended. The connection is over then, as
+    /// it is behind `Ended`.
+    pub fn answer<A: Archive>(
+        &mut self,
+        settings: &Settings,
+        archive: &mut A,
+        out: &mut Vec<u8>,
+    ) -> Result<WebStep, AllocError>
+        ensures answers { (made : List ℕ) × (out.new.items ≡ out.old.items ++ made)
+            × AnswersWeb settings.now (A.state archive.old) (A.state archive.new) self.old made
+            result self.new }
+        ensures lacks { result ≡ Ok NeedsInput
+            → (out.new.items ≡ out.old.items) × NeedsRequest self.new }
+        ensures asked { IsAskedWithin 501 (A.asked archive.old) (A.asked archive.new) }
+    {
+        take_step(
+            self.came.as_slice(),
+            &mut self.sending,
+            settings,
+            archive,
+            out,
+        )
+    }
+}

@@ -1,0 +1,244 @@
+//! Histories: as CSV, portion by portion, and as a page.
+
+ghost use Rattle.std.specs.Prelude.{◌≡◌, ◌⊎◌, ◌++◌, [], MatchResult, IfOk, OnOk, None, false};
+ghost use Rattle.archive.specs.Store.{IsAskedWithin};
+ghost use Rattle.http1.specs.Encoder.{piece_text, end_text};
+ghost use Rattle.web_connection.specs.Texts.{csv_head, coding_of};
+ghost use Rattle.web_connection.specs.Answers.{Makes, OnlyAsks, TellsStore, TellsHistory, TellsCsv, BeginsCsv, GoesOn, IsPortionText, rest_of, is_variable, report_of};
+
+use crate::sending::{Sending, Told};
+use crate::texts::{page_text, refusal_text, told_of};
+use archive::Archive;
+use history_report::{Form, PartFault, Portions, Report, ReportFault, put_part};
+use std::alloc::{AllocError, Global};
+use ua_binary::NodeId;
+use ua_settings::Settings;
+use web_request::{Body, Kind, Question, Refusal, put_chunk, put_head, put_last_chunk};
+
+/// Whether the settings have a variable of this id.
+pub(crate) fn is_variable(settings: &Settings, node: &NodeId) -> bool
+    ensures { result ≡ is_variable settings.now.space node.now }
+{
+    settings.space().variable(node.as_ref()).is_some()
+}
+
+/// The report that a question asks for.
+fn report_of(question: Question, form: Form) -> Report
+    ensures { result ≡ report_of question form }
+{
+    Report {
+        node: question.node,
+        from: question.from,
+        to: question.to,
+        changes: question.changes,
+        form,
+        next: None,
+    }
+}
+
+/// The head of a history as CSV.
+fn csv_head(alloc: Global, chunked: bool) -> Result<Vec<u8>, AllocError>
+    ensures { IfOk result (λ text. text.items ≡ csv_head chunked) }
+{
+    let body = if chunked {
+        Body::Chunked
+    } else {
+        Body::UntilClose
+    };
+    let mut out = Vec::new(alloc);
+    put_head(alloc, &mut out, told_of(Kind::Csv, body))?;
+    Ok(out)
+}
+
+/// Appends a portion in its frame.
+fn put_portion(out: &mut Vec<u8>, portion: &[u8], chunked: bool) -> Result<(), AllocError>
+    ensures { OnOk result
+        (out.new.items ≡ out.old.items ++ piece_text (coding_of chunked) portion.now) }
+{
+    if chunked {
+        put_chunk(out, portion)
+    } else {
+        out.extend_from_slice(portion)
+    }
+}
+
+/// Appends what ends a history.
+fn put_end(out: &mut Vec<u8>, chunked: bool) -> Result<(), AllocError>
+    ensures { OnOk result
+        (out.new.items ≡ out.old.items ++ end_text (coding_of chunked) []) }
+{
+    if chunked { put_last_chunk(out) } else { Ok(()) }
+}
+
+/// The head of a history, and its first portion.
+fn begun_text(alloc: Global, names: &[u8], chunked: bool) -> Result<Vec<u8>, AllocError>
+    ensures { IfOk result (λ text. text.items
+        ≡ csv_head chunked ++ piece_text (coding_of chunked) names.now) }
+{
+    let mut out = csv_head(alloc, chunked)?;
+    put_portion(&mut out, names, chunked)?;
+    Ok(out)
+}
+
+/// Begins a history as CSV.
+fn begin_csv<A: Archive>(
+    alloc: Global,
+    archive: &mut A,
+    question: Question,
+    chunked: bool,
+) -> Result<Told, AllocError>
+    ensures answers { MatchResult result
+        (λ told. Makes (A.state archive.old) (A.state archive.new)
+        (λ R faults. (TellsStore false faults told.text.items × (told.sending ≡ None))
+        ⊎ ((faults ≡ []) × BeginsCsv R question chunked told.text.items told.sending)))
+        (λ starved. OnlyAsks (A.state archive.old) (A.state archive.new)) }
+    ensures asked { IsAskedWithin 501 (A.asked archive.old) (A.asked archive.new) }
+{
+    let mut names = Vec::new(alloc);
+    match Portions::begin(alloc, archive, report_of(question, Form::Csv), &mut names) {
+        Ok(portions) => match begun_text(alloc, names.as_slice(), chunked) {
+            Ok(text) => Ok(Told {
+                text,
+                sending: Some(Sending { portions, chunked }),
+            }),
+            Err(_) => Err(AllocError),
+        },
+        Err(ReportFault::Store(_)) => match refusal_text(alloc, Refusal::Store, false) {
+            Ok(text) => Ok(Told {
+                text,
+                sending: None,
+            }),
+            Err(_) => Err(AllocError),
+        },
+        Err(_) => Err(AllocError),
+    }
+}
+
+/// A history as CSV: its beginning, or its head alone.
+pub(crate) fn told_csv<A: Archive>(
+    alloc: Global,
+    archive: &mut A,
+    question: Question,
+    head_only: bool,
+    chunked: bool,
+) -> Result<Told, AllocError>
+    ensures answers { MatchResult result
+        (λ told. Makes (A.state archive.old) (A.state archive.new)
+        (λ R faults. TellsCsv R question head_only chunked faults told.text.items told.sending))
+        (λ starved. OnlyAsks (A.state archive.old) (A.state archive.new)) }
+    ensures asked { IsAskedWithin 501 (A.asked archive.old) (A.asked archive.new) }
+{
+    if head_only {
+        return Ok(Told {
+            text: csv_head(alloc, chunked)?,
+            sending: None,
+        });
+    }
+    begin_csv(alloc, archive, question, chunked)
+}
+
+/// A portion in its frame.
+fn sent_text(alloc: Global, portion: &[u8], chunked: bool) -> Result<Vec<u8>, AllocError>
+    ensures { IfOk result (λ text. text.items ≡ piece_text (coding_of chunked) portion.now) }
+{
+    let mut out = Vec::new(alloc);
+    put_portion(&mut out, portion, chunked)?;
+    Ok(out)
+}
+
+/// The last portion in its frame, and the end behind it.
+fn last_text(alloc: Global, portion: &[u8], chunked: bool) -> Result<Vec<u8>, AllocError>
+    ensures { IfOk result (λ text. text.items
+        ≡ piece_text (coding_of chunked) portion.now ++ end_text (coding_of chunked) []) }
+{
+    let mut out = Vec::new(alloc);
+    put_portion(&mut out, portion, chunked)?;
+    put_end(&mut out, chunked)?;
+    Ok(out)
+}
+
+/// A history as a page: its first part, which leads to the rest.
+pub(crate) fn history_text<A: Archive>(
+    alloc: Global,
+    archive: &mut A,
+    question: Question,
+    head_only: bool,
+) -> Result<Vec<u8>, AllocError>
+    ensures answers { MatchResult result
+        (λ text. Makes (A.state archive.old) (A.state archive.new)
+        (λ R faults. TellsHistory R question head_only faults text.items))
+        (λ starved. OnlyAsks (A.state archive.old) (A.state archive.new)) }
+    ensures asked { IsAskedWithin 501 (A.asked archive.old) (A.asked archive.new) }
+{
+    let mut page = Vec::new(alloc);
+    match put_part(alloc, archive, report_of(question, Form::Page), &mut page) {
+        Ok(()) => page_text(alloc, Kind::Html, page.as_slice(), head_only),
+        Err(PartFault::Crowded) => refusal_text(alloc, Refusal::Crowded, head_only),
+        Err(PartFault::Report(ReportFault::Store(_))) => {
+            refusal_text(alloc, Refusal::Store, head_only)
+        }
+        Err(PartFault::Report(ReportFault::NoText)) => {
+            refusal_text(alloc, Refusal::NoText, head_only)
+        }
+        Err(_) => Err(AllocError),
+    }
+}
+
+/// A portion as it is sent: behind the last one stands the end. Where the store met a fault, or a value
+/// has no text, there is no end.
+fn portion_text(
+    alloc: Global,
+    portion: &[u8],
+    next: Result<bool, ReportFault>,
+    chunked: bool,
+) -> Result<Vec<u8>, AllocError>
+    ensures { IfOk result (λ text. IsPortionText chunked portion.now next text.items) }
+{
+    match next {
+        Ok(true) => sent_text(alloc, portion, chunked),
+        Ok(false) => last_text(alloc, portion, chunked),
+        Err(ReportFault::Store(_)) => sent_text(alloc, portion, chunked),
+        Err(ReportFault::NoText) => sent_text(alloc, portion, chunked),
+        Err(ReportFault::Write) => Err(AllocError),
+        Err(ReportFault::OutOfMemory) => Err(AllocError),
+    }
+}
+
+/// What is still to be sent behind a portion.
+fn rest_of(portions: Portions, next: Result<bool, ReportFault>, chunked: bool) -> Option<Sending>
+    ensures { result ≡ rest_of chunked portions next }
+{
+    match next {
+        Ok(true) => Some(Sending { portions, chunked }),
+        Ok(false) => None,
+        Err(_) => None,
+    }
+}
+
+/// The next portion of a history that is being sent. Where the archive's store meets a fault, or a
+/// value has no text, the answer is broken off without its end, so that a browser sees it.
+pub(crate) fn next_portion<A: Archive>(
+    alloc: Global,
+    archive: &mut A,
+    sending: Sending,
+) -> Result<Told, AllocError>
+    ensures answers { MatchResult result
+        (λ told. Makes (A.state archive.old) (A.state archive.new)
+        (λ R faults. GoesOn R sending faults told.text.items told.sending))
+        (λ starved. OnlyAsks (A.state archive.old) (A.state archive.new)) }
+    ensures asked { IsAskedWithin 501 (A.asked archive.old) (A.asked archive.new) }
+{
+    let Sending {
+        mut portions,
+        chunked,
+    } = sending;
+    let mut portion = Vec::new(alloc);
+    let next = portions.next(alloc, archive, &mut portion);
+    match portion_text(alloc, portion.as_slice(), next, chunked) {
+        Ok(text) => Ok(Told {
+            text,
+            sending: rest_of(portions, next, chunked),
+        }),
+        Err(_) => Err(AllocError),
+    }
+}

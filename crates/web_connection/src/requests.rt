@@ -1,0 +1,124 @@
+//! What a request is answered.
+
+ghost use Rattle.std.specs.Prelude.{◌≡◌, [], MatchResult, MatchOption, None};
+ghost use Rattle.archive.specs.Store.{IsAskedWithin};
+ghost use Rattle.web_request.specs.Requests.{IsCut};
+ghost use Rattle.web_connection.specs.Answers.{Makes, OnlyAsks, lacks_variable, refusal_of, TellsAsked, AnswersRequest, AnswersFirst};
+
+use crate::access::is_let_in;
+use crate::history::{history_text, is_variable, told_csv};
+use crate::pages::{front_text, state_text};
+use crate::sending::Told;
+use crate::texts::refusal_text;
+use archive::Archive;
+use std::alloc::{AllocError, Global};
+use ua_settings::Settings;
+use web_request::{Page, Refusal, Request, RequestFault, read_request};
+
+/// Whether a history is asked for of a node that is no variable of the settings.
+fn lacks_variable(settings: &Settings, page: &Page) -> bool
+    ensures { result ≡ lacks_variable settings.now.space page.now }
+{
+    match page {
+        Page::Front | Page::Status => false,
+        Page::History(question) | Page::Csv(question) => !is_variable(settings, &question.node),
+    }
+}
+
+/// Why a request isn't answered by its page, if it isn't.
+fn refusal_of(settings: &Settings, request: &Request) -> Option<Refusal>
+    ensures { result ≡ refusal_of settings.now request.now }
+{
+    if !is_let_in(settings, &request.credentials) {
+        return Some(Refusal::Credentials);
+    }
+    if lacks_variable(settings, &request.page) {
+        return Some(Refusal::Unknown);
+    }
+    None
+}
+
+/// What somebody who is let in is told.
+fn told_request<A: Archive>(
+    alloc: Global,
+    archive: &mut A,
+    settings: &Settings,
+    request: Request,
+) -> Result<Told, AllocError>
+    ensures answers { MatchResult result
+        (λ told. Makes (A.state archive.old) (A.state archive.new)
+        (λ R faults. TellsAsked settings.now R request.page request.head_only request.takes_chunks
+        faults told.text.items told.sending))
+        (λ starved. OnlyAsks (A.state archive.old) (A.state archive.new)) }
+    ensures asked { IsAskedWithin 501 (A.asked archive.old) (A.asked archive.new) }
+{
+    let Request {
+        page,
+        head_only,
+        takes_chunks,
+        ..
+    } = request;
+    match page {
+        Page::Front => Ok(Told {
+            text: front_text(alloc, archive, settings, head_only)?,
+            sending: None,
+        }),
+        Page::Status => Ok(Told {
+            text: state_text(alloc, archive, settings, head_only)?,
+            sending: None,
+        }),
+        Page::Csv(question) => told_csv(alloc, archive, question, head_only, takes_chunks),
+        Page::History(question) => Ok(Told {
+            text: history_text(alloc, archive, question, head_only)?,
+            sending: None,
+        }),
+    }
+}
+
+/// What a request is answered.
+fn answer_request<A: Archive>(
+    alloc: Global,
+    archive: &mut A,
+    settings: &Settings,
+    request: Request,
+) -> Result<Told, AllocError>
+    ensures answers { MatchResult result
+        (λ told. Makes (A.state archive.old) (A.state archive.new)
+        (λ R faults. AnswersRequest settings.now R request faults told.text.items told.sending))
+        (λ starved. OnlyAsks (A.state archive.old) (A.state archive.new)) }
+    ensures asked { IsAskedWithin 501 (A.asked archive.old) (A.asked archive.new) }
+{
+    match refusal_of(settings, &request) {
+        Some(why) => Ok(Told {
+            text: refusal_text(alloc, why, request.head_only)?,
+            sending: None,
+        }),
+        None => told_request(alloc, archive, settings, request),
+    }
+}
+
+/// What is answered to what came; none where no whole head came.
+pub(crate) fn answer_first<A: Archive>(
+    alloc: Global,
+    archive: &mut A,
+    settings: &Settings,
+    came: &[u8],
+) -> Result<Option<Told>, AllocError>
+    ensures answers { MatchResult result
+        (λ answer. MatchOption answer
+        (IsCut came.now × Makes (A.state archive.old) (A.state archive.new) (λ R faults. faults ≡ []))
+        (λ told. Makes (A.state archive.old) (A.state archive.new)
+        (λ R faults. AnswersFirst settings.now R came.now faults told.text.items told.sending)))
+        (λ starved. OnlyAsks (A.state archive.old) (A.state archive.new)) }
+    ensures asked { IsAskedWithin 501 (A.asked archive.old) (A.asked archive.new) }
+{
+    match read_request(alloc, came) {
+        Ok(None) => Ok(None),
+        Ok(Some(request)) => Ok(Some(answer_request(alloc, archive, settings, request)?)),
+        Err(RequestFault::Refused(why, head_only)) => Ok(Some(Told {
+            text: refusal_text(alloc, why, head_only)?,
+            sending: None,
+        })),
+        Err(RequestFault::OutOfMemory) => Err(AllocError),
+    }
+}

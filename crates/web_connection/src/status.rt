@@ -1,0 +1,105 @@
+//! How the server does, as JSON.
+
+ghost use Rattle.std.specs.Prelude.{◌≡◌, ◌++◌, drop, OnOk, IfOk};
+ghost use Rattle.std.specs.Fmt.{decimal};
+ghost use Rattle.stamp.specs.Limits.{IsReplica};
+ghost use Rattle.stamp.specs.Numbers.{number_of};
+ghost use Rattle.web_connection.specs.Status.{member_text, members_text, replica_text, status_text};
+
+use itoa::Buffer;
+use stamp::{ReplicaNo, Vector};
+use std::alloc::{AllocError, Global};
+use ua_settings::Settings;
+use uuid::Uuid;
+
+/// Appends a number.
+fn put_number(out: &mut Vec<u8>, number: u64) -> Result<(), AllocError>
+    ensures { OnOk result (out.new.items ≡ out.old.items ++ decimal number) }
+{
+    let mut buffer = Buffer::new();
+    out.extend_from_slice(buffer.format(number).as_bytes())
+}
+
+/// Appends a replica and the number of its last record behind a comma, if it has any.
+fn put_member(out: &mut Vec<u8>, replica: ReplicaNo, number: u64) -> Result<(), AllocError>
+    ensures { OnOk result (out.new.items ≡ out.old.items ++ member_text replica number) }
+{
+    if number > 0 {
+        out.extend_from_slice(b",\"")?;
+        put_number(out, u64::from(replica.get()))?;
+        out.extend_from_slice(b"\":")?;
+        put_number(out, number)?;
+    }
+    Ok(())
+}
+
+/// The same of the replica of this number.
+fn put_numbered(out: &mut Vec<u8>, vector: &Vector, number: u8) -> Result<(), AllocError>
+    requires { IsReplica number }
+    ensures { OnOk result (out.new.items
+        ≡ out.old.items ++ member_text number (number_of vector.now number)) }
+{
+    match ReplicaNo::new(number) {
+        None => Ok(()),
+        Some(replica) => put_member(out, replica, vector.get(replica)),
+    }
+}
+
+/// The replicas that have records, each behind a comma.
+#[tactic(auto, unfolding(crate::specs::Status::members_text))]
+fn members_text(alloc: Global, vector: &Vector) -> Result<Vec<u8>, AllocError>
+    ensures { IfOk result (λ text. text.items ≡ members_text (number_of vector.now)) }
+{
+    let mut out = Vec::new(alloc);
+    for number in 1..65u8 {
+        put_numbered(&mut out, vector, number)?;
+    }
+    Ok(out)
+}
+
+/// Members without the comma before the first of them.
+fn behind_comma(members: &[u8]) -> &[u8]
+    ensures { result.now ≡ drop 1 members.now }
+{
+    match members.split_first() {
+        None => &[],
+        Some((_, rest)) => rest,
+    }
+}
+
+/// Which replica of which archive it is.
+#[tactic(auto, unfolding(crate::specs::Status::replica_text))]
+fn replica_text(alloc: Global, settings: &Settings) -> Result<Vec<u8>, AllocError>
+    ensures { IfOk result (λ text. text.items ≡ replica_text settings.now) }
+{
+    let mut buffer = Uuid::encode_buffer();
+    let id = settings.archive().hyphenated().encode_lower(&mut buffer);
+    let mut digits = Buffer::new();
+    let replica = digits.format(u64::from(settings.replica().get()));
+    let mut text = Vec::new(alloc);
+    text.extend_from_slice(b"\"archive\":\"")?;
+    text.extend_from_slice(id.as_bytes())?;
+    text.extend_from_slice(b"\",\"replica\":")?;
+    text.extend_from_slice(replica.as_bytes())?;
+    Ok(text)
+}
+
+/// Which replica of which archive it is, and the number of the last record of each replica.
+pub(crate) fn status_text(
+    alloc: Global,
+    settings: &Settings,
+    vector: &Vector,
+) -> Result<Vec<u8>, AllocError>
+    ensures { IfOk result
+        (λ text. text.items ≡ status_text settings.now (number_of vector.now)) }
+{
+    let members = members_text(alloc, vector)?;
+    let replica = replica_text(alloc, settings)?;
+    let mut out = Vec::new(alloc);
+    out.push(b'{')?;
+    out.extend_from_slice(replica.as_slice())?;
+    out.extend_from_slice(b",\"records\":{")?;
+    out.extend_from_slice(behind_comma(members.as_slice()))?;
+    out.extend_from_slice(b"}}\n")?;
+    Ok(out)
+}
