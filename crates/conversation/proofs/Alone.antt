@@ -24,7 +24,7 @@ use Rattle.conversation.specs.declared.other_end.OtherEnd.{OtherEnd}
 use Rattle.conversation.specs.declared.other_end.OtherEnd.TheVariants.{Unknown, Client, Over}
 use Rattle.conversation.specs.declared.world.World.{World}
 use Rattle.conversation.specs.declared.door.Door.{Door}
-use Rattle.conversation.specs.declared.door.Door.TheVariants.{Both, Clients, Peers}
+use Rattle.conversation.specs.declared.door.Door.TheVariants.{Both, Clients, Peers, Browsers}
 use Rattle.conversation.specs.Doors.{is_peers}
 use Rattle.conversation.specs.OtherEnds.{ConversationEnding, known_by, unless_over}
 use Rattle.conversation.specs.Receiving.{TakesBytes}
@@ -75,6 +75,7 @@ peers-more Both (a ∷ b ∷ []) more long = cc
 peers-more Both (a ∷ b ∷ c ∷ came) more long = refl
 peers-more Clients came more long = refl
 peers-more Peers came more long = refl
+peers-more Browsers came more long = refl
 
 -- who brought these bytes, and more, is no peer: nobody is known yet, or a client
 known : (door : Door) (came more : List ℕ) → is_peers door (came ++ more) ≡ false

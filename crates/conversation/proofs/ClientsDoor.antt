@@ -7,7 +7,7 @@ use Rattle.ua_connection.specs.Client.{new_client}
 use Rattle.conversation.specs.declared.door.Door.{Door}
 use Rattle.conversation.specs.declared.door.Door.TheVariants.{Clients}
 use Rattle.conversation.specs.declared.other_end.OtherEnd.{OtherEnd}
-use Rattle.conversation.specs.declared.other_end.OtherEnd.TheVariants.{Unknown, Client, Peer, Stranger, Over}
+use Rattle.conversation.specs.declared.other_end.OtherEnd.TheVariants.{Unknown, Client, Peer, Browser, Stranger, Over}
 use Rattle.conversation.specs.declared.world.World.{World}
 use Rattle.conversation.specs.OtherEnds.{ConversationEnding, known_by, unless_over}
 use Rattle.conversation.specs.Receiving.{TakesBytes}
@@ -38,6 +38,7 @@ bytes-at-door (Unknown door letters) new bytes made None at takes =
     subst IsAtClientsDoor (sym takes.1) (known-client door (letters ++ bytes) at)
 bytes-at-door (Client link) new bytes made None at takes = subst IsAtClientsDoor (sym takes.1) tt
 bytes-at-door (Peer peer) new bytes made None at takes = absurd at
+bytes-at-door (Browser web) new bytes made None at takes = subst IsAtClientsDoor (sym takes.1) tt
 bytes-at-door Stranger new bytes made None at takes = subst IsAtClientsDoor (sym takes.1) tt
 bytes-at-door Over new bytes made None at takes = subst IsAtClientsDoor (sym takes.1) tt
 
@@ -49,6 +50,8 @@ answer-at-door state gave v w (Unknown door letters) new made ending at answers 
 answer-at-door state gave v w (Client link) new made ending at answers =
     subst IsAtClientsDoor (sym answers.leaves) (left ending (Client answers.later) tt)
 answer-at-door state gave v w (Peer peer) new made ending at answers = absurd at
+answer-at-door state gave v w (Browser web) new made ending at answers =
+    subst IsAtClientsDoor (sym answers.leaves) (left ending (Browser answers.later) tt)
 answer-at-door state gave v w Stranger new made ending at answers =
     subst IsAtClientsDoor (sym answers.3) tt
 answer-at-door state gave v w Over new made ending at answers =

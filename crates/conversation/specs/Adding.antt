@@ -6,7 +6,7 @@ use Rattle.multiplex.specs.declared.handler.SlotEnd.{SlotEnd}
 use Rattle.counted_io.specs.declared.fault.ServeFault.{ServeFault}
 use Rattle.conversation.specs.declared.world.World.{World}
 use Rattle.conversation.specs.declared.other_end.OtherEnd.{OtherEnd}
-use Rattle.conversation.specs.declared.other_end.OtherEnd.TheVariants.{Unknown, Client, Peer, Stranger, Over}
+use Rattle.conversation.specs.declared.other_end.OtherEnd.TheVariants.{Unknown, Client, Peer, Browser, Stranger, Over}
 use Rattle.exchange.specs.declared.fault.ExchangeFault.{ExchangeFault}
 use Rattle.ua_peers.specs.declared.calling.SyncFault.{SyncFault}
 use Rattle.ua_peers.specs.declared.calling.SyncFault.TheVariants.{Exchange}
@@ -48,6 +48,8 @@ module _ {A C L : Type 0} (state : A → Store) where
   answer_moves gave v w Over new made ending a = same_moves v w a.2
   answer_moves gave v w (Client link) new made ending a =
       (a.settings, transitions_grow _ _ _ _ a.advances)
+  answer_moves gave v w (Browser web) new made ending a =
+      (a.settings, transitions_grow _ _ _ _ a.answers.1.1)
   answer_moves gave v w (Peer peer) new made ending (inl a) =
       (a.settings, talks_grow _ _ _ _ _ _ _ _ a.talks)
   answer_moves gave v w (Peer peer) new made ending (inr a) =

@@ -15,16 +15,21 @@ use Rattle.ua_peers.specs.declared.peers.PeerEnded.{PeerEnded}
 use Rattle.conversation.specs.declared.ended.Ended.TheVariants as ended
 use Rattle.conversation.specs.declared.other_end.PeerDialog.{PeerDialog}
 use Rattle.conversation.specs.declared.other_end.OtherEnd.{OtherEnd}
-use Rattle.conversation.specs.declared.other_end.OtherEnd.TheVariants.{Client, Peer, Stranger, Over}
+use Rattle.conversation.specs.declared.other_end.OtherEnd.TheVariants.{Client, Peer, Browser, Stranger, Over}
 use Rattle.conversation.specs.declared.world.World.{World}
 use Rattle.conversation.specs.Admitting.{IsTimed, IsAdmitted, Refuses}
 use Rattle.conversation.specs.OtherEnds.{ConversationEnding, peer_at, unless_over}
+use Rattle.std.specs.declared.alloc.AllocError.{AllocError}
+use Rattle.web_connection.specs.declared.step.WebStep.{WebStep}
+use Rattle.web_connection.specs.declared.step.WebStep.TheVariants.{Ended}
+use Rattle.web_connection.specs.Answers.{WebState, AnswersWeb, NeedsRequest}
 
 -- nothing whole stands first; with a stranger it is over, so nothing is waited for
 abbrev pub IsIncomplete : OtherEnd → Type 0
 IsIncomplete other = elim other [
   | Client link ↦ NeedsBytes link
   | Peer peer ↦ frame_header peer.frames.waiting ≡ Ok None
+  | Browser web ↦ NeedsRequest web
   | Stranger ↦ ⊥
   | _ ↦ Unit {0}
 ]
@@ -112,6 +117,30 @@ MeetsPeer state gave v peer made ending w next =
     AnswersPeer state gave v peer made ending w next
     ⊎ RefusesPeer state gave v peer made ending w next
 
+-- how a browser's connection ended by a step, as that of any connection
+abbrev pub web_ending : Result WebStep AllocError → Option ConversationEnding
+web_ending step = elim step [
+  | Ok Ended ↦ Some (Ok ended.Browser)
+  | Ok _ ↦ None
+  | Err _ ↦ Some (Err OutOfMemory)
+]
+
+-- what stood first on a browser's connection was answered, by one step over an archive, which stays
+-- as it is; all else stays too, and nothing is told
+pub record AnswersBrowser {A C L : Type 0} (state : A → Store) (v : World A C L) (web : WebState)
+    (made : List ℕ) (ending : Option ConversationEnding) (w : World A C L) (next : OtherEnd)
+    : Type 0 where
+  pub step : Result WebStep AllocError
+  pub later : WebState
+  pub settings : w.server.settings ≡ v.server.settings
+  pub clock : w.clock ≡ v.clock
+  pub log : w.log ≡ v.log
+  pub from : w.from ≡ v.from
+  pub answers : AnswersWeb v.server.settings (state v.server.replica.archive)
+      (state w.server.replica.archive) web made step later
+  pub ended_so : ending ≡ web_ending step
+  pub leaves : next ≡ unless_over ending (Browser later)
+
 -- with a stranger it is over: nothing is said, and nothing changes
 abbrev pub TurnsAway : {A C L : Type 0} → World A C L → (made : List ℕ)
     → Option ConversationEnding → World A C L → OtherEnd → Type 0
@@ -126,6 +155,8 @@ AnswersFirst state gave v (Client link) made ending w new =
     AnswersClient state gave v link made ending w new
 AnswersFirst state gave v (Peer peer) made ending w new =
     MeetsPeer state gave v peer made ending w new
+AnswersFirst state gave v (Browser web) made ending w new =
+    AnswersBrowser state v web made ending w new
 AnswersFirst state gave v Stranger made ending w new = TurnsAway v made ending w new
 AnswersFirst state gave v other made ending w new =
     (made ≡ []) × (ending ≡ None) × (w ≡ v) × (new ≡ other)

@@ -3,7 +3,7 @@ use Rattle.std.specs.Prelude.{◌≡◌, ℕ, ℤ, List, Option}
 use Rattle.archive.specs.Store.{Store}
 use Rattle.conversation.specs.declared.door.Door.TheVariants.{Clients}
 use Rattle.conversation.specs.declared.other_end.OtherEnd.{OtherEnd}
-use Rattle.conversation.specs.declared.other_end.OtherEnd.TheVariants.{Unknown, Client, Peer, Stranger, Over}
+use Rattle.conversation.specs.declared.other_end.OtherEnd.TheVariants.{Unknown, Client, Peer, Browser, Stranger, Over}
 use Rattle.conversation.specs.declared.world.World.{World}
 use Rattle.conversation.specs.OtherEnds.{ConversationEnding}
 use Rattle.conversation.specs.Receiving.{TakesBytes}
@@ -16,6 +16,7 @@ IsAtClientsDoor other = elim other [
   | Unknown door letters ↦ door ≡ Clients
   | Client link ↦ Unit {0}
   | Peer peer ↦ ⊥
+  | Browser web ↦ Unit {0}
   | Stranger ↦ Unit {0}
   | Over ↦ Unit {0}
 ]

@@ -53,6 +53,7 @@ abbrev pub call_outcome : SlotEnd ConversationEnding → Result (Unit {0}) SyncF
 call_outcome (Finished (Ok (ended.Peer end))) = parted_outcome end
 call_outcome (Finished (Ok (ended.Client end))) = Err (Exchange Frame)
 call_outcome (Finished (Ok ended.Stranger)) = Err (Exchange Frame)
+call_outcome (Finished (Ok ended.Browser)) = Err (Exchange Frame)
 call_outcome (Finished (Err fault)) = Err (Connection fault)
 call_outcome EndOfInput = Err (Exchange Frame)
 call_outcome WriteFailed = Err (Connection Write)

@@ -4,7 +4,9 @@ use Rattle.archive.specs.Store.{Store}
 use Rattle.multiplex.specs.Behavior.{Behavior}
 use Rattle.multiplex.specs.declared.stay.Origin.{Origin}
 use Rattle.conversation.specs.declared.other_end.OtherEnd.{OtherEnd}
-use Rattle.conversation.specs.declared.other_end.OtherEnd.TheVariants.{Unknown, Stranger}
+use Rattle.conversation.specs.declared.other_end.OtherEnd.TheVariants.{Unknown, Browser, Stranger}
+use Rattle.web_connection.specs.Answers.{new_web}
+use Rattle.conversation.specs.declared.door.Door.TheVariants.{Browsers}
 use Rattle.conversation.specs.declared.world.World.{World}
 use Rattle.conversation.specs.declared.networks.Network.{Network}
 use Rattle.conversation.specs.Doors.{door_of_listener, is_stranger}
@@ -18,15 +20,18 @@ use Rattle.conversation.specs.Moves.{Moves}
 -- who is at the other end of a connection that came from there, before its first byte
 abbrev pub first_end : (from : Option (List Network)) → Origin → OtherEnd
 first_end from origin =
-    if is_stranger from origin then Stranger else Unknown (door_of_listener origin.listener) []
+    if is_stranger from origin then Stranger else elim (door_of_listener origin.listener) [
+      | Browsers ↦ Browser new_web
+      | door ↦ Unknown door []
+    ]
 
 -- the store is broken, and the settings say that nobody is served then
 abbrev pub serves_nobody : {A C L : Type 0} → (A → Store) → World A C L → Bool
 serves_nobody state w =
     w.server.settings.ends_broken && (state w.server.replica.archive).broken
 
--- a connection begins with a stranger or with nobody known at its other end, at the door of its
--- listener, or is a call of a peer; no answer waits, and nothing hangs on the time but that a long
+-- a connection begins with a stranger, with a browser, or with nobody known at its other end, at the
+-- door of its listener, or is a call of a peer; no answer waits, and nothing hangs on the time but that a long
 -- turn is told
 abbrev pub behavior_over : {A C L : Type 0} → (A → Store) → (C → List ℤ → C → Type 0)
     → LogCalls L → Behavior OtherEnd (World A C L) ConversationEnding

@@ -4,18 +4,19 @@ use Rattle.exchange.specs.Frames.{begins}
 use Rattle.multiplex.specs.declared.stay.Origin.{Origin}
 use Rattle.ua_settings.specs.Settings.{SettingsValues}
 use Rattle.conversation.specs.declared.door.Door.{Door}
-use Rattle.conversation.specs.declared.door.Door.TheVariants.{Both, Clients, Peers}
+use Rattle.conversation.specs.declared.door.Door.TheVariants.{Both, Clients, Peers, Browsers}
 use Rattle.conversation.specs.declared.networks.Network.{Network}
 use Rattle.conversation.specs.Networks.{is_taken}
 
 -- by the number of the listener that it came from
 abbrev pub door_of_listener : ℕ → Door
 door_of_listener listener =
-    if listener == 1 then Clients else if listener == 2 then Peers else Both
+    if listener == 1 then Clients else if listener == 2 then Peers
+    else if listener == 3 then Browsers else Both
 
 -- the number of the listener that takes these
 abbrev pub listener_of : Door → ℕ
-listener_of door = elim door [ Both ↦ 0 | Clients ↦ 1 | Peers ↦ 2 ]
+listener_of door = elim door [ Both ↦ 0 | Clients ↦ 1 | Peers ↦ 2 | Browsers ↦ 3 ]
 
 -- at the address where clients come to: where peers have an address of their own, clients alone
 abbrev pub door_of : SettingsValues → Door
@@ -28,6 +29,7 @@ is_peers door came = elim door [
   | Both ↦ begins came (codes "RXV") || begins came (codes "RXD")
   | Clients ↦ false
   | Peers ↦ true
+  | Browsers ↦ false
 ]
 
 -- a connection came to the door of peers from where none is taken

@@ -10,8 +10,9 @@ use Rattle.conversation.specs.declared.ended.Ended.{Ended}
 use Rattle.conversation.specs.declared.door.Door.{Door}
 use Rattle.conversation.specs.declared.other_end.PeerDialog.{PeerDialog}
 use Rattle.conversation.specs.declared.other_end.OtherEnd.{OtherEnd}
-use Rattle.conversation.specs.declared.other_end.OtherEnd.TheVariants.{Unknown, Client, Peer, Stranger, Over}
+use Rattle.conversation.specs.declared.other_end.OtherEnd.TheVariants.{Unknown, Client, Peer, Browser, Stranger, Over}
 use Rattle.conversation.specs.Doors.{is_peers}
+use Rattle.web_connection.specs.Answers.{with_input}
 
 -- how a connection ended, or the fault that ended it
 abbrev pub ConversationEnding : Type 0
@@ -41,6 +42,7 @@ with_bytes other bytes = elim other [
   | Peer peer ↦ Peer (record peer {
     frames = record peer.frames { waiting = peer.frames.waiting ++ bytes };
   })
+  | Browser web ↦ Browser (with_input web bytes)
   | Stranger ↦ Stranger
   | Over ↦ Over
 ]

@@ -14,8 +14,10 @@ ghost use Rattle.exchange.specs.declared.message.State.{State as Standing};
 ghost use Rattle.ua_peers.specs.Peers.{ended_as, is_silent};
 ghost use Rattle.conversation.specs.Admitting.{IsAdmitted, Refuses};
 ghost use Rattle.conversation.specs.OtherEnds.{unless_over, is_established, IsUsable};
-ghost use Rattle.conversation.specs.Answering.{IsIncomplete, client_ending, peer_ending, AnswersClient, MeetsPeer, AnswersFirst};
-ghost use Rattle.conversation.specs.declared.other_end.OtherEnd.TheVariants.{Client, Peer};
+ghost use Rattle.conversation.specs.Answering.{IsIncomplete, client_ending, peer_ending, web_ending, AnswersClient, MeetsPeer, AnswersBrowser, AnswersFirst};
+ghost use Rattle.conversation.specs.declared.other_end.OtherEnd.TheVariants.{Client, Peer, Browser};
+ghost use Rattle.web_connection.specs.Answers.{NeedsRequest};
+ghost use Rattle.web_connection.specs.declared.step.WebStep.TheVariants.{NeedsInput as NeedsBytesFirst};
 
 use crate::admitting::{admission_at, time_at};
 use crate::ended::Ended;
@@ -26,9 +28,10 @@ use counted_io::ServeFault;
 use exchange::{ExchangeFault, State, tell_fault};
 use historian::Server;
 use multiplex::Progress;
-use std::alloc::Global;
+use std::alloc::{AllocError, Global};
 use ua_connection::{Clock, Connection, Step};
 use ua_peers::{PeerEnded, take_first};
+use web_connection::{WebConnection, WebStep};
 
 /// What a step of a client's connection is to it.
 fn client_progress(step: Result<Step, ServeFault>) -> Progress<Result<Ended, ServeFault>>
@@ -209,6 +212,35 @@ fn answer_peer<A: Archive, C: Clock, L>(
     }
 }
 
+/// What a step of a browser's connection is to it.
+fn web_progress(step: Result<WebStep, AllocError>) -> Progress<Result<Ended, ServeFault>>
+    ensures ends { end_in result ≡ web_ending step }
+    ensures lacks { result ≡ Lacks → step ≡ Ok NeedsBytesFirst }
+{
+    match step {
+        Ok(WebStep::NeedsInput) => Progress::NeedsMore,
+        Ok(WebStep::Continues) => Progress::Answered,
+        Ok(WebStep::Ended) => Progress::Ended(Ok(Ended::Browser)),
+        Err(_) => Progress::Ended(Err(ServeFault::OutOfMemory)),
+    }
+}
+
+/// Answers what stands first on a browser's connection, if it is whole.
+fn answer_browser<A: Archive, C, L>(
+    world: &mut World<A, C, L>,
+    web: &mut WebConnection,
+    out: &mut Vec<u8>,
+) -> Progress<Result<Ended, ServeFault>>
+    ensures answers { (made : List ℕ) × (out.new.items ≡ out.old.items ++ made)
+        × AnswersBrowser A.state world.old web.old made (end_in result) world.new
+        (unless_over (end_in result) (Browser web.new)) }
+    ensures lacks { result ≡ Lacks → (out.new.items ≡ out.old.items) × NeedsRequest web.new }
+{
+    let server = &mut world.server;
+    let step = web.answer(&server.settings, &mut server.replica.archive, out);
+    web_progress(step)
+}
+
 /// Leaves the other end of a connection that ended.
 fn leave_at_end(
     other: &mut OtherEnd,
@@ -246,6 +278,10 @@ pub(crate) fn answer_first<A: Archive, C: Clock, L>(
             let progress = answer_peer(world, peer, out);
             leave_at_end(other, progress)
         }
+        OtherEnd::Browser(web) => {
+            let progress = answer_browser(world, web, out);
+            leave_at_end(other, progress)
+        }
         OtherEnd::Stranger => {
             *other = OtherEnd::Over;
             Progress::Ended(Ok(Ended::Stranger))
@@ -261,6 +297,7 @@ pub(crate) fn is_established(other: &OtherEnd) -> bool
     match other {
         OtherEnd::Client(connection) => connection.has_user(),
         OtherEnd::Peer(peer) => peer.is_heard,
-        OtherEnd::Unknown { .. } | OtherEnd::Stranger | OtherEnd::Over => false,
+        OtherEnd::Unknown { .. } | OtherEnd::Browser(_) | OtherEnd::Stranger | OtherEnd::Over =>
+            false,
     }
 }

@@ -43,9 +43,8 @@ pub(crate) fn call_outcome(ending: SlotEnd<Result<Ended, ServeFault>>) -> Result
 {
     match ending {
         SlotEnd::Finished(Ok(Ended::Peer(parted))) => parted_outcome(parted),
-        SlotEnd::Finished(Ok(Ended::Client(_) | Ended::Stranger)) | SlotEnd::EndOfInput => {
-            Err(SyncFault::Exchange(ExchangeFault::Frame))
-        }
+        SlotEnd::Finished(Ok(Ended::Client(_) | Ended::Stranger | Ended::Browser))
+        | SlotEnd::EndOfInput => { Err(SyncFault::Exchange(ExchangeFault::Frame)) }
         SlotEnd::Finished(Err(fault)) => Err(SyncFault::Connection(fault)),
         SlotEnd::WriteFailed => Err(SyncFault::Connection(ServeFault::Write)),
         SlotEnd::ReadFailed | SlotEnd::IdleTimeout | SlotEnd::Displaced => {

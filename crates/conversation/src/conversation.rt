@@ -3,10 +3,9 @@
 use crate::answering::{answer_first, is_established};
 use crate::calling::start_call;
 use crate::closing::{call_outcome, tell_call, tell_end, tell_turn};
-use crate::door::{Door, is_stranger};
 use crate::ended::Ended;
 use crate::log::Log;
-use crate::other_end::{Letters, OtherEnd, PeerDialog};
+use crate::other_end::{OtherEnd, PeerDialog, first_end};
 use crate::receiving::{take_bytes, tell_starved};
 use crate::world::World;
 use archive::Archive;
@@ -18,7 +17,7 @@ use std::marker::{Model, PhantomData};
 use ua_connection::Clock;
 use ua_peers::SyncFault;
 
-/// What is said on one connection, a client's or a peer's, over a server that others share.
+/// What is said on one connection, a client's, a peer's or a browser's, over a server that others share.
 ///
 /// It reads and writes nothing: `receive` takes bytes that came, and `answer` answers what stands first in them. The first
 /// three letters tell whose connection it is, where its door takes both.
@@ -63,18 +62,10 @@ impl<A: Archive, C: Clock, L: Log> Handler for Conversation<A, C, L> {
         world.server.settings.ends_broken() && world.server.replica.archive.is_broken()
     }
 
-    /// Nothing came yet, and nobody is known, but for strangers at the door of peers. It takes no memory.
+    /// Nothing came yet, and nobody is known, but for strangers at the door of peers, and for browsers. It takes no memory.
     fn begin(alloc: Global, origin: Origin, world: &mut World<A, C, L>) -> Self {
-        let other = if is_stranger(&world.from, origin) {
-            OtherEnd::Stranger
-        } else {
-            OtherEnd::Unknown {
-                door: Door::of_listener(origin.listener),
-                letters: Letters::new(alloc),
-            }
-        };
         Conversation {
-            other,
+            other: first_end(alloc, &world.from, origin),
             alloc,
             world: PhantomData,
         }
@@ -106,7 +97,7 @@ impl<A: Archive, C: Clock, L: Log> Handler for Conversation<A, C, L> {
     }
 
     /// Takes bytes that came. Where memory for them is wanting the connection ends, and its other end is told: a peer by an
-    /// `RXE` with 4, anyone else by an Error message with Bad_OutOfMemory.
+    /// `RXE` with 4, a browser by nothing, anyone else by an Error message with Bad_OutOfMemory.
     fn receive(&mut self, bytes: &[u8], out: &mut Vec<u8>) -> Option<Result<Ended, ServeFault>> {
         if take_bytes(self.alloc, &mut self.other, bytes) {
             return None;
@@ -116,7 +107,7 @@ impl<A: Archive, C: Clock, L: Log> Handler for Conversation<A, C, L> {
         Some(end)
     }
 
-    /// Answers a client's chunk, or a peer's frame, where it is whole. With a stranger it is over.
+    /// Answers a client's chunk, a peer's frame or a browser's request, where it is whole. With a stranger it is over.
     fn answer(
         &mut self,
         stay: Stay,

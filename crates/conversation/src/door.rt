@@ -17,16 +17,19 @@ pub enum Door {
     Clients,
     /// Peers alone.
     Peers,
+    /// Browsers alone.
+    Browsers,
 }
 
 impl Door {
-    /// That of the listener of this number: 1 takes clients alone and 2 peers alone.
+    /// That of the listener of this number: 1 takes clients alone, 2 peers alone, and 3 browsers alone.
     pub fn of_listener(listener: usize) -> Door
         ensures { result ≡ door_of_listener listener }
     {
         match listener {
             1 => Door::Clients,
             2 => Door::Peers,
+            3 => Door::Browsers,
             _ => Door::Both,
         }
     }
@@ -39,6 +42,7 @@ impl Door {
             Door::Both => 0,
             Door::Clients => 1,
             Door::Peers => 2,
+            Door::Browsers => 3,
         }
     }
 
@@ -59,7 +63,7 @@ impl Door {
     {
         match self {
             Door::Both => came.starts_with(b"RXV") || came.starts_with(b"RXD"),
-            Door::Clients => false,
+            Door::Clients | Door::Browsers => false,
             Door::Peers => true,
         }
     }
@@ -71,6 +75,6 @@ pub(crate) fn is_stranger(from: &Option<Listing<Network>>, origin: Origin) -> bo
 {
     match Door::of_listener(origin.listener) {
         Door::Peers => !is_taken(from, origin.address),
-        Door::Clients | Door::Both => false,
+        Door::Clients | Door::Both | Door::Browsers => false,
     }
 }

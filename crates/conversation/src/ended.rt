@@ -12,4 +12,6 @@ pub enum Ended {
     Peer(PeerEnded),
     /// That of somebody who came to the door of peers from where none is taken. Nothing was read or written.
     Stranger,
+    /// A browser's.
+    Browser,
 }

@@ -1,10 +1,17 @@
 //! Who is at the other end of a connection.
 
-use crate::door::Door;
+ghost use Rattle.std.specs.Prelude.{◌≡◌};
+ghost use Rattle.conversation.specs.Conversing.{first_end};
+
+use crate::door::{Door, is_stranger};
+use crate::networks::Network;
 use exchange::{Dialog, Frames};
+use multiplex::Origin;
 use std::alloc::Global;
 use std::marker::Model;
+use ua_binary::Listing;
 use ua_connection::Connection;
+use web_connection::WebConnection;
 
 /// The first letters of a connection.
 #[derive(Drop)]
@@ -71,8 +78,26 @@ pub(crate) enum OtherEnd {
     Client(Connection),
     /// A peer.
     Peer(PeerDialog),
+    /// A browser.
+    Browser(WebConnection),
     /// Somebody who came to the door of peers from where none is taken.
     Stranger,
     /// The connection is over.
     Over,
+}
+
+/// Who is at the other end of a connection that came from there, before its first byte. It takes no memory.
+pub(crate) fn first_end(alloc: Global, from: &Option<Listing<Network>>, origin: Origin) -> OtherEnd
+    ensures { result ≡ first_end from.now origin }
+{
+    if is_stranger(from, origin) {
+        return OtherEnd::Stranger;
+    }
+    match Door::of_listener(origin.listener) {
+        Door::Browsers => OtherEnd::Browser(WebConnection::new(alloc)),
+        door => OtherEnd::Unknown {
+            door,
+            letters: Letters::new(alloc),
+        },
+    }
 }

@@ -105,6 +105,10 @@ pub(crate) fn take_bytes(alloc: Global, other: &mut OtherEnd, bytes: &[u8]) -> b
             Ok(()) => true,
             Err(_) => false,
         },
+        OtherEnd::Browser(web) => match web.feed(bytes) {
+            Ok(()) => true,
+            Err(_) => false,
+        },
         OtherEnd::Stranger | OtherEnd::Over => true,
     }
 }
@@ -139,6 +143,7 @@ pub(crate) fn tell_starved(other: &OtherEnd, out: &mut Vec<u8>) -> Result<Ended,
 {
     match other {
         OtherEnd::Peer(_) => tell_starved_peer(out),
+        OtherEnd::Browser(_) => Err(ServeFault::OutOfMemory),
         OtherEnd::Unknown { .. } | OtherEnd::Client(_) | OtherEnd::Stranger | OtherEnd::Over =>
             tell_starved_client(out),
     }

@@ -6,6 +6,8 @@ mod admitting;
 #[cfg(test)]
 mod broken;
 #[cfg(test)]
+mod browsers;
+#[cfg(test)]
 mod conversations;
 #[cfg(test)]
 mod scripts;

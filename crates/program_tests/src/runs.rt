@@ -342,7 +342,7 @@ fn reads_lines(rt: HostRuntime) {
 }
 
 /// Command lines, the input, the room of the output, what it has then, what is said, and the exit status.
-static RUNS: [(&[&str], &[u8], usize, &str, &str, u8); 59] = [
+static RUNS: [(&[&str], &[u8], usize, &str, &str, u8); 62] = [
     (&["uahist", "--version"], b"", 1000, "uahist 0.1.0\n", "", 0),
     (
         &["uahist", "--version"],
@@ -794,6 +794,30 @@ static RUNS: [(&[&str], &[u8], usize, &str, &str, u8); 59] = [
         1,
     ),
     (
+        &["uahist", "serve", "--settings", "bad page"],
+        b"",
+        1000,
+        "",
+        "uahist: page's address refused\n",
+        1,
+    ),
+    (
+        &["uahist", "serve", "--settings", "busy page"],
+        b"",
+        1000,
+        "",
+        "uahist: page's address refused\n",
+        1,
+    ),
+    (
+        &["uahist", "serve", "--settings", "bad page and peer"],
+        b"",
+        1000,
+        "",
+        "uahist: peer's address refused (1)\n",
+        1,
+    ),
+    (
         &["uahist", "serve", "--settings", "bad peer"],
         b"",
         1000,
@@ -1101,7 +1125,7 @@ static CHECKS: [(&[&str], &[u8], usize, &str, &str, u8); 10] = [
 ];
 
 /// Settings files that are kept in memory: their names, and their texts.
-static FILES: [(&str, &str); 34] = [
+static FILES: [(&str, &str); 37] = [
     (
         "valued",
         "[archive]\nid = '00000000000000000000000000000000'\nreplica = 1\n[server]\nlisten = ''\nurl = ''\napplication = ''\nnamespace = ''\nanonymous = true\n[[variable]]\nid = 'T'\nname = ''\ntype = 'Double'\n",
@@ -1153,6 +1177,18 @@ static FILES: [(&str, &str); 34] = [
     (
         "busy, with a door",
         "[archive]\nid = '00000000000000000000000000000000'\nreplica = 1\n[server]\nlisten = '127.0.0.1:4841'\nurl = ''\napplication = ''\nnamespace = ''\nanonymous = true\n[door]\nlisten = '127.0.0.1:4842'\n",
+    ),
+    (
+        "bad page",
+        "[archive]\nid = '00000000000000000000000000000000'\nreplica = 1\n[server]\nlisten = '127.0.0.1:4840'\nurl = ''\napplication = ''\nnamespace = ''\nanonymous = true\n[web]\nlisten = 'browsers'\n",
+    ),
+    (
+        "busy page",
+        "[archive]\nid = '00000000000000000000000000000000'\nreplica = 1\n[server]\nlisten = '127.0.0.1:4840'\nurl = ''\napplication = ''\nnamespace = ''\nanonymous = true\n[web]\nlisten = '127.0.0.1:4840'\n",
+    ),
+    (
+        "bad page and peer",
+        "[archive]\nid = '00000000000000000000000000000000'\nreplica = 1\n[server]\nlisten = '127.0.0.1:4840'\nurl = ''\napplication = ''\nnamespace = ''\nanonymous = true\n[web]\nlisten = ''\n[[peer]]\naddress = ''\nevery = 60\n",
     ),
     (
         "bad peer",
@@ -1339,6 +1375,11 @@ impl Host for Machine {
     }
 
     fn listen(&mut self, listening: &Listening) -> Result<Clients<'static>, Door> {
+        if let Some(web) = listening.browsers {
+            if web.address.port() == listening.clients.port() {
+                return Err(Door::Browsers);
+            }
+        }
         let Some(peers) = listening.peers else {
             return self.callers_at(listening.clients, Door::Both);
         };

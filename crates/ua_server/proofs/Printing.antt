@@ -40,7 +40,7 @@ use Rattle.ua_settings.specs.Settings.{SettingsValues}
 use Rattle.archive.specs.Store.{Store}
 use Rattle.ua_server.specs.Exposing.{IsTaken, JudgesStrict}
 use Rattle.ua_server.specs.Host.{Machine, KnownMachine}
-use Rattle.conversation.specs.declared.door.Door.TheVariants.{Both, Clients, Peers}
+use Rattle.conversation.specs.declared.door.Door.TheVariants.{Both, Clients, Peers, Browsers}
 use Rattle.ua_server.specs.Network.{Readings, Serving}
 use Rattle.ua_server.specs.Program.{SettingsAt, FindsNoPlace, OpensBy, CallsPeer, Calling, Scene, PrintsSynced, Shows, Findings, IsMistaken, DoesCommand, DoesLine, Runs, OpensUnless, line_refusal, settings_path, store_use}
 use Rattle.ua_server.specs.declared.program.StoreUse.{StoreUse}
@@ -306,6 +306,8 @@ unheard-line known settings old new line (inr (listening, is, Both, listens, e),
 unheard-line known settings old new line (inr (listening, is, Clients, listens, e), stays) =
     absurd cc
 unheard-line known settings old new line (inr (listening, is, Peers, listens, e), stays) =
+    absurd cc
+unheard-line known settings old new line (inr (listening, is, Browsers, listens, e), stays) =
     absurd cc
 
 -- no command ends as a refused line

@@ -5,7 +5,7 @@ use Rattle.std.specs.Prelude.{Err}
 use Rattle.ua_settings.specs.Settings.{SettingsValues}
 use Rattle.counted_io.specs.declared.fault.ServeFault.TheVariants.{OutOfMemory}
 use Rattle.conversation.specs.declared.door.Door.{Door}
-use Rattle.conversation.specs.declared.door.Door.TheVariants.{Both, Clients, Peers}
+use Rattle.conversation.specs.declared.door.Door.TheVariants.{Both, Clients, Peers, Browsers}
 use Rattle.ua_server.specs.declared.listening.Listening.{Listening}
 use Rattle.ua_server.specs.declared.program.ProgramFault.{ProgramFault}
 use Rattle.ua_server.specs.declared.program.ProgramFault.TheVariants as program
@@ -36,6 +36,7 @@ module _ {C E : Type 0} (known : KnownMachine) (gave : Readings C) (told : Known
   no-address program.DoorAddress none same stays = (inl (none, same), stays)
   no-address (program.DoorNetwork number) none same stays = (inl (none, same), stays)
   no-address (program.PeerAddress number) none same stays = (inl (none, same), stays)
+  no-address program.WebAddress none same stays = (inl (none, same), stays)
   no-address (program.Line fault) none same stays = absurd none
   no-address program.File none same stays = absurd none
   no-address (program.Settings fault place) none same stays = absurd none
@@ -62,6 +63,8 @@ module _ {C E : Type 0} (known : KnownMachine) (gave : Readings C) (told : Known
   no-place listening Clients is listens stays =
       (inr (listening, is, Clients, listens, refl), stays)
   no-place listening Peers is listens stays = (inr (listening, is, Peers, listens, refl), stays)
+  no-place listening Browsers is listens stays =
+      (inr (listening, is, Browsers, listens, refl), stays)
 
   -- memory was wanting
   no-memory : new.host ≡ old.host → new ≡ record old { host = new.host } → new ≡ old
@@ -84,6 +87,7 @@ none-serving settings program.Address none = tt
 none-serving settings program.DoorAddress none = tt
 none-serving settings (program.DoorNetwork number) none = tt
 none-serving settings (program.PeerAddress number) none = tt
+none-serving settings program.WebAddress none = tt
 none-serving settings (program.Line fault) none = absurd none
 none-serving settings program.File none = absurd none
 none-serving settings (program.Settings fault place) none = absurd none
@@ -106,6 +110,7 @@ door-serving : (door : Door) → IsServingFault (door_fault door)
 door-serving Both = tt
 door-serving Clients = tt
 door-serving Peers = tt
+door-serving Browsers = tt
 
 pub unheard-serving : (known : KnownMachine) (settings : SettingsValues) (fault : ProgramFault)
     (old new : known.Host) → IsUnheard known settings fault old new → IsServingFault fault

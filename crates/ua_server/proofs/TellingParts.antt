@@ -13,7 +13,7 @@ use Rattle.counted_io.specs.declared.fault.ServeFault.{ServeFault}
 use Rattle.ua_peers.specs.declared.calling.SyncFault.{SyncFault}
 use Rattle.ua_server.specs.declared.log.ErrorLog.{ErrorLog}
 use Rattle.ua_server.specs.declared.program.ProgramFault.{ProgramFault}
-use Rattle.ua_server.specs.declared.program.ProgramFault.TheVariants.{Line, File, Settings, Store, BadHex, Address, DoorAddress, DoorNetwork, PeerAddress, StoreBroken, Connection, Call, Exchange, Peer, BadOption, NoText, BadUser, NoStore, NoHeader, UnreadRows, RowsRefused}
+use Rattle.ua_server.specs.declared.program.ProgramFault.TheVariants.{Line, File, Settings, Store, BadHex, Address, DoorAddress, DoorNetwork, PeerAddress, WebAddress, StoreBroken, Connection, Call, Exchange, Peer, BadOption, NoText, BadUser, NoStore, NoHeader, UnreadRows, RowsRefused}
 use Rattle.ua_server.specs.Telling.{Known, words_of, number_told, numbered, fault_text, failed_text, outcome_text, call_lines, told_line, place_line, KeepsLast, LogsCall, LogsLine}
 
 -- the text of a fault without a number, and of one with it
@@ -39,6 +39,7 @@ short-words Address number e = absurd cc
 short-words DoorAddress number e = absurd cc
 short-words (DoorNetwork place) number e = omega arith
 short-words (PeerAddress place) number e = omega arith
+short-words WebAddress number e = absurd cc
 short-words StoreBroken number e = absurd cc
 short-words (Connection fault) number e = omega arith
 short-words (Call fault) number e = omega arith
@@ -134,6 +135,7 @@ second-line Address = refl
 second-line DoorAddress = refl
 second-line (DoorNetwork number) = refl
 second-line (PeerAddress number) = refl
+second-line WebAddress = refl
 second-line StoreBroken = refl
 second-line (Connection fault) = refl
 second-line (Call fault) = refl

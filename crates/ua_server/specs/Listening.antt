@@ -3,15 +3,17 @@ use Rattle.std.specs.Prelude.{◌≡◌, ℕ, ◌+◌, List, [], ◌∷◌, Opti
 use Rattle.std.specs.Net.Grammar.{IsSocketText}
 use Rattle.std.specs.declared.net.socket_addr.SocketAddr.{SocketAddr}
 use Rattle.ua_settings.specs.declared.peers.PeerCall.{PeerCall}
+use Rattle.ua_settings.specs.declared.web.WebSettings.{WebSettings}
 use Rattle.ua_settings.specs.Settings.{SettingsValues}
 use Rattle.conversation.specs.Networks.{IsNetworkText, IsNoNetwork}
 use Rattle.conversation.specs.declared.networks.Network.{Network}
 use Rattle.conversation.specs.declared.door.Door.{Door}
-use Rattle.conversation.specs.declared.door.Door.TheVariants.{Both, Clients, Peers}
+use Rattle.conversation.specs.declared.door.Door.TheVariants.{Both, Clients, Peers, Browsers}
 use Rattle.ua_server.specs.declared.listening.Callee.{Callee}
+use Rattle.ua_server.specs.declared.listening.WebDoor.{WebDoor}
 use Rattle.ua_server.specs.declared.listening.Listening.{Listening}
 use Rattle.ua_server.specs.declared.program.ProgramFault.{ProgramFault}
-use Rattle.ua_server.specs.declared.program.ProgramFault.TheVariants.{Address, DoorAddress, DoorNetwork, PeerAddress}
+use Rattle.ua_server.specs.declared.program.ProgramFault.TheVariants.{Address, DoorAddress, DoorNetwork, PeerAddress, WebAddress}
 
 -- a text spells no address
 abbrev pub IsNoAddress : List ℕ → Type 0
@@ -22,6 +24,14 @@ abbrev pub IsDoorAddress : Option (List ℕ) → Option SocketAddr → Type 0
 IsDoorAddress None address = address ≡ None
 IsDoorAddress (Some text) (Some address) = IsSocketText text address
 IsDoorAddress (Some text) None = ⊥
+
+-- where browsers come to, and how many of their connections are taken at a time, where the settings
+-- say
+abbrev pub IsWebDoor : Option WebSettings → Option WebDoor → Type 0
+IsWebDoor None door = door ≡ None
+IsWebDoor (Some web) (Some door) =
+    IsSocketText web.listen door.address × (door.connections ≡ web.connections)
+IsWebDoor (Some web) None = ⊥
 
 -- each of these peers, in order, with the address that its text spells
 abbrev pub AreCallees : List PeerCall → List Callee → Type 0
@@ -52,11 +62,13 @@ IsFrom None from = from ≡ None
 IsFrom (Some texts) (Some networks) = AreNetworks texts networks
 IsFrom (Some texts) None = ⊥
 
--- where a server listens, from where it takes peers, whom it calls, and how many may come at a time
+-- where a server listens, from where it takes peers, where browsers come to, whom it calls, and how
+-- many may come at a time
 pub record IsListening (settings : SettingsValues) (listening : Listening) : Type 0 where
   pub clients : IsSocketText settings.listen listening.clients
   pub peers : IsDoorAddress (listen_at settings) listening.peers
   pub from : IsFrom (networks_at settings) listening.from
+  pub browsers : IsWebDoor settings.web listening.browsers
   pub callees : AreCallees settings.peers listening.callees.items
   pub connections : listening.connections ≡ settings.connections
 
@@ -70,6 +82,11 @@ IsWrongPeer peers number =
 abbrev pub IsNoDoor : Option (List ℕ) → Type 0
 IsNoDoor None = ⊥
 IsNoDoor (Some text) = IsNoAddress text
+
+-- the address where browsers come to is none
+abbrev pub IsNoWeb : Option WebSettings → Type 0
+IsNoWeb None = ⊥
+IsNoWeb (Some web) = IsNoAddress web.listen
 
 -- the first network that is none has this number, from 1
 abbrev pub IsWrongNetwork : List (List ℕ) → (number : ℕ) → Type 0
@@ -95,9 +112,13 @@ HasDoor settings = (door : Option SocketAddr) × IsDoorAddress (listen_at settin
 abbrev pub HasFrom : SettingsValues → Type 0
 HasFrom settings = (from : Option (List Network)) × IsFrom (networks_at settings) from
 
+-- the addresses of the peers that are called are such
+abbrev pub HasCallees : SettingsValues → Type 0
+HasCallees settings = (callees : List Callee) × AreCallees settings.peers callees
+
 -- the fault tells the first text of the settings that is to spell an address or a network and
 -- spells none: where clients come to before where peers do, from where these are taken behind it,
--- and then the peers that are called
+-- then the peers that are called, and then where browsers come to
 abbrev pub HasNoAddress : SettingsValues → ProgramFault → Type 0
 HasNoAddress settings Address = IsNoAddress settings.listen
 HasNoAddress settings DoorAddress = HasListen settings × IsNoDoor (listen_at settings)
@@ -106,8 +127,16 @@ HasNoAddress settings (DoorNetwork number) =
     × IsNoNetworkAt (networks_at settings) (DoorNetwork number)
 HasNoAddress settings (PeerAddress number) =
     HasListen settings × HasDoor settings × HasFrom settings × IsWrongPeer settings.peers number
+HasNoAddress settings WebAddress =
+    HasListen settings × HasDoor settings × HasFrom settings × HasCallees settings
+    × IsNoWeb settings.web
 HasNoAddress settings fault = ⊥
 
 -- what is told where a door's address can't be listened at
 abbrev pub door_fault : Door → ProgramFault
-door_fault door = elim door [ Both ↦ Address | Clients ↦ Address | Peers ↦ DoorAddress ]
+door_fault door = elim door [
+  | Both ↦ Address
+  | Clients ↦ Address
+  | Peers ↦ DoorAddress
+  | Browsers ↦ WebAddress
+]

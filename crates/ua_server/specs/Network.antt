@@ -16,7 +16,7 @@ use Rattle.conversation.specs.Closing.{TellsTurn}
 use Rattle.conversation.specs.Conversing.{behavior_over}
 use Rattle.ua_server.specs.declared.log.ErrorLog.{ErrorLog}
 use Rattle.ua_server.specs.declared.program.ProgramFault.{ProgramFault}
-use Rattle.ua_server.specs.declared.program.ProgramFault.TheVariants.{Address, DoorAddress, DoorNetwork, PeerAddress, StoreBroken, Connection}
+use Rattle.ua_server.specs.declared.program.ProgramFault.TheVariants.{Address, DoorAddress, DoorNetwork, PeerAddress, WebAddress, StoreBroken, Connection}
 use Rattle.ua_server.specs.Host.{KnownMachine}
 use Rattle.ua_server.specs.Listening.{IsFrom, networks_at}
 use Rattle.ua_server.specs.Telling.{Known, fresh_log, logs_to}
@@ -106,6 +106,7 @@ IsServingFault fault =
       | DoorAddress ↦ Unit {0}
       | DoorNetwork number ↦ Unit {0}
       | PeerAddress number ↦ Unit {0}
+      | WebAddress ↦ Unit {0}
       | StoreBroken ↦ Unit {0}
       | Connection OutOfMemory ↦ Unit {0}
       | _ ↦ ⊥

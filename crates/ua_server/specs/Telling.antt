@@ -7,7 +7,7 @@ use Rattle.std.specs.Result.{result_err}
 use Rattle.std.specs.Io.KnownBytes.{Appends}
 use Rattle.counted_io.specs.Fault.{serve_fault_number as connection_number}
 use Rattle.ua_server.specs.declared.program.ProgramFault.{ProgramFault}
-use Rattle.ua_server.specs.declared.program.ProgramFault.TheVariants.{Line, File, Settings, Store, BadHex, Address, DoorAddress, DoorNetwork, PeerAddress, StoreBroken, Connection, Call, Exchange, Peer, BadOption, NoText, BadUser, NoStore, NoHeader, UnreadRows, RowsRefused}
+use Rattle.ua_server.specs.declared.program.ProgramFault.TheVariants.{Line, File, Settings, Store, BadHex, Address, DoorAddress, DoorNetwork, PeerAddress, WebAddress, StoreBroken, Connection, Call, Exchange, Peer, BadOption, NoText, BadUser, NoStore, NoHeader, UnreadRows, RowsRefused}
 use Rattle.ua_peers.specs.declared.calling.Synced.{Synced}
 use Rattle.command_line.specs.Line.{line_text_of}
 use Rattle.counted_io.specs.Bytes.{AppendsPart, counted}
@@ -66,6 +66,7 @@ words_of Address = codes "address refused"
 words_of DoorAddress = codes "door's address refused"
 words_of (DoorNetwork number) = codes "door's network refused"
 words_of (PeerAddress number) = codes "peer's address refused"
+words_of WebAddress = codes "page's address refused"
 words_of StoreBroken = codes "store broken"
 words_of (Connection fault) = codes "connection ended"
 words_of (Call fault) = codes "connection ended"

@@ -58,6 +58,7 @@ fn door_fault(door: Door) -> ProgramFault
     match door {
         Door::Both | Door::Clients => ProgramFault::Address,
         Door::Peers => ProgramFault::DoorAddress,
+        Door::Browsers => ProgramFault::WebAddress,
     }
 }
 

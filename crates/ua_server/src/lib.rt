@@ -29,7 +29,7 @@ pub use historian::Server;
 pub use histories::OptionFault;
 pub use host::Host;
 pub use laws::connections_are_updates;
-pub use listening::{Callee, Listening};
+pub use listening::{Callee, Listening, WebDoor};
 pub use multiplex::{Limits, Slot, each_connection_is_alone};
 pub use program::{ProgramFault, Ran, report, run};
 pub use single::answer_at;

@@ -2,8 +2,8 @@
 
 ghost use Rattle.std.specs.Prelude.{◌≡◌, ◌⊎◌, MatchOption, MatchResult, IfOk, IfErr, ℕ};
 ghost use Rattle.std.specs.Net.Grammar.{IsSocketText};
-ghost use Rattle.ua_server.specs.Listening.{IsNoAddress, IsDoorAddress, IsNoDoor, AreNetworks, IsWrongNetwork, IsFrom, IsNoNetworkAt, networks_at, listen_at, HasNoAddress, IsWrongPeer, AreCallees, IsListening};
-ghost use Rattle.ua_server.specs.declared.program.ProgramFault.TheVariants.{Connection, DoorAddress, DoorNetwork, PeerAddress};
+ghost use Rattle.ua_server.specs.Listening.{IsNoAddress, IsWebDoor, IsNoWeb, IsDoorAddress, IsNoDoor, AreNetworks, IsWrongNetwork, IsFrom, IsNoNetworkAt, networks_at, listen_at, HasNoAddress, IsWrongPeer, AreCallees, IsListening};
+ghost use Rattle.ua_server.specs.declared.program.ProgramFault.TheVariants.{Connection, DoorAddress, DoorNetwork, PeerAddress, WebAddress};
 ghost use Rattle.counted_io.specs.declared.fault.ServeFault.TheVariants.{OutOfMemory};
 
 use crate::program::ProgramFault;
@@ -22,6 +22,14 @@ pub struct Callee {
     pub every: u32,
 }
 
+/// Where browsers come to.
+#[derive(Clone, Copy, Debug)]
+pub struct WebDoor {
+    pub address: SocketAddr,
+    /// How many of their connections are taken at a time.
+    pub connections: u32,
+}
+
 /// Where a server listens, and whom it calls.
 #[derive(Debug, Drop)]
 pub struct Listening {
@@ -31,6 +39,8 @@ pub struct Listening {
     pub peers: Option<SocketAddr>,
     /// From where they are taken there; none: from everywhere.
     pub from: Option<Listing<Network>>,
+    /// Where browsers come to; none where they don't.
+    pub browsers: Option<WebDoor>,
     /// The peers that are called, in the order of the settings.
     pub callees: Vec<Callee>,
     /// How many connections are taken at a time, calls apart.
@@ -109,6 +119,23 @@ fn from_of(alloc: Global, settings: &Settings) -> Result<Option<Listing<Network>
     }
 }
 
+/// Where browsers come to.
+fn web_of(settings: &Settings) -> Result<Option<WebDoor>, ProgramFault>
+    ensures { MatchResult result (IsWebDoor settings.now.web)
+        (λ fault. (fault ≡ WebAddress) × IsNoWeb settings.now.web) }
+{
+    let Some(web) = settings.web() else {
+        return Ok(None);
+    };
+    match address_of(web.listen.as_str()) {
+        Some(address) => Ok(Some(WebDoor {
+            address,
+            connections: web.connections,
+        })),
+        None => Err(ProgramFault::WebAddress),
+    }
+}
+
 /// The peers to be called. `PeerAddress` tells the first whose address is none, from 1.
 fn callees_of(alloc: Global, peers: &[PeerCall]) -> Result<Vec<Callee>, ProgramFault>
     ensures ok { IfOk result (λ callees. AreCallees peers.now callees.items) }
@@ -133,8 +160,8 @@ fn callees_of(alloc: Global, peers: &[PeerCall]) -> Result<Vec<Callee>, ProgramF
     Ok(callees)
 }
 
-/// Where a server of these settings listens, and whom it calls. `Address`, `DoorAddress`, `DoorNetwork` and `PeerAddress` tell
-/// which text of the settings spells no address, or no network.
+/// Where a server of these settings listens, and whom it calls. `Address`, `DoorAddress`, `DoorNetwork`, `PeerAddress` and
+/// `WebAddress` tell which text of the settings spells no address, or no network.
 pub(crate) fn listening_of(alloc: Global, settings: &Settings) -> Result<Listening, ProgramFault>
     ensures ok { IfOk result (IsListening settings.now) }
     ensures err { IfErr result
@@ -151,11 +178,16 @@ pub(crate) fn listening_of(alloc: Global, settings: &Settings) -> Result<Listeni
         Ok(from) => from,
         Err(fault) => return Err(fault),
     };
-    match callees_of(alloc, settings.peers().as_slice()) {
-        Ok(callees) => Ok(Listening {
+    let callees = match callees_of(alloc, settings.peers().as_slice()) {
+        Ok(callees) => callees,
+        Err(fault) => return Err(fault),
+    };
+    match web_of(settings) {
+        Ok(browsers) => Ok(Listening {
             clients,
             peers,
             from,
+            browsers,
             callees,
             connections: settings.connections(),
         }),

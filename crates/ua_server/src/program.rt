@@ -62,6 +62,8 @@ pub enum ProgramFault {
     DoorNetwork(u64),
     /// The address of the peer of this number in the settings, from 1, is none.
     PeerAddress(u64),
+    /// The address where browsers come to is none, or can't be listened at.
+    WebAddress,
     /// The store broke while connections were served, and the settings say that nobody is served then.
     StoreBroken,
     /// A connection met a fault.
@@ -106,6 +108,7 @@ impl ProgramFault {
             ProgramFault::DoorAddress => "door's address refused",
             ProgramFault::DoorNetwork(_) => "door's network refused",
             ProgramFault::PeerAddress(_) => "peer's address refused",
+            ProgramFault::WebAddress => "page's address refused",
             ProgramFault::StoreBroken => "store broken",
             ProgramFault::Connection(_) | ProgramFault::Call(_) => "connection ended",
             ProgramFault::Exchange(_) | ProgramFault::Peer(_) => "exchange ended",
@@ -139,6 +142,7 @@ impl ProgramFault {
             | ProgramFault::BadHex
             | ProgramFault::Address
             | ProgramFault::DoorAddress
+            | ProgramFault::WebAddress
             | ProgramFault::StoreBroken
             | ProgramFault::BadOption(_)
             | ProgramFault::NoText
@@ -165,6 +169,7 @@ impl ProgramFault {
             | ProgramFault::DoorAddress
             | ProgramFault::DoorNetwork(_)
             | ProgramFault::PeerAddress(_)
+            | ProgramFault::WebAddress
             | ProgramFault::StoreBroken
             | ProgramFault::Connection(_)
             | ProgramFault::Call(_)
@@ -262,8 +267,10 @@ fn open_server<H: Host>(
         Some(fault) => return Err(fault),
         None => {}
     }
-    let archive = open_archive(&settings, store_use(line), host).map_err(ProgramFault::Store)?;
-    Ok(Server::new(alloc, settings, archive))
+    match open_archive(&settings, store_use(line), host) {
+        Ok(archive) => Ok(Server::new(alloc, settings, archive)),
+        Err(fault) => Err(ProgramFault::Store(fault)),
+    }
 }
 
 /// Answers one connection, as the program tells it.
@@ -604,8 +611,8 @@ fn print_text<W: Write>(text: &[u8], output: &mut Counted<W>) -> Result<(), Prog
 ///
 /// Errors: `Line` where the words are no command, `File` and `Settings` where the settings file can't be read or is refused,
 /// `Store` where the settings' store can't be opened, or can't be read for a dump, `Address` where the settings' address, or
-/// that of the peer to be called, is none, or can't be listened at or called, `DoorAddress` and `PeerAddress` the same of the
-/// settings' door and of a peer that the server is to call, `BadHex` where the input is to be hex and
+/// that of the peer to be called, is none, or can't be listened at or called, `DoorAddress`, `PeerAddress` and `WebAddress` the same of
+/// the settings' door, of a peer that the server is to call, and of where browsers come to, `BadHex` where the input is to be hex and
 /// isn't, `Connection` where the connection of standard input met a fault, or a dump's writer did, or that of the line of a
 /// call of a peer, and of such a call
 /// `Call` where its connection met a fault, `Exchange` where the exchange met one here, and `Peer` where the peer ended it
@@ -693,6 +700,7 @@ pub fn report<W: Write>(ending: Result<(), ProgramFault>, errors: &mut Counted<W
         | ProgramFault::DoorAddress
         | ProgramFault::DoorNetwork(_)
         | ProgramFault::PeerAddress(_)
+        | ProgramFault::WebAddress
         | ProgramFault::Connection(_)
         | ProgramFault::Call(_)
         | ProgramFault::Exchange(_)

@@ -183,7 +183,10 @@ pub(crate) fn of_ending(
         ProgramFault::Settings(fault, Some(place)) => of_settings(*fault, place.as_str()),
         ProgramFault::Store(fault) => of_refusal(*fault, said),
         ProgramFault::StoreBroken => of_refusal(StoreFault::Broken, None),
-        ProgramFault::Address | ProgramFault::DoorAddress | ProgramFault::PeerAddress(_) => {
+        ProgramFault::Address
+        | ProgramFault::DoorAddress
+        | ProgramFault::PeerAddress(_)
+        | ProgramFault::WebAddress => {
             said.or(Some("not an address: want one as 127.0.0.1:4840"))
         }
         ProgramFault::DoorNetwork(_) => Some("not a network: want one as 10.1.0.0/16"),

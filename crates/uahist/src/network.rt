@@ -12,9 +12,9 @@ use std::rc::Rc;
 use std::time::{Duration, Instant};
 use ua_server::{Callee, Door, Listening};
 
-/// The tokens of the listeners are from here on, that of the first one first. Smaller ones are of those who wait for a place, and
-/// the smallest are numbers of slots.
-const LISTENERS: usize = usize::MAX - 1;
+/// The tokens of the listeners are from here on, that of the first one first: there are three at most. Smaller ones are of those
+/// who wait for a place, and the smallest are numbers of slots.
+const LISTENERS: usize = usize::MAX - 2;
 
 /// How many milliseconds are waited at most: so often it is looked who was silent for too long.
 const TICK: u64 = 500;
@@ -62,6 +62,10 @@ pub(crate) struct TcpSource<'a> {
     callees: Vec<DueCallee>,
     /// Of each slot, whether the last wait found that its connection may be ready.
     ready: Vec<bool>,
+    /// Of each slot, whether a browser has it.
+    browsers: Vec<bool>,
+    /// How many connections of browsers are taken at a time.
+    most_browsers: usize,
     start: Instant,
 }
 
@@ -82,12 +86,19 @@ impl<'a> TcpSource<'a> {
             Ok(()) => {}
             Err(error) => return Err((door, error.kind())),
         }
-        let Some(address) = listening.peers else {
+        if let Some(address) = listening.peers {
+            match source.open(address, Door::Peers) {
+                Ok(()) => {}
+                Err(error) => return Err((Door::Peers, error.kind())),
+            }
+        }
+        let Some(web) = listening.browsers else {
             return Ok(source);
         };
-        match source.open(address, Door::Peers) {
+        source.most_browsers = web.connections as usize;
+        match source.open(web.address, Door::Browsers) {
             Ok(()) => Ok(source),
-            Err(error) => Err((Door::Peers, error.kind())),
+            Err(error) => Err((Door::Browsers, error.kind())),
         }
     }
 
@@ -104,6 +115,8 @@ impl<'a> TcpSource<'a> {
             room: WaitingRoom::new(rt.alloc()),
             callees: due_at_once(rt, callees)?,
             ready: Vec::new(rt.alloc()),
+            browsers: Vec::new(rt.alloc()),
+            most_browsers: 0,
             start: Instant::now(rt)?,
         })
     }
@@ -156,22 +169,35 @@ impl<'a> TcpSource<'a> {
             } else {
                 0
             };
-            if self
-                .doorways
-                .get(place)
-                .is_some_and(|doorway| doorway.is_coming)
-            {
+            if self.may_come(place) {
                 return self.doorways.get_mut(place);
             }
         }
         None
     }
 
+    /// Whether somebody may come to this doorway, and would be taken: of browsers so many are at a time.
+    fn may_come(&self, place: usize) -> bool {
+        match self.doorways.get(place) {
+            None => false,
+            Some(doorway) => {
+                doorway.is_coming && (doorway.door != Door::Browsers || self.takes_browsers())
+            }
+        }
+    }
+
+    /// Whether one browser more is taken.
+    fn takes_browsers(&self) -> bool {
+        let served = self.browsers.iter().filter(|here| **here).count();
+        let waiting = self.room.count_from(Door::Browsers.listener());
+        served.saturating_add(waiting) < self.most_browsers
+    }
+
     /// Lets who came into the waiting room, as far as there is room.
     fn fill_room(&mut self, now: u64) {
         self.room.end_silent(now);
         for _ in 0..MOST_AT_ONCE {
-            let is_coming = self.doorways.iter().any(|doorway| doorway.is_coming);
+            let is_coming = (0..self.doorways.len()).any(|place| self.may_come(place));
             if !is_coming || !self.room.makes_room(now) {
                 return;
             }
@@ -192,14 +218,26 @@ impl<'a> TcpSource<'a> {
     fn next_for(&mut self, slot: usize) -> io::Result<Option<(Incoming, Outgoing, Origin)>> {
         if let Some((mut stream, origin)) = self.room.next() {
             self.poll.registry().deregister(&mut stream)?;
-            let (reader, writer) = self.watch(slot, stream)?;
-            return Ok(Some((reader, writer, origin)));
+            return Ok(Some(self.seat(slot, stream, origin)?));
         }
         let Some((stream, origin)) = self.next()? else {
             return Ok(None);
         };
+        Ok(Some(self.seat(slot, stream, origin)?))
+    }
+
+    /// The ends of a connection that came from there, for this slot.
+    fn seat(
+        &mut self,
+        slot: usize,
+        stream: TcpStream,
+        origin: Origin,
+    ) -> io::Result<(Incoming, Outgoing, Origin)> {
         let (reader, writer) = self.watch(slot, stream)?;
-        Ok(Some((reader, writer, origin)))
+        if let Some(here) = self.browsers.get_mut(slot) {
+            *here = origin.listener == Door::Browsers.listener();
+        }
+        Ok((reader, writer, origin))
     }
 
     /// A connection with a peer, for this slot. It needn't stand yet.
@@ -212,6 +250,9 @@ impl<'a> TcpSource<'a> {
     fn watch(&mut self, slot: usize, mut stream: TcpStream) -> io::Result<(Incoming, Outgoing)> {
         for _ in self.ready.len()..slot.saturating_add(1) {
             self.ready.push(false)?;
+        }
+        for _ in self.browsers.len()..slot.saturating_add(1) {
+            self.browsers.push(false)?;
         }
         self.poll.registry().register(
             &mut stream,
@@ -355,6 +396,9 @@ impl Source for TcpSource<'_> {
             if callee.slot == Some(slot) {
                 callee.slot = None;
             }
+        }
+        if let Some(here) = self.browsers.get_mut(slot) {
+            *here = false;
         }
         drop(reader);
         drop(writer);

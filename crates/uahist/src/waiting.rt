@@ -101,6 +101,14 @@ impl WaitingRoom {
         Some((stream, origin))
     }
 
+    /// How many wait that came to the listener of this number.
+    pub fn count_from(&self, listener: usize) -> usize {
+        self.waiting
+            .iter()
+            .filter(|one| one.origin.listener == listener)
+            .count()
+    }
+
     /// Ends those who were silent for two minutes.
     pub fn end_silent(&mut self, now: u64) {
         self.waiting.retain(|one| !one.is_silent(now, SILENCE));

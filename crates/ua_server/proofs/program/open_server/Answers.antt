@@ -3,8 +3,8 @@ use Rattle.ua_server.specs.Program.{line_refusal, store_use}
 use Rattle.ua_server.proofs.Opened.{opened-unrefused}
 use Rattle.ua_server.proofs.program.open_server.Goals as goal
 
-pub returns-in_err-archive-clause-opens : goal.returns-in_err-archive-clause-opens
-returns-in_err-archive-clause-opens g c =
+pub returns-in-Err-clause-opens : goal.returns-in-Err-clause-opens
+returns-in-Err-clause-opens g c =
     let settings = c.in_ok-settings.settings in (
       Ok settings,
       c.settings_at.new.host,
