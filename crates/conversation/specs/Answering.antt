@@ -151,12 +151,10 @@ TurnsAway v made ending w new =
 -- nobody is known nothing is answered
 abbrev pub AnswersFirst : {A C L : Type 0} → (A → Store) → (C → List ℤ → C → Type 0) → World A C L
     → OtherEnd → (made : List ℕ) → Option ConversationEnding → World A C L → OtherEnd → Type 0
-AnswersFirst state gave v (Client link) made ending w new =
-    AnswersClient state gave v link made ending w new
-AnswersFirst state gave v (Peer peer) made ending w new =
-    MeetsPeer state gave v peer made ending w new
-AnswersFirst state gave v (Browser web) made ending w new =
-    AnswersBrowser state v web made ending w new
-AnswersFirst state gave v Stranger made ending w new = TurnsAway v made ending w new
-AnswersFirst state gave v other made ending w new =
-    (made ≡ []) × (ending ≡ None) × (w ≡ v) × (new ≡ other)
+AnswersFirst state gave v other made ending w new = elim other [
+  | Client link ↦ AnswersClient state gave v link made ending w new
+  | Peer peer ↦ MeetsPeer state gave v peer made ending w new
+  | Browser web ↦ AnswersBrowser state v web made ending w new
+  | Stranger ↦ TurnsAway v made ending w new
+  | same ↦ (made ≡ []) × (ending ≡ None) × (w ≡ v) × (new ≡ same)
+]

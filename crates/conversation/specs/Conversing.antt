@@ -30,8 +30,10 @@ abbrev pub serves_nobody : {A C L : Type 0} → (A → Store) → World A C L �
 serves_nobody state w =
     w.server.settings.ends_broken && (state w.server.replica.archive).broken
 
--- a connection begins with a stranger, with a browser, or with nobody known at its other end, at the
--- door of its listener, or is a call of a peer; no answer waits, and nothing hangs on the time but that a long
+-- a connection begins with a stranger, with a browser, or with nobody known at its other end, at
+-- the
+-- door of its listener, or is a call of a peer; no answer waits, and nothing hangs on the time but
+-- that a long
 -- turn is told
 abbrev pub behavior_over : {A C L : Type 0} → (A → Store) → (C → List ℤ → C → Type 0)
     → LogCalls L → Behavior OtherEnd (World A C L) ConversationEnding

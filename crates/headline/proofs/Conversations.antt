@@ -7,7 +7,7 @@ use Rattle.counted_io.specs.declared.fault.ServeFault.{ServeFault}
 use Rattle.exchange.specs.declared.fault.ExchangeFault.{ExchangeFault}
 use Rattle.exchange.specs.Dialogs.{party_of}
 use Rattle.ua_connection.specs.Turns.{ConnectionState}
-use Rattle.ua_peers.specs.Wires.{IsFirstPart}
+use Rattle.ua_peers.specs.Wires.{IsStartOf}
 use Rattle.ua_peers.specs.declared.peers.PeerEnded.{PeerEnded}
 use Rattle.ua_peers.specs.declared.calling.SyncFault.{SyncFault}
 use Rattle.ua_peers.specs.declared.calling.SyncFault.TheVariants.{Exchange}
@@ -25,7 +25,7 @@ use Rattle.headline.specs.Plants.{AreUnforged, BeginsCall, Plant, plant_after, I
 
 -- what is written is what was said, or nothing
 told_part : (said made : List ℕ) (ends : Option (Result PeerEnded ServeFault))
-    (ending : Option ConversationEnding) → Tells said ends made ending → IsFirstPart made said
+    (ending : Option ConversationEnding) → Tells said ends made ending → IsStartOf made said
 told_part said made ends ending (inl all) = ([], sym all.0 ∙ sym (append-nil made))
 told_part said made ends ending (inr none) = (said, told none.0)
   where

@@ -64,7 +64,8 @@ all_there P [] i x all e = absurd (none-some x e)
 all_there P (y ∷ xs) zero x all e = subst P (same_Some _ _ e) all.0
 all_there P (y ∷ xs) (suc i) x all e = all_there P xs i x all.1 e
 
-pub all_set : {X : Type 0} (P : X → Type 0) (xs : List X) (i : ℕ) (x : X) → AllByRecursion P xs → P x
+pub all_set : {X : Type 0} (P : X → Type 0) (xs : List X) (i : ℕ) (x : X) → AllByRecursion P xs
+    → P x
     → AllByRecursion P (slice_set xs i x)
 all_set P [] i x all is = tt
 all_set P (y ∷ xs) zero x all is = (is, all.1)

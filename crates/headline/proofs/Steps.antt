@@ -23,7 +23,7 @@ use Rattle.exchange.proofs.ConverseLemmas.{IsParty, title_spelled}
 use Rattle.exchange.proofs.HappenLemmas.{site_there, sites_set}
 use Rattle.ua_peers.specs.Events.{IsSent, WereSent, IsExchange}
 use Rattle.ua_peers.specs.Peers.{Taken, Side, side_of, side_after}
-use Rattle.ua_peers.specs.Wires.{IsFirstPart}
+use Rattle.ua_peers.specs.Wires.{IsStartOf}
 use Rattle.ua_peers.proofs.Exchanged.{run_append}
 use Rattle.ua_peers.proofs.Joined.{numbered}
 use Rattle.headline.specs.Answers.{IsInUse}
@@ -37,7 +37,7 @@ use Rattle.headline.proofs.Turns.{IsWord, answer_made, frames_made, keeps_run, b
 
 -- ---- frames that come
 
-brings_part : (pool : List (List Record)) (made said : List ℕ) → IsFirstPart made said
+brings_part : (pool : List (List Record)) (made said : List ℕ) → IsStartOf made said
     → BringsSent pool said → BringsSent pool made
 brings_part pool made said part brings frame is p =
     brings frame (frame_in frame made said part is) p

@@ -9,7 +9,7 @@ use Rattle.exchange.specs.Messages.{Party, Header}
 use Rattle.exchange.specs.Frames.{frame_header}
 use Rattle.exchange.specs.Streams.{FrameContent, IsFrame, AreFrames}
 use Rattle.exchange.proofs.StreamLemmas.{cut_append}
-use Rattle.ua_peers.specs.Wires.{IsFirstPart}
+use Rattle.ua_peers.specs.Wires.{IsStartOf}
 use Rattle.headline.specs.Plants.{IsFrameOf, AreUnforged, AreWholeFrames, CameOver}
 
 -- a frame of a first part of some bytes is one of the bytes
@@ -24,7 +24,7 @@ frames_in bytes later rest (piece ∷ pieces) are = (
   frames_in are.1 later rest pieces are.4,
 )
 
-pub frame_in : (frame : FrameContent) (made said : List ℕ) → IsFirstPart made said
+pub frame_in : (frame : FrameContent) (made said : List ℕ) → IsStartOf made said
     → IsFrameOf frame made → IsFrameOf frame said
 frame_in frame made said part is = (
   is.0,

@@ -278,7 +278,8 @@ module _ (may : Bool) (own : ℕ) (space : UserSpace) (user : List ℕ) (now : T
       }
 
   holds_by : (details : Details) (R : Content) (marks : List StepResult) (asked : Option NodeId)
-      (type : Result ValueType Status) → node_asked details ≡ asked → type_granted space asked ≡ type
+      (type : Result ValueType Status) → node_asked details ≡ asked
+      → type_granted space asked ≡ type
       → Holds may marks own space user now R details
       (update_by own (asked_for user now) details R type marks).0
   holds_by details R marks asked (Err code) e f =

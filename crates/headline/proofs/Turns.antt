@@ -250,7 +250,8 @@ module _ (pool : List (List Record)) (frame : FrameContent) (p : Party) where
       ]
 
   words_sent : (taken : List Taken) (beside : List ℕ)
-      → AllByRecursion (λ t. IsWord pool t.said) taken → IsWord pool beside → AreSentIn (flat_map (λ t. t.said) taken ++ beside)
+      → AllByRecursion (λ t. IsWord pool t.said) taken → IsWord pool beside
+      → AreSentIn (flat_map (λ t. t.said) taken ++ beside)
   words_sent [] beside words last = subst AreSentIn (append-nil beside)
       (word_sent beside [] last nothing_sent)
   words_sent (t ∷ ts) beside words last = subst AreSentIn

@@ -21,7 +21,7 @@ use Rattle.ua_connection.specs.Environments.{Environment}
 use Rattle.ua_connection.specs.Turns.{ConnectionState, Advances}
 use Rattle.ua_peers.specs.Events.{IsSent}
 use Rattle.ua_peers.specs.Peers.{Talks}
-use Rattle.ua_peers.specs.Wires.{IsFirstPart}
+use Rattle.ua_peers.specs.Wires.{IsStartOf}
 use Rattle.ua_peers.specs.declared.peers.PeerEnded.{PeerEnded}
 use Rattle.headline.specs.Executions.{Execution}
 use Rattle.headline.specs.Machines.{RestartsAs, Extends, IsMachine, AreNew, Simulates, Restarts}
@@ -62,7 +62,7 @@ pub record CameOver (written : List (List ℕ)) (came : List ℕ) : Type 0 where
   pub last : List ℕ
   pub whole : AllByRecursion (λ made. Has written made × AreWholeFrames made) turns
   pub there : Has written last
-  pub part : IsFirstPart came (flat_map (λ made. made) turns ++ last)
+  pub part : IsStartOf came (flat_map (λ made. made) turns ++ last)
 
 -- ---- what one turn leaves
 
@@ -97,13 +97,13 @@ pub record AnswersFrames (written : List (List ℕ)) (old new : Store) (made : L
   pub last : DialogState
   pub talks : Talks start old new came said rest ending last
   pub unforged : AreUnforged written (party_of old) (map (λ t. t.frame) talks.taken)
-  pub part : IsFirstPart made said
+  pub part : IsStartOf made said
 
 -- a call to a peer began, and so much of the frame that asks was written
 abbrev pub BeginsCall : (old new : Store) → (made : List ℕ) → Type 0
 BeginsCall old new made =
     (frame : List ℕ) × (result : Result (Unit {0}) ExchangeFault)
-    × Greets old new [] frame result × IsFirstPart made frame
+    × Greets old new [] frame result × IsStartOf made frame
 
 -- a peer's records weren't taken: what is held stays, and so much of the frame that tells the peer
 -- why was written
@@ -114,7 +114,7 @@ pub record RefusesRecords (old new : Store) (made : List ℕ) : Type 0 where
   pub stays : KeepsContent old new
   pub passes : CountsFaults old new []
   pub tells : TellsFault fault told [] said
-  pub part : IsFirstPart made said
+  pub part : IsStartOf made said
 
 -- ---- plants
 

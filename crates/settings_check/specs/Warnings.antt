@@ -108,4 +108,5 @@ own_warnings s peers = flat_map (own_warning s) peers
 abbrev pub warnings : SettingsValues → List (List ℕ)
 warnings s =
     scheme_warning s ++ local_warning s ++ nobody_warning s ++ anonymous_warning s
-    ++ door_warning s ++ web_warning s ++ path_warning s ++ repeated_warnings s.peers ++ own_warnings s s.peers
+    ++ door_warning s ++ web_warning s ++ path_warning s ++ repeated_warnings s.peers
+    ++ own_warnings s s.peers

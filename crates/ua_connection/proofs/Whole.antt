@@ -25,7 +25,7 @@ use Rattle.ua_connection.specs.Passing.{LineEvent, Came, Went, AreWrites, Ways, 
 use Rattle.ua_connection.specs.Run.{Reply, AnswersStream, stream_answered}
 use Rattle.ua_connection.specs.Client.{Client, ClientState, Ending, Item, partial, chunks, new_client, found, next}
 use Rattle.ua_connection.specs.Turns.{ConnectionState, NeedsBytes, AnswersBytes, Advances, SentAll, IsOwnEnd, ServesSoFar, SendsRefusal}
-use Rattle.ua_connection.specs.Serving.{IsWhole, IsServed, IsPrompt, ArePrompt, ServesPromptly, ServesBehind}
+use Rattle.ua_connection.specs.Serving.{IsEntire, IsServed, IsPrompt, ArePrompt, ServesPromptly, ServesBehind}
 use Rattle.ua_connection.proofs.Outsides.{empty_environment, marked, before-before, before-nothing}
 use Rattle.ua_connection.proofs.RunParts.{stepped}
 use Rattle.ua_connection.proofs.Runs.{answered-step, answered-item, answers-more, joined-same}
@@ -89,7 +89,7 @@ whole-of : (config : ServerConfig) (start last : ClientState) (came waiting out 
     (used : Environment) → AnswersStream (chunks config) start came used
     (record { out = out; ending = None; state = last }) waiting
     → chunk_header last.client.greeted last.client.limit waiting ≡ Ok None
-    → IsWhole (chunks config) start came (before used (marked (end_marks waiting))) out
+    → IsEntire (chunks config) start came (before used (marked (end_marks waiting))) out
     (Ok EndOfInput) last
 whole-of config start last came waiting out used answers short = λ later.
     let p = chunks config in
@@ -478,7 +478,7 @@ serves-over : (settings : SettingsValues) (a b : Store) (first : List ℕ) (even
     → ServesSoFar settings a b first events used link → came_in (Came piece) ≡ []
     → (ending ≡ Ok EndOfInput → piece ≡ Some []) → NeedsBytes link
     → ((R : Content) (came out : List ℕ) (all : Environment) (last : ClientState)
-    → IsWhole (chunks (site_of settings a))
+    → IsEntire (chunks (site_of settings a))
     (record { client = new_client; content = R }) came all out (Ok EndOfInput) last
     → IsServed (chunks (site_of settings a))
     (record { client = new_client; content = R }) came all out ending last)

@@ -14,9 +14,10 @@ use Rattle.ua_connection.specs.Run.{Protocol, stream_answered, AnswersStream}
 use Rattle.ua_connection.specs.Client.{ClientState, Ending, new_client, chunks}
 
 -- by this, and no more, of the outside this is the whole answer to the bytes, and this stands then
-abbrev pub IsWhole : {C X E : Type 0} → Protocol C X E → C → List ℕ → Environment → List ℕ → E → C
+abbrev pub IsEntire : {C X E : Type 0} → Protocol C X E → C → List ℕ → Environment → List ℕ → E
+    → C
     → Type 0
-IsWhole p start bytes used out ending last =
+IsEntire p start bytes used out ending last =
     (later : Environment)
     → stream_answered p start bytes (before used later)
     ≡ (record { out = out; ending = Some ending; state = last }, later)
@@ -35,8 +36,8 @@ IsCutOff p start came used out last =
 abbrev pub IsServed : {X : Type 0} → Protocol ClientState X Ending → ClientState → List ℕ
     → Environment → List ℕ → Ending → ClientState → Type 0
 IsServed p start came used out (Ok EndOfInput) last =
-    IsWhole p start came used out (Ok EndOfInput) last
-IsServed p start came used out (Err Read) last = IsWhole p start came used out (Ok EndOfInput) last
+    IsEntire p start came used out (Ok EndOfInput) last
+IsServed p start came used out (Err Read) last = IsEntire p start came used out (Ok EndOfInput) last
 IsServed p start came used out (Err Write) last = IsCutOff p start came used out last
 IsServed p start came used out ending last =
     (rest : List ℕ)

@@ -41,7 +41,7 @@ use Rattle.counted_io.specs.declared.fault.ServeFault.{ServeFault}
 use Rattle.counted_io.specs.declared.fault.ServeFault.TheVariants as fault
 use Rattle.ua_peers.specs.declared.peers.PeerEnded.{PeerEnded}
 use Rattle.ua_peers.specs.declared.peers.PeerEnded.TheVariants as parted
-use Rattle.ua_peers.specs.Wires.{IsFirstPart}
+use Rattle.ua_peers.specs.Wires.{IsStartOf}
 use Rattle.ua_peers.specs.Calling.{calling}
 use Rattle.ua_peers.specs.Peers.{Taken, Side, side_of, turn_of, side_after, after_all, AreAnswered, message_to, learned_by, IsLeftBy, responding, Talks, Speaks}
 use Rattle.ua_peers.proofs.PeersParts.{is_open}
@@ -686,8 +686,8 @@ spoken start last old new came out (Err fault.OutOfMemory) s =
       talks = s.1;
     }
 
-part_of : (came out whole unsent : List ℕ) → whole ≡ out ++ unsent → IsFirstPart came out
-    → IsFirstPart came whole
+part_of : (came out whole unsent : List ℕ) → whole ≡ out ++ unsent → IsStartOf came out
+    → IsStartOf came whole
 part_of came out whole unsent parts first = (
   first.0 ++ unsent,
   parts ∙ (ap (λ (l : List ℕ). l ++ unsent) first.1

@@ -37,7 +37,7 @@ use Rattle.counted_io.specs.declared.fault.ServeFault.{ServeFault}
 use Rattle.ua_peers.specs.declared.peers.PeerEnded.{PeerEnded}
 use Rattle.ua_peers.specs.declared.peers.PeerEnded.TheVariants as parted
 use Rattle.ua_peers.specs.Calling.{calling}
-use Rattle.ua_peers.specs.Wires.{IsFirstPart}
+use Rattle.ua_peers.specs.Wires.{IsStartOf}
 use Rattle.ua_peers.specs.Peers.{Talks, responding, side_of, Taken, Side, turn_of, side_after, after_all, AreAnswered, AreOpen, failed_as, ended_as, is_silent, IsEnd}
 use Rattle.ua_peers.proofs.PeersParts.{is_open}
 
@@ -668,8 +668,8 @@ pub both_hold : (s s' t t' : Store) (came out rest came' out' rest' : List ℕ)
     (last last' : DialogState) (ending : Option (Result PeerEnded ServeFault))
     → IsParty (party_of s) → IsParty (party_of t) → CanMeet s t → s'.honest → t'.honest
     → Talks calling s s' came out rest (Some (Ok parted.Done)) last
-    → Talks responding t t' came' out' rest' ending last' → IsFirstPart came out'
-    → IsFirstPart came' (asking_frame (party_of s) s.content ++ out)
+    → Talks responding t t' came' out' rest' ending last' → IsStartOf came out'
+    → IsStartOf came' (asking_frame (party_of s) s.content ++ out)
     → IsHeld s' (join s.content t.content) × IsHeld t' (join s.content t.content)
 both_hold s s' t t' came out rest came' out' rest' last last' ending party party' meet h h' talks
     talks' part part' =

@@ -9,7 +9,7 @@ use Rattle.records.specs.Contents.{Content}
 use Rattle.archive.specs.Store.{Store}
 use Rattle.counted_io.specs.declared.fault.ServeFault.{ServeFault}
 use Rattle.ua_peers.specs.declared.peers.PeerEnded.{PeerEnded}
-use Rattle.ua_peers.specs.Wires.{IsFirstPart}
+use Rattle.ua_peers.specs.Wires.{IsStartOf}
 use Rattle.ua_peers.specs.Calling.{calling}
 use Rattle.ua_peers.specs.Peers.{Taken, Side, side_after, responding, Speaks}
 
@@ -59,5 +59,5 @@ pub record AreEnds (s s' t t' : Store) : Type 0 where
   pub ending_there : Result PeerEnded ServeFault
   pub last_there : DialogState
   pub responds : Speaks responding t t' came_there out_there ending_there last_there
-  pub back : IsFirstPart came out_there
-  pub forth : IsFirstPart came_there (asking_frame (party_of s) s.content ++ out)
+  pub back : IsStartOf came out_there
+  pub forth : IsStartOf came_there (asking_frame (party_of s) s.content ++ out)

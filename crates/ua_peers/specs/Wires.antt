@@ -2,5 +2,5 @@
 use Rattle.std.specs.Prelude.{◌≡◌, ℕ, List, ◌++◌}
 
 -- what comes at one end is a first part of what went out at the other
-abbrev pub IsFirstPart : List ℕ → List ℕ → Type 0
-IsFirstPart came out = (later : List ℕ) × (out ≡ came ++ later)
+abbrev pub IsStartOf : List ℕ → List ℕ → Type 0
+IsStartOf came out = (later : List ℕ) × (out ≡ came ++ later)

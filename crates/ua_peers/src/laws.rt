@@ -9,7 +9,7 @@ ghost use Rattle.exchange.specs.Meetings.{CanMeet};
 ghost use Rattle.exchange.specs.Worlds.{World, ReplicaState as Replica, Event, IsReplicaAt, IsUpdated, run};
 ghost use Rattle.archive.specs.Store.{IsLeft};
 ghost use Rattle.ua_peers.specs.Events.{WereSent, AreDeliveries, AreExchanges, AreUpdated, AreEnds};
-ghost use Rattle.ua_peers.specs.Wires.{IsFirstPart};
+ghost use Rattle.ua_peers.specs.Wires.{IsStartOf};
 ghost use Rattle.ua_peers.specs.Calling.{calling};
 ghost use Rattle.ua_peers.specs.Peers.{Taken, Side, after_all, responding, Talks};
 
@@ -48,8 +48,8 @@ pub fn a_call_that_ends_joins<A: Archive, B: Archive>(caller: &A, peer: &B)
         → Talks calling (A.state caller.now) (A.state a) came out rest
         (Some (Ok PeerEnded.Done)) last
         → Talks responding (B.state peer.now) (B.state b) came' out' rest' ending last'
-        → IsFirstPart came out'
-        → IsFirstPart came'
+        → IsStartOf came out'
+        → IsStartOf came'
         (asking_frame (party_of (A.state caller.now)) (A.state caller.now).content ++ out)
         → IsHeld (A.state a) (join (A.state caller.now).content (B.state peer.now).content)
         × IsHeld (B.state b) (join (A.state caller.now).content (B.state peer.now).content) }

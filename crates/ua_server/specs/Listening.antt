@@ -120,17 +120,17 @@ HasCallees settings = (callees : List Callee) × AreCallees settings.peers calle
 -- spells none: where clients come to before where peers do, from where these are taken behind it,
 -- then the peers that are called, and then where browsers come to
 abbrev pub HasNoAddress : SettingsValues → ProgramFault → Type 0
-HasNoAddress settings Address = IsNoAddress settings.listen
-HasNoAddress settings DoorAddress = HasListen settings × IsNoDoor (listen_at settings)
-HasNoAddress settings (DoorNetwork number) =
-    HasListen settings × HasDoor settings
-    × IsNoNetworkAt (networks_at settings) (DoorNetwork number)
-HasNoAddress settings (PeerAddress number) =
-    HasListen settings × HasDoor settings × HasFrom settings × IsWrongPeer settings.peers number
-HasNoAddress settings WebAddress =
-    HasListen settings × HasDoor settings × HasFrom settings × HasCallees settings
-    × IsNoWeb settings.web
-HasNoAddress settings fault = ⊥
+HasNoAddress settings fault = elim fault [
+  | Address ↦ IsNoAddress settings.listen
+  | DoorAddress ↦ HasListen settings × IsNoDoor (listen_at settings)
+  | DoorNetwork number ↦ HasListen settings × HasDoor settings
+      × IsNoNetworkAt (networks_at settings) (DoorNetwork number)
+  | PeerAddress number ↦ HasListen settings × HasDoor settings × HasFrom settings
+      × IsWrongPeer settings.peers number
+  | WebAddress ↦ HasListen settings × HasDoor settings × HasFrom settings × HasCallees settings
+      × IsNoWeb settings.web
+  | _ ↦ ⊥
+]
 
 -- what is told where a door's address can't be listened at
 abbrev pub door_fault : Door → ProgramFault

@@ -73,7 +73,8 @@ made-alone s Q holds = ([], reads-none s (λ R. Q R []) holds)
 pub made-as : (s t : Store) (P Q : Content → List StoreFault → Type 0)
     → ((R : Content) (faults : List StoreFault) → P R faults → Q R faults) → Makes s t P
     → Makes s t Q
-made-as s t P Q says (faults, reads) = made-by s t faults (λ R. P R faults) Q (λ R. says R faults) reads
+made-as s t P Q says (faults, reads) =
+    made-by s t faults (λ R. P R faults) Q (λ R. says R faults) reads
 
 -- questions alone
 pub only-asked : (s t : Store) (faults : List StoreFault) (P : Content → Type 0)

@@ -28,9 +28,9 @@ use Rattle.web_request.specs.declared.page.Question.{Question}
 use Rattle.web_request.specs.declared.page.Refusal.{Refusal}
 use Rattle.web_request.specs.declared.page.Refusal.TheVariants as why
 use Rattle.web_request.specs.declared.page.Request.{Request}
-use Rattle.web_connection.specs.Answers.{BeginsCsv, GoesOn, IsCrowded, IsHistoryPage, IsPortionText, OnlyAsks, Makes, TellsCsv, rest_of, TellsAsked, TellsPage, TellsRefusal, TellsStore, AnswersRequest, refusal_of, report_of}
-use Rattle.web_connection.specs.Status.{status_text}
-use Rattle.web_connection.specs.Texts.{page_text, csv_head, coding_of}
+use Rattle.web_connection.specs.Answers.{BeginsCsv, GoesOn, IsCrowded, IsHistoryPage, IsPortionText, OnlyAsks, Makes, TellsCsv, rest_of, TellsAsked, TellsPage, TellsRefusal, TellsStoreFault, AnswersRequest, refusal_of, report_of}
+use Rattle.web_connection.specs.Status.{status_json}
+use Rattle.web_connection.specs.Texts.{answer_text, csv_head, coding_of}
 use Rattle.web_connection.specs.declared.sending.Sending.{Sending}
 use Rattle.web_connection.specs.declared.sending.Told.{Told}
 use Rattle.web_connection.proofs.AskingLemmas.{made-as, one-fault, only-asked, reads-of}
@@ -38,29 +38,29 @@ use Rattle.web_connection.proofs.AskingLemmas.{made-as, one-fault, only-asked, r
 -- a page that was put behind nothing
 pub page-told : (kind : Kind) (head_only : Bool) (IsPage : List ℕ → Type 0)
     (empty page text : List ℕ) → empty ≡ [] → text ≡ page → IsPut empty page IsPage
-    → TellsPage kind head_only IsPage [] (page_text kind text head_only)
+    → TellsPage kind head_only IsPage [] (answer_text kind text head_only)
 page-told kind head_only IsPage empty page text none same (line, puts, holds) =
     inr (
       refl,
       line,
       holds,
-      ap (λ p. page_text kind p head_only) (same ∙ (puts ∙ ap (λ e. e ++ line) none)),
+      ap (λ p. answer_text kind p head_only) (same ∙ (puts ∙ ap (λ e. e ++ line) none)),
     )
 
 -- a fault of the store
 pub store-told : (head_only : Bool) (fault : StoreFault)
-    → TellsStore head_only (fault ∷ []) (refusal_text why.Store head_only)
+    → TellsStoreFault head_only (fault ∷ []) (refusal_text why.Store head_only)
 store-told head_only fault = (one-fault fault, refl)
 
 -- how the server does
 pub state-told : (s : SettingsValues) (R : Content) (head_only : Bool) (numbers : List ℕ)
-    → IsVectorOf numbers R → TellsPage Json head_only (λ page. page ≡ status_text s (vec R)) []
-    (page_text Json (status_text s (number_of numbers)) head_only)
+    → IsVectorOf numbers R → TellsPage Json head_only (λ page. page ≡ status_json s (vec R)) []
+    (answer_text Json (status_json s (number_of numbers)) head_only)
 state-told s R head_only numbers same =
     inr (
       refl,
-      status_text s (number_of numbers),
-      ap (status_text s) (λ i replica. same replica i),
+      status_json s (number_of numbers),
+      ap (status_json s) (λ i replica. same replica i),
       refl,
     )
 
@@ -70,28 +70,29 @@ pub csv-begun : (R : Content) (question : Question) (report : Report) (chunked :
     → empty ≡ [] → sent ≡ names → IsPut empty names (IsHeader report)
     → text ≡ csv_head chunked ++ piece_text (coding_of chunked) sent → IsWhole report left R
     → BeginsCsv R question chunked text (Some (record { portions = left; chunked = chunked }))
-csv-begun R question report chunked left empty names sent text asked none same (line, puts, holds) told whole = (
-  line,
-  subst (λ (r : Report). IsHeader r line) asked holds,
-  told ∙ ap (λ p. csv_head chunked ++ piece_text (coding_of chunked) p)
-      (same ∙ (puts ∙ ap (λ e. e ++ line) none)),
-  left,
-  subst (λ (r : Report). IsWhole r left R) asked whole,
-  refl,
-)
+csv-begun R question report chunked left empty names sent text asked none same
+    (line, puts, holds) told whole = (
+      line,
+      subst (λ (r : Report). IsHeader r line) asked holds,
+      told ∙ ap (λ p. csv_head chunked ++ piece_text (coding_of chunked) p)
+          (same ∙ (puts ∙ ap (λ e. e ++ line) none)),
+      left,
+      subst (λ (r : Report). IsWhole r left R) asked whole,
+      refl,
+    )
 
 -- the first part of a history
 pub history-told : (R : Content) (question : Question) (report : Report) (head_only : Bool)
     (empty page text : List ℕ) → report ≡ report_of question form.Page → empty ≡ []
     → text ≡ page → PutsPart report empty page R
-    → TellsPage Html head_only (IsHistoryPage R question) [] (page_text Html text head_only)
+    → TellsPage Html head_only (IsHistoryPage R question) [] (answer_text Html text head_only)
 history-told R question report head_only empty page text asked none same shown =
     let puts = shown.2 in
     inr (
       refl,
       puts.0,
       (shown.0, subst (λ (r : Report). IsFirstPart R r shown.0) asked shown.1, puts.2),
-      ap (λ p. page_text Html p head_only) (same ∙ (puts.1 ∙ ap (λ e. e ++ puts.0) none)),
+      ap (λ p. answer_text Html p head_only) (same ∙ (puts.1 ∙ ap (λ e. e ++ puts.0) none)),
     )
 
 -- what a request is answered, by why it is refused
@@ -149,7 +150,8 @@ front-asks s t (Err why) P reads = only-asked s t (page_faults why) (λ R. ⊤) 
 pub begin-asks : (report : Report) (s t : Store) (result : Result Remainder ReportFault)
     → Begins report s t result → OnlyAsks s t
 begin-asks report s t (Ok left) begins =
-    only-asked s t [] (λ R. IsWhole report left R) (reads-of s t (λ R. IsWhole report left R) begins)
+    only-asked s t [] (λ R. IsWhole report left R)
+    (reads-of s t (λ R. IsWhole report left R) begins)
 begin-asks report s t (Err why) begins =
     only-asked s t (report_faults (Err why)) (λ R. Unit {0}) begins.1
 
@@ -164,7 +166,8 @@ part-asks s t (Err (part.Report why)) Crowds Holds reads =
 -- ---- a portion
 
 -- a portion that is sent
-pub portion-told : (R : Content) (was : Sending) (now : Remainder) (result : Result Bool ReportFault)
+pub portion-told : (R : Content) (was : Sending) (now : Remainder)
+    (result : Result Bool ReportFault)
     (empty portion sent text : List ℕ) (sending : Option Sending) → empty ≡ []
     → sent ≡ portion → IsPortion was.portions now R empty portion result
     → IsPortionText was.chunked sent result text → sending ≡ rest_of was.chunked now result
@@ -181,7 +184,7 @@ portion-told R was now result empty portion sent text sending none same puts tol
 
 -- a fault of the store, by the text that tells it
 pub store-refused : (head_only : Bool) (fault : StoreFault) (text : List ℕ)
-    → text ≡ refusal_text why.Store head_only → TellsStore head_only (fault ∷ []) text
+    → text ≡ refusal_text why.Store head_only → TellsStoreFault head_only (fault ∷ []) text
 store-refused head_only fault text told = (one-fault fault, told)
 
 -- ---- what is told by another step
@@ -196,7 +199,8 @@ pub result-as : (s t : Store) (result : Result Told AllocError)
     → MatchResult result (λ told. Makes s t (λ R faults. Q R faults told.text.items told.sending))
     (λ starved. OnlyAsks s t)
 result-as s t (Ok told) P Q says made =
-    made-as s t (λ (R : Content) (faults : List StoreFault). P R faults told.text.items told.sending)
+    made-as s t (λ (R : Content) (faults : List StoreFault).
+    P R faults told.text.items told.sending)
     (λ (R : Content) (faults : List StoreFault). Q R faults told.text.items told.sending)
     (λ R faults p. says R faults told.text.items told.sending p) made
 result-as s t (Err starved) P Q says asks = asks

@@ -6,8 +6,8 @@ use Rattle.records.specs.Contents.{Content}
 use Rattle.archive.specs.Store.{Store}
 use Rattle.archive.specs.declared.fault.StoreFault.{StoreFault}
 use Rattle.ua_settings.specs.Settings.{SettingsValues}
-use Rattle.web_request.specs.Requests.{IsCut}
-use Rattle.web_connection.specs.Answers.{AnswersFirst, AnswersWeb, GoesFurther, GoesOn, IsAnswer, Makes, OnlyAsks, step_of, web_of}
+use Rattle.web_request.specs.Requests.{IsCutHead}
+use Rattle.web_connection.specs.Answers.{AnswersInput, AnswersWeb, GoesFurther, GoesOn, AnswersStep, Makes, OnlyAsks, step_of, web_of}
 use Rattle.web_connection.specs.declared.sending.Sending.{Sending}
 use Rattle.web_connection.specs.declared.sending.Told.{Told}
 use Rattle.web_connection.specs.declared.step.WebStep.{WebStep}
@@ -18,22 +18,22 @@ use Rattle.web_connection.proofs.AskingLemmas.{made-as, reads-as}
 abbrev pub Nexts : SettingsValues → (came : List ℕ) → (old : Option Sending) → Store → Store
     → Option Told → Type 0
 Nexts v came old s t answer =
-    MatchOption answer ((old ≡ None) × IsCut came × Makes s t (λ R faults. faults ≡ []))
+    MatchOption answer ((old ≡ None) × IsCutHead came × Makes s t (λ R faults. faults ≡ []))
     (λ told. Makes s t (λ R faults. GoesFurther v R came old faults told.text.items told.sending))
 
 -- what came is answered, where nothing is being sent
 pub first-next : (v : SettingsValues) (came : List ℕ) (old : Option Sending) (s t : Store)
     (result : Result (Option Told) AllocError) → old ≡ None
     → MatchResult result (λ answer. MatchOption answer
-    (IsCut came × Makes s t (λ R faults. faults ≡ []))
-    (λ told. Makes s t (λ R faults. AnswersFirst v R came faults told.text.items told.sending)))
+    (IsCutHead came × Makes s t (λ R faults. faults ≡ []))
+    (λ told. Makes s t (λ R faults. AnswersInput v R came faults told.text.items told.sending)))
     (λ starved. OnlyAsks s t)
     → MatchResult result (Nexts v came old s t) (λ starved. OnlyAsks s t)
 first-next v came old s t (Ok None) is cut = (is, cut.0, cut.1)
 first-next v came old s t (Ok (Some told)) is made =
     made-as s t
     (λ (R : Content) (faults : List StoreFault).
-    AnswersFirst v R came faults told.text.items told.sending)
+    AnswersInput v R came faults told.text.items told.sending)
     (λ (R : Content) (faults : List StoreFault).
     GoesFurther v R came old faults told.text.items told.sending)
     (λ R faults p. subst (λ (o : Option Sending).
@@ -66,7 +66,7 @@ step-starved v came old new s t starved before after same (faults, reads) = (
   (
     faults,
     reads-as s t faults _
-        (λ R. IsAnswer v R (web_of came old) faults [] (Err starved) (web_of came new))
+        (λ R. AnswersStep v R (web_of came old) faults [] (Err starved) (web_of came new))
         (λ R p. refl) reads,
   ),
 )
@@ -87,7 +87,7 @@ step-sent v came old new left s t text (Ok Continues) before after (faults, read
   (
     faults,
     reads-as s t faults (λ R. GoesFurther v R came old faults text left)
-        (λ R. IsAnswer v R (web_of came old) faults text (Ok Continues) (web_of came new))
+        (λ R. AnswersStep v R (web_of came old) faults text (Ok Continues) (web_of came new))
         (λ R p. (
           ok.2 ∙ ap step_of (sym ok.1),
           subst (λ (o : Option Sending). GoesFurther v R came old faults text o) (sym ok.1) p,
@@ -100,7 +100,7 @@ step-sent v came old new left s t text (Ok Ended) before after (faults, reads) o
   (
     faults,
     reads-as s t faults (λ R. GoesFurther v R came old faults text left)
-        (λ R. IsAnswer v R (web_of came old) faults text (Ok Ended) (web_of came new))
+        (λ R. AnswersStep v R (web_of came old) faults text (Ok Ended) (web_of came new))
         (λ R p. (
           ok.2 ∙ ap step_of (sym ok.1),
           subst (λ (o : Option Sending). GoesFurther v R came old faults text o) (sym ok.1) p,
@@ -116,7 +116,7 @@ step-sent v came old new left s t text (Err starved) before after (faults, reads
 
 -- a step waits
 pub step-waits : (v : SettingsValues) (came : List ℕ) (old new : Option Sending) (s t : Store)
-    (before : List ℕ) → old ≡ None → new ≡ None → IsCut came
+    (before : List ℕ) → old ≡ None → new ≡ None → IsCutHead came
     → Makes s t (λ R faults. faults ≡ [])
     → (made : List ℕ) × (before ≡ before ++ made)
     × AnswersWeb v s t (web_of came old) made (Ok NeedsInput) (web_of came new)
@@ -126,7 +126,7 @@ step-waits v came old new s t before is now cut (faults, reads) = (
   (
     faults,
     reads-as s t faults (λ R. faults ≡ [])
-        (λ R. IsAnswer v R (web_of came old) faults [] (Ok NeedsInput) (web_of came new))
+        (λ R. AnswersStep v R (web_of came old) faults [] (Ok NeedsInput) (web_of came new))
         (λ R p. ((is, cut), p, refl, ap (web_of came) (now ∙ sym is))) reads,
   ),
 )

@@ -20,7 +20,7 @@ use Rattle.history_report.specs.Portions.{Remainder, IsWhole, IsPortion, ending}
 use Rattle.settings_check.specs.Stored.{Reads}
 use Rattle.web_page.specs.Front.{IsFront}
 use Rattle.web_request.specs.Refusals.{refusal_text}
-use Rattle.web_request.specs.Requests.{Reads as IsRead, IsCut}
+use Rattle.web_request.specs.Requests.{ReadsRequest as IsRead, IsCutHead}
 use Rattle.web_request.specs.declared.answer.Kind.{Kind}
 use Rattle.web_request.specs.declared.answer.Kind.TheVariants.{Html, Json}
 use Rattle.web_request.specs.declared.page.Page.{Page}
@@ -31,8 +31,8 @@ use Rattle.web_request.specs.declared.page.Refusal.TheVariants as why
 use Rattle.web_request.specs.declared.page.Request.{Request}
 use Rattle.web_request.specs.declared.page.RequestFault.TheVariants.{Refused}
 use Rattle.web_connection.specs.Access.{is_let_in}
-use Rattle.web_connection.specs.Texts.{page_text, csv_head, coding_of}
-use Rattle.web_connection.specs.Status.{status_text}
+use Rattle.web_connection.specs.Texts.{answer_text, csv_head, coding_of}
+use Rattle.web_connection.specs.Status.{status_json}
 use Rattle.web_connection.specs.declared.sending.Sending.{Sending}
 use Rattle.web_connection.specs.declared.step.WebStep.{WebStep}
 use Rattle.web_connection.specs.declared.step.WebStep.TheVariants.{NeedsInput, Continues, Ended}
@@ -60,7 +60,7 @@ with_input web bytes =
 
 -- nothing is being sent, and what came is no whole head, and may become one
 abbrev pub NeedsRequest : WebState → Type 0
-NeedsRequest web = (web.sending ≡ None) × IsCut web.came
+NeedsRequest web = (web.sending ≡ None) × IsCutHead web.came
 
 -- ---- answers that end at once
 
@@ -69,19 +69,19 @@ abbrev pub TellsRefusal : Refusal → (head_only : Bool) → List StoreFault →
 TellsRefusal why head_only faults text = (faults ≡ []) × (text ≡ refusal_text why head_only)
 
 -- the store met a fault, and it is told that the archive can't be read now
-abbrev pub TellsStore : (head_only : Bool) → List StoreFault → List ℕ → Type 0
-TellsStore head_only faults text = (faults ≢ []) × (text ≡ refusal_text why.Store head_only)
+abbrev pub TellsStoreFault : (head_only : Bool) → List StoreFault → List ℕ → Type 0
+TellsStoreFault head_only faults text = (faults ≢ []) × (text ≡ refusal_text why.Store head_only)
 
 -- a page of which this holds is told, or its head alone; or that the archive can't be read now
 abbrev pub TellsPage : Kind → (head_only : Bool) → (List ℕ → Type 0) → List StoreFault → List ℕ
     → Type 0
 TellsPage kind head_only IsPage faults text =
-    TellsStore head_only faults text
-    ⊎ ((faults ≡ []) × (page : List ℕ) × IsPage page × (text ≡ page_text kind page head_only))
+    TellsStoreFault head_only faults text
+    ⊎ ((faults ≡ []) × (page : List ℕ) × IsPage page × (text ≡ answer_text kind page head_only))
 
 -- the page says how the server does, by the number of each replica's last record
 abbrev pub IsStatus : SettingsValues → Content → List ℕ → Type 0
-IsStatus s R page = page ≡ status_text s (vec R)
+IsStatus s R page = page ≡ status_json s (vec R)
 
 -- ---- histories
 
@@ -135,7 +135,7 @@ abbrev pub TellsCsv : Content → Question → (head_only chunked : Bool) → Li
 TellsCsv R question head_only chunked faults text sending =
     elim head_only [
       | true ↦ (faults ≡ []) × (text ≡ csv_head chunked) × (sending ≡ None)
-      | false ↦ (TellsStore false faults text × (sending ≡ None))
+      | false ↦ (TellsStoreFault false faults text × (sending ≡ None))
           ⊎ ((faults ≡ []) × BeginsCsv R question chunked text sending)
     ]
 
@@ -208,9 +208,9 @@ AnswersRequest s R request faults text sending =
     ]
 
 -- what came is refused, or a request was read, which is answered
-abbrev pub AnswersFirst : SettingsValues → Content → (came : List ℕ) → List StoreFault → List ℕ
+abbrev pub AnswersInput : SettingsValues → Content → (came : List ℕ) → List StoreFault → List ℕ
     → Option Sending → Type 0
-AnswersFirst s R came faults text sending =
+AnswersInput s R came faults text sending =
     ((cause : Refusal) × (head_only : Bool) × IsRead came (Err (Refused cause head_only))
     × TellsRefusal cause head_only faults text × (sending ≡ None))
     ⊎ ((request : Request) × IsRead came (Ok (Some request))
@@ -223,25 +223,25 @@ abbrev pub step_of : Option Sending → WebStep
 step_of sending = elim sending [ None ↦ Ended | Some left ↦ Continues ]
 
 -- no whole request came, and all stays
-abbrev pub Waits : WebState → List StoreFault → List ℕ → WebState → Type 0
-Waits web faults made next = NeedsRequest web × (faults ≡ []) × (made ≡ []) × (next ≡ web)
+abbrev pub WaitsForRequest : WebState → List StoreFault → List ℕ → WebState → Type 0
+WaitsForRequest web faults made next = NeedsRequest web × (faults ≡ []) × (made ≡ []) × (next ≡ web)
 
 -- the answer to a request is begun, or goes on
 abbrev pub GoesFurther : SettingsValues → Content → (came : List ℕ) → Option Sending
     → List StoreFault → (made : List ℕ) → Option Sending → Type 0
 GoesFurther s R came old faults made new =
     elim old [
-      | None ↦ AnswersFirst s R came faults made new
+      | None ↦ AnswersInput s R came faults made new
       | Some was ↦ GoesOn R was faults made new
     ]
 
 -- A step made this of the answer, over what an archive held, and its store met these faults. Where
 -- memory was wanting, it made nothing.
-abbrev pub IsAnswer : SettingsValues → Content → WebState → List StoreFault → (made : List ℕ)
+abbrev pub AnswersStep : SettingsValues → Content → WebState → List StoreFault → (made : List ℕ)
     → Result WebStep AllocError → WebState → Type 0
-IsAnswer s R web faults made (Err starved) next = made ≡ []
-IsAnswer s R web faults made (Ok NeedsInput) next = Waits web faults made next
-IsAnswer s R web faults made (Ok step) next =
+AnswersStep s R web faults made (Err starved) next = made ≡ []
+AnswersStep s R web faults made (Ok NeedsInput) next = WaitsForRequest web faults made next
+AnswersStep s R web faults made (Ok step) next =
     (step ≡ step_of next.sending)
     × GoesFurther s R web.came web.sending faults made next.sending
 
@@ -251,7 +251,7 @@ abbrev pub AnswersWeb : SettingsValues → Store → Store → WebState → (mad
     → Result WebStep AllocError → WebState → Type 0
 AnswersWeb s old new web made result next =
     (faults : List StoreFault)
-    × Reads old new faults (λ R. IsAnswer s R web faults made result next)
+    × Reads old new faults (λ R. AnswersStep s R web faults made result next)
 
 -- an archive was asked, which stays as it is, and a text of which this holds was made by it
 abbrev pub Makes : Store → Store → (Content → List StoreFault → Type 0) → Type 0

@@ -23,7 +23,7 @@ replica_text s =
     ++ codes "\",\"replica\":" ++ decimal s.replica
 
 -- that, and the number of the last record of each replica that has any
-abbrev pub status_text : SettingsValues → (numbers : ℕ → ℕ) → List ℕ
-status_text s numbers =
+abbrev pub status_json : SettingsValues → (numbers : ℕ → ℕ) → List ℕ
+status_json s numbers =
     codes "{" ++ replica_text s ++ codes ",\"records\":{" ++ drop 1 (members_text numbers)
     ++ codes "}}\n"

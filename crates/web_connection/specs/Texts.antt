@@ -15,8 +15,8 @@ abbrev pub told_of : Kind → Body → Answer
 told_of kind body = record { status = Success; kind = kind; body = body; keeps_open = false }
 
 -- an answer that is a page, by its head alone where that is asked for
-abbrev pub page_text : Kind → (page : List ℕ) → (head_only : Bool) → List ℕ
-page_text kind page head_only =
+abbrev pub answer_text : Kind → (page : List ℕ) → (head_only : Bool) → List ℕ
+answer_text kind page head_only =
     head_text (told_of kind (Length (length page))) ++ (if head_only then [] else page)
 
 -- the head of a history as CSV, whose length isn't known

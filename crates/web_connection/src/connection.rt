@@ -3,7 +3,7 @@
 ghost use Rattle.std.specs.Prelude.{◌≡◌, ◌++◌, [], List, ℕ, None, Ok, IfOk, OnOk, OnErr, MatchOption, MatchResult};
 ghost use Rattle.archive.specs.Store.{IsAskedWithin};
 ghost use Rattle.web_connection.specs.declared.step.WebStep.TheVariants.{NeedsInput};
-ghost use Rattle.web_request.specs.Requests.{IsCut};
+ghost use Rattle.web_request.specs.Requests.{IsCutHead};
 ghost use Rattle.web_connection.specs.Answers.{AnswersWeb, GoesFurther, Makes, NeedsRequest, OnlyAsks, new_web, with_input, web_of, step_of};
 
 use crate::history::next_portion;
@@ -37,7 +37,7 @@ fn tell_next<A: Archive>(
 ) -> Result<Option<Told>, AllocError>
     ensures answers { MatchResult result
         (λ answer. MatchOption answer
-        ((sending ≡ None) × IsCut came.now
+        ((sending ≡ None) × IsCutHead came.now
         × Makes (A.state archive.old) (A.state archive.new) (λ R faults. faults ≡ []))
         (λ told. Makes (A.state archive.old) (A.state archive.new)
         (λ R faults. GoesFurther settings.now R came.now sending faults told.text.items

@@ -4,7 +4,7 @@ ghost use Rattle.std.specs.Prelude.{◌≡◌, ◌⊎◌, ◌++◌, [], MatchRes
 ghost use Rattle.archive.specs.Store.{IsAskedWithin};
 ghost use Rattle.http1.specs.Encoder.{piece_text, end_text};
 ghost use Rattle.web_connection.specs.Texts.{csv_head, coding_of};
-ghost use Rattle.web_connection.specs.Answers.{Makes, OnlyAsks, TellsStore, TellsHistory, TellsCsv, BeginsCsv, GoesOn, IsPortionText, rest_of, is_variable, report_of};
+ghost use Rattle.web_connection.specs.Answers.{Makes, OnlyAsks, TellsStoreFault, TellsHistory, TellsCsv, BeginsCsv, GoesOn, IsPortionText, rest_of, is_variable, report_of};
 
 use crate::sending::{Sending, Told};
 use crate::texts::{page_text, refusal_text, told_of};
@@ -89,7 +89,7 @@ fn begin_csv<A: Archive>(
 ) -> Result<Told, AllocError>
     ensures answers { MatchResult result
         (λ told. Makes (A.state archive.old) (A.state archive.new)
-        (λ R faults. (TellsStore false faults told.text.items × (told.sending ≡ None))
+        (λ R faults. (TellsStoreFault false faults told.text.items × (told.sending ≡ None))
         ⊎ ((faults ≡ []) × BeginsCsv R question chunked told.text.items told.sending)))
         (λ starved. OnlyAsks (A.state archive.old) (A.state archive.new)) }
     ensures asked { IsAskedWithin 501 (A.asked archive.old) (A.asked archive.new) }

@@ -5,8 +5,8 @@ ghost use Rattle.archive.specs.Store.{IsAskedWithin};
 ghost use Rattle.stamp.specs.Numbers.{number_of};
 ghost use Rattle.web_page.specs.Front.{IsFront};
 ghost use Rattle.web_request.specs.declared.answer.Kind.TheVariants.{Html, Json};
-ghost use Rattle.web_connection.specs.Status.{status_text};
-ghost use Rattle.web_connection.specs.Texts.{page_text};
+ghost use Rattle.web_connection.specs.Status.{status_json};
+ghost use Rattle.web_connection.specs.Texts.{answer_text};
 ghost use Rattle.web_connection.specs.Answers.{IsStatus, Makes, OnlyAsks, TellsPage};
 
 use crate::status::status_text;
@@ -47,7 +47,7 @@ fn state_page(
     head_only: bool,
 ) -> Result<Vec<u8>, AllocError>
     ensures { IfOk result (λ text. text.items
-        ≡ page_text Json (status_text settings.now (number_of vector.now)) head_only) }
+        ≡ answer_text Json (status_json settings.now (number_of vector.now)) head_only) }
 {
     let page = status_text(alloc, settings, vector)?;
     let text = page_text(alloc, Kind::Json, page.as_slice(), head_only)?;

@@ -2,8 +2,8 @@
 
 ghost use Rattle.std.specs.Prelude.{◌≡◌, [], MatchResult, MatchOption, None};
 ghost use Rattle.archive.specs.Store.{IsAskedWithin};
-ghost use Rattle.web_request.specs.Requests.{IsCut};
-ghost use Rattle.web_connection.specs.Answers.{Makes, OnlyAsks, lacks_variable, refusal_of, TellsAsked, AnswersRequest, AnswersFirst};
+ghost use Rattle.web_request.specs.Requests.{IsCutHead};
+ghost use Rattle.web_connection.specs.Answers.{Makes, OnlyAsks, lacks_variable, refusal_of, TellsAsked, AnswersRequest, AnswersInput};
 
 use crate::access::is_let_in;
 use crate::history::{history_text, is_variable, told_csv};
@@ -106,9 +106,10 @@ pub(crate) fn answer_first<A: Archive>(
 ) -> Result<Option<Told>, AllocError>
     ensures answers { MatchResult result
         (λ answer. MatchOption answer
-        (IsCut came.now × Makes (A.state archive.old) (A.state archive.new) (λ R faults. faults ≡ []))
+        (IsCutHead came.now × Makes (A.state archive.old) (A.state archive.new)
+        (λ R faults. faults ≡ []))
         (λ told. Makes (A.state archive.old) (A.state archive.new)
-        (λ R faults. AnswersFirst settings.now R came.now faults told.text.items told.sending)))
+        (λ R faults. AnswersInput settings.now R came.now faults told.text.items told.sending)))
         (λ starved. OnlyAsks (A.state archive.old) (A.state archive.new)) }
     ensures asked { IsAskedWithin 501 (A.asked archive.old) (A.asked archive.new) }
 {

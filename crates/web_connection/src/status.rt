@@ -4,7 +4,7 @@ ghost use Rattle.std.specs.Prelude.{◌≡◌, ◌++◌, drop, OnOk, IfOk};
 ghost use Rattle.std.specs.Fmt.{decimal};
 ghost use Rattle.stamp.specs.Limits.{IsReplica};
 ghost use Rattle.stamp.specs.Numbers.{number_of};
-ghost use Rattle.web_connection.specs.Status.{member_text, members_text, replica_text, status_text};
+ghost use Rattle.web_connection.specs.Status.{member_text, members_text, replica_text, status_json};
 
 use itoa::Buffer;
 use stamp::{ReplicaNo, Vector};
@@ -91,7 +91,7 @@ pub(crate) fn status_text(
     vector: &Vector,
 ) -> Result<Vec<u8>, AllocError>
     ensures { IfOk result
-        (λ text. text.items ≡ status_text settings.now (number_of vector.now)) }
+        (λ text. text.items ≡ status_json settings.now (number_of vector.now)) }
 {
     let members = members_text(alloc, vector)?;
     let replica = replica_text(alloc, settings)?;

@@ -2,7 +2,7 @@
 
 ghost use Rattle.std.specs.Prelude.{◌≡◌, IfOk};
 ghost use Rattle.web_request.specs.Refusals.{refusal_text};
-ghost use Rattle.web_connection.specs.Texts.{told_of, page_text};
+ghost use Rattle.web_connection.specs.Texts.{told_of, answer_text};
 
 use std::alloc::{AllocError, Global};
 use web_request::{Answer, Body, Kind, Refusal, Status, put_head, put_refusal};
@@ -26,7 +26,7 @@ pub(crate) fn page_text(
     page: &[u8],
     head_only: bool,
 ) -> Result<Vec<u8>, AllocError>
-    ensures { IfOk result (λ text. text.items ≡ page_text kind page.now head_only) }
+    ensures { IfOk result (λ text. text.items ≡ answer_text kind page.now head_only) }
 {
     let mut out = Vec::new(alloc);
     put_head(alloc, &mut out, told_of(kind, Body::Length(page.len())))?;

@@ -1,4 +1,5 @@
--- What a browse finds of folders and variables, with their names, as `settings_check` has it of ids.
+-- What a browse finds of folders and variables, with their names, as `settings_check` has it of
+-- ids.
 use Rattle.std.proofs.Common.{◌≡◌, ℕ, ◌+◌, ◌<◌, ◌≤◌, Bool, true, false, List, [], ◌∷◌, ◌++◌, length, drop, get_or, map, None, Some, find, cond, nat_eq, refl, sym, ap, ◌∙◌, subst, append-nil}
 use Rattle.std.specs.Prelude.{Option, option_map, option_to_list, slice_get, zero, suc, filter, Result, Ok, Err, ok_or, if◌then◌else◌}
 use Rattle.std.specs.List.{flat_map}
@@ -20,7 +21,7 @@ use Rattle.ua_space.specs.Space.{Node, Root, Objects, NamespaceArray, State, OfF
 use Rattle.ua_space.specs.References.{Link, holds, references, type_definition, parent, is_followed, shown_reference, browse_at, way_asked, reference_type_asked, is_reference_type, found_references}
 use Rattle.ua_space.proofs.ReferencesParts.{objects_below, organizes, is_defined_by}
 use Rattle.web_page.specs.declared.listing.Listed.{Listed}
-use Rattle.web_page.specs.Listing.{listed_in, listed_below, told_in, named}
+use Rattle.web_page.specs.Listing.{listed_under, listed_below, told_in, named}
 
 -- ---- which references are found
 
@@ -33,7 +34,8 @@ module _ {Y : Type 0} (tell : ReferenceDescription → Y) (node : NodeId) (class
   -- what is told of the nodes that are found by such references
   abbrev kept : List Link → List Y
   kept links =
-      map tell (map (shown_reference 16) (filter (is_followed Forward (asked_of node classes)) links))
+      map tell (map (shown_reference 16) (filter
+      (is_followed Forward (asked_of node classes)) links))
 
   kept-append : (xs ys : List Link) → kept (xs ++ ys) ≡ kept xs ++ kept ys
   kept-append xs ys =
@@ -118,7 +120,7 @@ module _ (folder : Option (List ℕ)) (space : Layout) (node : NodeId) where
       (map (organizes true) (map OfVariable variables))
       ∙ (ap (λ l. l ++ kept tell node 2 (map (organizes true) (map OfVariable variables)))
       (objects_none n)
-      ∙ all_found tell node 2 OfVariable (listed_in folder) variables (λ v. refl) (λ v. refl))))
+      ∙ all_found tell node 2 OfVariable (listed_under folder) variables (λ v. refl) (λ v. refl))))
 
 -- the id and the name of a folder
 abbrev pub folder_named : Layout → List (NodeId × Option (List ℕ))
@@ -145,7 +147,8 @@ found_folders space node =
 -- ---- what a browse answers
 
 -- the references of a node that is there, or why they aren't told
-abbrev references_at : Layout → BrowseFields → Option Node → Result (List ReferenceDescription) Status
+abbrev references_at : Layout → BrowseFields → Option Node
+    → Result (List ReferenceDescription) Status
 references_at space d node =
     ok_or node BAD_NODE_ID_UNKNOWN
     >>= λ node. ok_or (way_asked d) BAD_BROWSE_DIRECTION_INVALID >>= λ direction.
@@ -255,7 +258,8 @@ next_folder space refs i d ids lt same found =
     let here : ids ≡ listed_below space (Some folder.name) (OfFolder folder) =
     found (OfFolder g) (subst (λ i. node_at space i ≡ Some (OfFolder g)) (ap (λ p. p.0) told) is)
     ∙ (ap (λ t. listed_below space t (OfFolder g)) (sym (ap (λ p. p.1) told))
-    ∙ ap (λ n. map (listed_in (Some folder.name)) (filter (λ v. is_in n v.folder) space.variables))
+    ∙ ap (λ n. map (listed_under (Some folder.name))
+    (filter (λ v. is_in n v.folder) space.variables))
     name) in
     ap (flat_map (λ f. listed_below space (Some f.name) (OfFolder f)))
     (drop_at space.folders i folder at)

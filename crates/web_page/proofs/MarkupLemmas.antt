@@ -8,7 +8,7 @@ use Rattle.ua_space.specs.declared.layout.Layout.{Layout}
 use Rattle.ua_space.specs.Space.{value_type_at}
 use Rattle.web_page.specs.declared.listing.Listed.{Listed}
 use Rattle.web_page.specs.Values.{type_text, cut_text}
-use Rattle.web_page.specs.Front.{history_link, anchor_cell, link_cell, row_of}
+use Rattle.web_page.specs.Front.{history_link, anchor_cell, link_cell, front_row}
 
 or_none : (a b : Bool) → (a || b) ≡ false → (a ≡ false) × (b ≡ false)
 or_none true b e = absurd cc
@@ -47,9 +47,11 @@ between_tags first (b ∷ text) rest none =
 
 -- what a cell adds
 cell_text : (text rest : List ℕ)
-    → texts_within (Some []) (data_cell text ++ rest) ≡ [] ∷ escaped text ∷ texts_within (Some []) rest
+    → texts_within (Some []) (data_cell text ++ rest)
+    ≡ [] ∷ escaped text ∷ texts_within (Some []) rest
 cell_text text rest =
-    ap (λ l. texts_within (Some []) l) (append_assoc (codes "<td>" ++ escaped text) (codes "</td>") rest
+    ap (λ l. texts_within (Some []) l) (append_assoc (codes "<td>" ++ escaped text)
+    (codes "</td>") rest
     ∙ append_assoc (codes "<td>") (escaped text) (codes "</td>" ++ rest))
     ∙ ap (λ l. [] ∷ l) (between_tags [] (escaped text) (codes "/td>" ++ rest) (escaped_plain text))
 
@@ -76,7 +78,7 @@ row_parts a c1 c2 c3 c4 c5 c6 c7 e = simp append_assoc
 
 -- between the tags of a row stand its texts
 pub row_texts : (space : Layout) (one : Listed) (value status time : List ℕ)
-    → texts_in (row_of space one value status time)
+    → texts_in (front_row space one value status time)
     ≡ [] ∷ escaped (unwrap_or one.folder []) ∷ [] ∷ escaped one.name
     ∷ [] ∷ [] ∷ escaped (node_text one.node) ∷ []
     ∷ [] ∷ escaped (type_text (value_type_at space one.node))

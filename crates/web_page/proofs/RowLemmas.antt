@@ -15,7 +15,7 @@ use Rattle.web_page.specs.declared.fault.PageFault.{PageFault}
 use Rattle.web_page.specs.declared.listing.Listed.{Listed}
 use Rattle.web_page.specs.Listing.{listed_variables}
 use Rattle.web_page.specs.Values.{AreLatestTexts}
-use Rattle.web_page.specs.Front.{row_of, IsRowOf, AreRows, IsFront, front_begin, front_end, page_faults}
+use Rattle.web_page.specs.Front.{front_row, IsRowOf, AreRows, IsFront, front_begin, front_end, page_faults}
 use Rattle.web_page.proofs.AskingLemmas.{reads-both}
 
 module _ {X : Type 0} (IsLine : X → List ℕ → Type 0) where
@@ -56,7 +56,8 @@ five : (o a b c d e : List ℕ) → o ++ a ++ b ++ c ++ d ++ e ≡ o ++ (a ++ b 
 five o a b c d e = simp append_assoc
 
 -- five parts are put behind a text, where the last is
-pub five-put : (result : Result (Unit {0}) AllocError) (old a b c d e one two three four new : List ℕ)
+pub five-put : (result : Result (Unit {0}) AllocError)
+    (old a b c d e one two three four new : List ℕ)
     → one ≡ old ++ a → two ≡ one ++ b → three ≡ two ++ c → four ≡ three ++ d
     → new ≡ (if is_ok result then four ++ e else four)
     → OnOk result (new ≡ old ++ (a ++ b ++ c ++ d ++ e))
@@ -69,10 +70,10 @@ five-put (Err why) old a b c d e one two three four new p q r s last = tt
 pub told-put : (result : Result (Unit {0}) AllocError) (old new : List ℕ) (space : Layout)
     (one : Listed) (held : Option Held) (value status time : List ℕ)
     → AreLatestTexts held value status time
-    → OnOk result (new ≡ old ++ row_of space one value status time)
+    → OnOk result (new ≡ old ++ front_row space one value status time)
     → OnOk result (IsPut old new (IsRowOf space one held))
 told-put (Ok done) old new space one held value status time are puts = (
-  row_of space one value status time,
+  front_row space one value status time,
   puts,
   (value, status, time, are, refl),
 )

@@ -49,12 +49,12 @@ latest_cells value status time =
     data_cell (cut_text value) ++ data_cell status ++ data_cell time
 
 -- the latest live value of a node
-abbrev pub latest : Content → NodeId → Option Held
-latest R node = slice_get (in_direction Backward (lives R node)) 0
+abbrev pub latest_value : Content → NodeId → Option Held
+latest_value R node = slice_get (in_direction Backward (lives R node)) 0
 
 -- the row of a variable: what the settings say, and these texts of a live value
-abbrev pub row_of : Layout → Listed → (value status time : List ℕ) → List ℕ
-row_of space one value status time =
+abbrev pub front_row : Layout → Listed → (value status time : List ℕ) → List ℕ
+front_row space one value status time =
     codes "<tr>" ++ settings_cells space one ++ latest_cells value status time
     ++ codes "</tr>\n"
 
@@ -62,27 +62,31 @@ row_of space one value status time =
 abbrev pub IsRowOf : Layout → Listed → Option Held → List ℕ → Type 0
 IsRowOf space one held row =
     (value : List ℕ) × (status : List ℕ) × (time : List ℕ)
-    × AreLatestTexts held value status time × (row ≡ row_of space one value status time)
+    × AreLatestTexts held value status time × (row ≡ front_row space one value status time)
 
 -- the row of a variable with its latest live value
 abbrev pub IsVariableRow : Layout → Content → Listed → List ℕ → Type 0
-IsVariableRow space R one row = IsRowOf space one (latest R one.node) row
+IsVariableRow space R one row = IsRowOf space one (latest_value R one.node) row
 
 -- ---- above and below the rows
 
 -- which replica of which archive it is
-abbrev pub heading : SettingsValues → List ℕ
-heading s =
+abbrev pub front_heading : SettingsValues → List ℕ
+front_heading s =
     codes "Archive " ++ hyphenated_text lower s.archive ++ codes ", replica " ++ decimal s.replica
+
+-- how the page's table looks: its lines, its cells, and the names of its columns
+unfoldable pub table_style : List ℕ
+table_style =
+    codes "table{border-collapse:collapse;font-variant-numeric:tabular-nums}\n"
+    ++ codes "th,td{padding:.25rem .75rem;text-align:left;vertical-align:top}\n"
+    ++ codes "th{position:sticky;top:0;background:Canvas;box-shadow:0 1px}\n"
 
 -- from the title to the heading: how the page looks
 unfoldable pub front_style : List ℕ
 front_style =
     codes "</title>\n<style>\n:root{color-scheme:light dark}\n"
-    ++ codes "body{margin:2rem;font-family:system-ui,sans-serif}\n"
-    ++ codes "table{border-collapse:collapse;font-variant-numeric:tabular-nums}\n"
-    ++ codes "th,td{padding:.25rem .75rem;text-align:left;vertical-align:top}\n"
-    ++ codes "th{position:sticky;top:0;background:Canvas;box-shadow:0 1px}\n"
+    ++ codes "body{margin:2rem;font-family:system-ui,sans-serif}\n" ++ table_style
     ++ codes "td{white-space:pre-wrap;overflow-wrap:anywhere}\ntd:last-child{white-space:nowrap}\n"
     ++ codes "tr:nth-child(even) td{background:#8882}\n</style>\n</head>\n<body>\n<h1>"
 
@@ -97,7 +101,8 @@ front_columns =
 -- the part of the page above its rows
 abbrev pub front_begin : SettingsValues → List ℕ
 front_begin s =
-    page_begin ++ escaped (heading s) ++ front_style ++ escaped (heading s) ++ front_columns
+    page_begin ++ escaped (front_heading s) ++ front_style ++ escaped (front_heading s)
+    ++ front_columns
 
 -- the part below them
 abbrev pub front_end : List ℕ

@@ -11,13 +11,13 @@ use Rattle.ua_space.specs.References.{holds}
 use Rattle.web_page.specs.declared.listing.Listed.{Listed}
 
 -- a variable as it is listed, in the folder of this name or in none
-abbrev pub listed_in : Option (List ℕ) → Variable → Listed
-listed_in folder variable =
+abbrev pub listed_under : Option (List ℕ) → Variable → Listed
+listed_under folder variable =
     record { folder = folder; name = variable.name; node = Named 1 variable.id }
 
 -- the variables that hang below a node, in the order of the settings
 abbrev pub listed_below : Layout → Option (List ℕ) → Node → List Listed
-listed_below space folder node = map (listed_in folder) (filter (holds node) space.variables)
+listed_below space folder node = map (listed_under folder) (filter (holds node) space.variables)
 
 -- those that hang in a folder, folder by folder
 abbrev pub listed_in_folders : Layout → List Listed

@@ -46,8 +46,8 @@ type_text given = elim given [ None ↦ [] | Some type ↦ type_words type ]
 -- ---- values
 
 -- the type of a value; a null has none
-abbrev pub type_of : Variant → Option ValueType
-type_of value = elim value [
+abbrev pub value_type_of : Variant → Option ValueType
+value_type_of value = elim value [
   | Null ↦ None
   | Scalar one ↦ Some (record { number = scalar_number one; array = false })
   | Array many ↦ Some (record { number = array_number many; array = true })
@@ -56,7 +56,7 @@ type_of value = elim value [
 -- what stands for a value that has no text: its type in brackets
 abbrev pub bracketed : Option Variant → List ℕ
 bracketed given =
-    elim given [ None ↦ [] | Some value ↦ 91 ∷ type_text (type_of value) ++ 93 ∷ [] ]
+    elim given [ None ↦ [] | Some value ↦ 91 ∷ type_text (value_type_of value) ++ 93 ∷ [] ]
 
 -- what is shown of a value: its text, or where it has none, its type in brackets
 abbrev pub IsShown : Option Variant → List ℕ → Type 0

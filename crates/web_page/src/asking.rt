@@ -4,7 +4,7 @@ ghost use Rattle.std.specs.Prelude.{◌≡◌, [], ◌∷◌, ⊤, pos, slice_ge
 ghost use Rattle.archive.specs.Store.{IsAskedWithin};
 ghost use Rattle.history_report.specs.Paging.{greatest_time};
 ghost use Rattle.settings_check.specs.Stored.{IsVectorOf, Reads};
-ghost use Rattle.web_page.specs.Front.{latest};
+ghost use Rattle.web_page.specs.Front.{latest_value};
 
 use archive::{Archive, Direction, StoreFault};
 use records::{Held, Moment};
@@ -38,7 +38,7 @@ pub(crate) fn latest_of<A: Archive>(
 ) -> Result<Vec<Held>, StoreFault>
     ensures answers { MatchResult result
         (λ values. Reads (A.state archive.old) (A.state archive.new) []
-        (λ R. IsVectorOf within.now R → slice_get values.items 0 ≡ latest R node.now))
+        (λ R. IsVectorOf within.now R → slice_get values.items 0 ≡ latest_value R node.now))
         (λ why. Reads (A.state archive.old) (A.state archive.new) (why ∷ []) (λ R. ⊤)) }
     ensures asked { IsAskedWithin 1 (A.asked archive.old) (A.asked archive.new) }
 {

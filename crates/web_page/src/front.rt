@@ -6,7 +6,7 @@ ghost use Rattle.history_report.specs.Html.{page_begin};
 ghost use Rattle.history_report.specs.Paging.{IsPut};
 ghost use Rattle.settings_check.specs.Stored.{IsVectorOf, Reads};
 ghost use Rattle.web_page.specs.Listing.{listed_variables};
-ghost use Rattle.web_page.specs.Front.{IsRowOf, IsVariableRow, AreRows, IsFront, heading, front_style, front_columns, front_begin, front_end, page_faults};
+ghost use Rattle.web_page.specs.Front.{IsRowOf, IsVariableRow, AreRows, IsFront, front_heading, front_style, front_columns, front_begin, front_end, page_faults};
 
 use crate::asking::latest_of;
 use crate::fault::PageFault;
@@ -38,7 +38,7 @@ fn page_begin() -> &'static [u8]
 }
 
 /// What stands between the title and the heading: how the page looks.
-#[tactic(auto, unfolding(crate::specs::Front::front_style))]
+#[tactic(auto, unfolding(crate::specs::Front::front_style, crate::specs::Front::table_style))]
 fn front_style() -> &'static [u8]
     ensures { result.now ≡ front_style }
 {
@@ -68,7 +68,7 @@ fn front_columns() -> &'static [u8]
 
 /// Which replica of which archive it is.
 fn heading(alloc: Global, settings: &Settings) -> Result<Vec<u8>, AllocError>
-    ensures { IfOk result (λ text. text.items ≡ heading settings.now) }
+    ensures { IfOk result (λ text. text.items ≡ front_heading settings.now) }
 {
     let mut buffer = Uuid::encode_buffer();
     let id = settings.archive().hyphenated().encode_lower(&mut buffer);

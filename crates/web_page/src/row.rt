@@ -4,7 +4,7 @@ ghost use Rattle.std.specs.Prelude.{◌≡◌, ◌++◌, [], unwrap_or, IfOk, On
 ghost use Rattle.form_urlencoded.specs.Form.{byte_serialize};
 ghost use Rattle.ua_space.specs.Space.{value_type_at};
 ghost use Rattle.history_csv.specs.Nodes.{node_text};
-ghost use Rattle.web_page.specs.Front.{history_link, anchor_cell, link_cell, settings_cells, latest_cells, row_of};
+ghost use Rattle.web_page.specs.Front.{history_link, anchor_cell, link_cell, settings_cells, latest_cells, front_row};
 
 use crate::html::{put_cell, put_escaped};
 use crate::latest::Latest;
@@ -124,7 +124,7 @@ pub(crate) fn put_row(
     latest: &Latest,
 ) -> Result<(), AllocError>
     ensures { OnOk result (out.new.items ≡ out.old.items
-        ++ row_of space.now listed.now
+        ++ front_row space.now listed.now
         latest.now.value.items latest.now.status.items latest.now.time.items) }
 {
     out.extend_from_slice(b"<tr>")?;

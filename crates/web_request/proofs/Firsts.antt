@@ -4,7 +4,7 @@ use Rattle.httparse.specs.Grammar.{RequestHead}
 use Rattle.httparse.proofs.GrammarLemmas.{request_unique}
 use Rattle.http1.specs.Message.{AcceptsRequest}
 use Rattle.http1.specs.declared.framing.Framing.{Framing}
-use Rattle.web_request.specs.Requests.{AnswersFirst, AnswersHead, BeginsWith, Reads, limits}
+use Rattle.web_request.specs.Requests.{AnswersFirst, AnswersHead, BeginsWith, ReadsRequest, limits}
 use Rattle.web_request.specs.declared.page.Request.{Request}
 use Rattle.web_request.specs.declared.page.RequestFault.{RequestFault}
 use Rattle.web_request.specs.declared.page.RequestFault.TheVariants.{Refused, OutOfMemory}
@@ -17,7 +17,8 @@ same_head came head framing rest P accepts (other, framed, behind, takes, holds)
     subst P (request_unique came other head behind rest takes.reads accepts.reads).0 holds
 
 -- what came is read as that head
-pub first_is : (came : List ℕ) (result : Result (Option Request) RequestFault) → Reads came result
+pub first_is : (came : List ℕ) (result : Result (Option Request) RequestFault)
+    → ReadsRequest came result
     → (head : RequestHead) (framing : Framing) (rest : List ℕ)
     → AcceptsRequest limits came head framing rest → length head.fields ≤ 64
     → AnswersFirst head result

@@ -26,8 +26,8 @@ token_in value =
     then Some (drop 6 value) else None
 
 -- the bytes whose base64 a token is
-abbrev pub bytes_in : List ℕ → Option (List ℕ)
-bytes_in token = elim (decode_of standard token) [ Ok bytes ↦ Some bytes | Err _ ↦ None ]
+abbrev pub token_bytes : List ℕ → Option (List ℕ)
+token_bytes token = elim (decode_of standard token) [ Ok bytes ↦ Some bytes | Err _ ↦ None ]
 
 -- the name before the first colon, and the password behind it
 abbrev pub pair_in : List ℕ → Option Credentials
@@ -39,7 +39,7 @@ pair_in bytes =
 abbrev pub credentials_in : List ℕ → Result Credentials Refusal
 credentials_in value = do
   token ← ok_or (token_in value) NoCredentials
-  bytes ← ok_or (bytes_in token) NoCredentials
+  bytes ← ok_or (token_bytes token) NoCredentials
   ok_or (pair_in bytes) NoCredentials
 
 -- the header that was found is the one of these parts

@@ -30,14 +30,14 @@ abbrev pub pairs_of : List ℕ → List Pair
 pairs_of query = map pair_of (raw_pairs query)
 
 -- the pair has this key
-abbrev pub is_key : List ℕ → Pair → Bool
-is_key key pair = bytes_eq pair.key key
+abbrev pub has_key : List ℕ → Pair → Bool
+has_key key pair = bytes_eq pair.key key
 
 -- the pair has a key that a history is asked by
 abbrev pub is_known : Pair → Bool
 is_known pair =
-    is_key (codes "node") pair || is_key (codes "from") pair || is_key (codes "to") pair
-    || is_key (codes "changes") pair
+    has_key (codes "node") pair || has_key (codes "from") pair || has_key (codes "to") pair
+    || has_key (codes "changes") pair
 
 -- the value of a pair; an empty one, as a form sends for an empty field, is none
 abbrev pub given : Option Pair → Option (List ℕ)
@@ -48,7 +48,7 @@ given found = elim found [
 
 -- the value of a key, where one is given
 abbrev pub value_of : List ℕ → List Pair → Result (Option (List ℕ)) Refusal
-value_of key pairs = only (Wrong Twice) (is_key key) pairs >>= λ found. Ok (given found)
+value_of key pairs = only (Wrong Twice) (has_key key) pairs >>= λ found. Ok (given found)
 
 -- the text that was found is this one
 abbrev pub Says : Result (Option (List ℕ)) Refusal → Result (Option (Bor (List ℕ))) Refusal → Type 0
@@ -56,33 +56,33 @@ Says found (Ok text) = found ≡ Ok (option_copied text)
 Says found (Err why) = found ≡ Err why
 
 -- the node that a value says; it has to be given
-abbrev pub node_asked : Option (List ℕ) → Result NodeId Refusal
-node_asked None = Err (Wrong Node)
-node_asked (Some text) = ok_or (node_in text) (Wrong Node)
+abbrev pub node_said : Option (List ℕ) → Result NodeId Refusal
+node_said None = Err (Wrong Node)
+node_said (Some text) = ok_or (node_in text) (Wrong Node)
 
 -- the moment that a value says, none where none is given
-abbrev pub moment_asked : Part → Option (List ℕ) → Result (Option ℤ) Refusal
-moment_asked part None = Ok None
-moment_asked part (Some text) = ok_or (moment_in text) (Wrong part) >>= λ time. Ok (Some time)
+abbrev pub moment_said : Part → Option (List ℕ) → Result (Option ℤ) Refusal
+moment_said part None = Ok None
+moment_said part (Some text) = ok_or (moment_in text) (Wrong part) >>= λ time. Ok (Some time)
 
 -- whether modifications are asked for
-abbrev pub changes_asked : Option (List ℕ) → Result Bool Refusal
-changes_asked None = Ok false
-changes_asked (Some text) =
+abbrev pub changes_said : Option (List ℕ) → Result Bool Refusal
+changes_said None = Ok false
+changes_said (Some text) =
     if bytes_eq text (codes "true") then Ok true
     else if bytes_eq text (codes "false") then Ok false else Err (Wrong Changes)
 
 -- the node that pairs ask for
 abbrev pub node_of : List Pair → Result NodeId Refusal
-node_of pairs = value_of (codes "node") pairs >>= node_asked
+node_of pairs = value_of (codes "node") pairs >>= node_said
 
 -- the moment that pairs ask for by this key
 abbrev pub moment_by : List ℕ → Part → List Pair → Result (Option ℤ) Refusal
-moment_by key part pairs = value_of key pairs >>= moment_asked part
+moment_by key part pairs = value_of key pairs >>= moment_said part
 
 -- whether pairs ask for modifications
 abbrev pub changes_of : List Pair → Result Bool Refusal
-changes_of pairs = value_of (codes "changes") pairs >>= changes_asked
+changes_of pairs = value_of (codes "changes") pairs >>= changes_said
 
 -- the history that pairs of known keys ask for
 unfoldable pub question_of : List Pair → Result Question Refusal

@@ -1,6 +1,6 @@
 -- How a refusal is told.
 use Rattle.std.specs.Prelude.{ℕ, Bool, List, [], ◌++◌, length, codes, false, if◌then◌else◌}
-use Rattle.web_request.specs.Heads.{status_text, head_text}
+use Rattle.web_request.specs.Heads.{status_words, head_text}
 use Rattle.web_request.specs.declared.answer.Answer.{Answer}
 use Rattle.web_request.specs.declared.answer.Body.TheVariants.{Length}
 use Rattle.web_request.specs.declared.answer.Kind.TheVariants.{Html}
@@ -54,8 +54,8 @@ advice Crowded =
 abbrev pub page_text : Refusal → List ℕ
 page_text why =
     codes "<!DOCTYPE html>\n<html lang=\"en\">\n<head><meta charset=\"utf-8\"><title>"
-    ++ status_text (status_of why) ++ codes "</title></head>\n<body><h1>"
-    ++ status_text (status_of why) ++ codes "</h1>\n<p>" ++ advice why
+    ++ status_words (status_of why) ++ codes "</title></head>\n<body><h1>"
+    ++ status_words (status_of why) ++ codes "</h1>\n<p>" ++ advice why
     ++ codes "</p></body>\n</html>\n"
 
 -- what the head of that page tells: the connection isn't kept

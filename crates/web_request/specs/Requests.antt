@@ -15,7 +15,7 @@ use Rattle.http1.specs.declared.fields.KnownFields.{KnownFields}
 use Rattle.http1.specs.declared.framing.Framing.{Framing}
 use Rattle.ua_binary.specs.Format.{◌>>=◌}
 use Rattle.web_request.specs.Credentials.{credentials_of}
-use Rattle.web_request.specs.Targets.{page_of}
+use Rattle.web_request.specs.Targets.{target_page}
 use Rattle.web_request.specs.declared.page.Refusal.{Refusal}
 use Rattle.web_request.specs.declared.page.Refusal.TheVariants.{NotHttp, TooLong, Method, Body}
 use Rattle.web_request.specs.declared.page.Request.{Request}
@@ -60,7 +60,7 @@ request_by method target minor headers length = do
   head_only ← head_only_of method
   known ← bodiless (known_fields headers)
   credentials ← credentials_of headers
-  page ← page_of target
+  page ← target_page target
   Ok (record {
     page = page;
     head_only = head_only;
@@ -102,8 +102,8 @@ BeginsWith came P =
     × AcceptsRequest limits came head framing rest × P head
 
 -- what came is no whole head, and may become one
-abbrev pub IsCut : List ℕ → Type 0
-IsCut came = HasNoRequest came × (length came < 16384) × MayBecomeRequest came
+abbrev pub IsCutHead : List ℕ → Type 0
+IsCutHead came = HasNoRequest came × (length came < 16384) × MayBecomeRequest came
 
 -- why bytes are refused that no head begins
 abbrev pub refused_by : ReadError → Refusal
@@ -122,10 +122,10 @@ AnswersShort came result =
 
 -- what came is read so: the request of the head that stands first; nothing yet, where that isn't
 -- whole; or why it is refused
-abbrev pub Reads : List ℕ → Result (Option Request) RequestFault → Type 0
-Reads came (Ok None) = IsCut came
-Reads came (Ok (Some request)) = AnswersShort came (Ok request)
-Reads came (Err OutOfMemory) = ⊤
-Reads came (Err (Refused why head_only)) =
+abbrev pub ReadsRequest : List ℕ → Result (Option Request) RequestFault → Type 0
+ReadsRequest came (Ok None) = IsCutHead came
+ReadsRequest came (Ok (Some request)) = AnswersShort came (Ok request)
+ReadsRequest came (Err OutOfMemory) = ⊤
+ReadsRequest came (Err (Refused why head_only)) =
     (BeginsWithNone came why × (head_only ≡ false))
     ⊎ AnswersShort came (Err (Refused why head_only))

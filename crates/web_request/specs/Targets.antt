@@ -35,8 +35,8 @@ page_at path query =
     else if bytes_eq path (codes "/status.json") then unasked query Status else Err Path
 
 -- the page that a target names
-unfoldable pub page_of : List ℕ → Result Page Refusal
-page_of target = elim (position is_mark target) [
+unfoldable pub target_page : List ℕ → Result Page Refusal
+target_page target = elim (position is_mark target) [
   | None ↦ page_at target []
   | Some mark ↦ page_at (take mark target) (drop (mark + 1) target)
 ]

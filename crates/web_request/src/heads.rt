@@ -1,7 +1,7 @@
 //! How the head of an answer is written.
 
 ghost use Rattle.std.specs.Prelude.{◌≡◌, [], ◌++◌, codes, IfOk, OnOk, OnErr};
-ghost use Rattle.web_request.specs.Heads.{status_text, kind_text, line, field, guards, demand, connection_text, framing, facts, head_text};
+ghost use Rattle.web_request.specs.Heads.{status_words, kind_text, line, head_field, guards, demand, connection_text, framing, body_fields, head_text};
 
 use crate::answer::{Answer, Body, Kind, Status};
 use itoa::Buffer;
@@ -9,7 +9,7 @@ use std::alloc::{AllocError, Global};
 
 /// A status by its code and its reason.
 pub(crate) fn status_text(status: Status) -> &'static str
-    ensures { result.now ≡ status_text status }
+    ensures { result.now ≡ status_words status }
 {
     match status {
         Status::Success => "200 OK",
@@ -47,7 +47,7 @@ fn connection_text(keeps_open: bool) -> &'static str
 #[tactic(auto, unfolding(crate::specs::Heads::line))]
 fn put_status(out: &mut Vec<u8>, status: Status) -> Result<(), AllocError>
     ensures { OnOk result (out.new.items
-        ≡ out.old.items ++ line (codes "HTTP/1.1 " ++ status_text status)) }
+        ≡ out.old.items ++ line (codes "HTTP/1.1 " ++ status_words status)) }
 {
     out.extend_from_slice(b"HTTP/1.1 ")?;
     out.extend_from_slice(status_text(status).as_bytes())?;
@@ -64,9 +64,9 @@ fn put_line(out: &mut Vec<u8>) -> Result<(), AllocError>
 }
 
 /// Appends a field.
-#[tactic(auto, unfolding(crate::specs::Heads::field))]
+#[tactic(auto, unfolding(crate::specs::Heads::head_field))]
 fn put_field(out: &mut Vec<u8>, name: &str, value: &str) -> Result<(), AllocError>
-    ensures { OnOk result (out.new.items ≡ out.old.items ++ field name.now value.now) }
+    ensures { OnOk result (out.new.items ≡ out.old.items ++ head_field name.now value.now) }
 {
     out.extend_from_slice(name.as_bytes())?;
     out.extend_from_slice(b": ")?;
@@ -121,7 +121,7 @@ fn put_framing(out: &mut Vec<u8>, body: Body) -> Result<(), AllocError>
 
 /// Appends the fields that tell of the body and of the connection.
 fn put_facts(out: &mut Vec<u8>, answer: Answer) -> Result<(), AllocError>
-    ensures { OnOk result (out.new.items ≡ out.old.items ++ facts answer) }
+    ensures { OnOk result (out.new.items ≡ out.old.items ++ body_fields answer) }
 {
     put_field(out, "Content-Type", kind_text(answer.kind))?;
     put_framing(out, answer.body)?;

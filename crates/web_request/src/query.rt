@@ -3,7 +3,7 @@
 ghost use Rattle.std.specs.Prelude.{◌≡◌, IfOk, count_by, find, option_copied};
 ghost use Rattle.std.specs.List.{list_all};
 ghost use Rattle.web_request.specs.Asking.{Answers};
-ghost use Rattle.web_request.specs.Query.{decoded, pairs_of, is_key, is_known, given, value_of, Says, node_of, moment_by, changes_of, question_of, question_by, question_in};
+ghost use Rattle.web_request.specs.Query.{decoded, pairs_of, has_key, is_known, given, value_of, Says, node_of, moment_by, changes_of, question_of, question_by, question_in};
 
 use crate::page::{Fault, Part, Question, Refusal};
 use crate::pair::Pair;
@@ -36,7 +36,7 @@ fn pairs_of(alloc: Global, query: &[u8]) -> Result<Vec<Pair>, AllocError>
 
 /// Whether a pair has this key.
 fn is_key(key: &str, pair: &Pair) -> bool
-    ensures { result ≡ is_key key.now pair.now }
+    ensures { result ≡ has_key key.now pair.now }
 {
     pair.key.as_str() == key
 }
@@ -62,14 +62,14 @@ fn given(found: Option<&Pair>) -> Option<&str>
 
 /// How many pairs have this key.
 fn count_keyed(key: &str, pairs: &[Pair]) -> usize
-    ensures { result ≡ count_by (λ pair. is_key key.now pair) pairs.now }
+    ensures { result ≡ count_by (λ pair. has_key key.now pair) pairs.now }
 {
     pairs.iter().filter(|pair| is_key(key, pair)).count()
 }
 
 /// The first pair of this key.
 fn find_keyed<'a>(key: &str, pairs: &'a [Pair]) -> Option<&'a Pair>
-    ensures { option_copied result ≡ find (λ pair. is_key key.now pair) pairs.now }
+    ensures { option_copied result ≡ find (λ pair. has_key key.now pair) pairs.now }
 {
     pairs.iter().find(|pair| is_key(key, pair))
 }

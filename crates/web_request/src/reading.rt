@@ -7,7 +7,7 @@ ghost use Rattle.http1.specs.declared.framing.Framing.{Framing};
 ghost use Rattle.httparse.specs.Grammar.{RequestHead};
 ghost use Rattle.httparse.specs.Spans.{IsHeaderWithin, IsRequestAt, IsRequestWithin, header_bytes};
 ghost use Rattle.web_request.specs.Asking.{Answers};
-ghost use Rattle.web_request.specs.Requests.{is_head, head_only_of, has_body, keeps_open, request_by, refused_by, limits, AnswersHead, AnswersFirst, Reads};
+ghost use Rattle.web_request.specs.Requests.{is_head, head_only_of, has_body, keeps_open, request_by, refused_by, limits, AnswersHead, AnswersFirst, ReadsRequest};
 
 use crate::credentials::credentials_of;
 use crate::head::Head;
@@ -148,7 +148,7 @@ fn refused_by(error: ReadError) -> Refusal
 
 /// The request that stands first in the bytes that came.
 fn request_in(alloc: Global, came: &[u8]) -> Result<Option<Request>, RequestFault>
-    ensures reads { Reads came.now result }
+    ensures reads { ReadsRequest came.now result }
     ensures within { IfOk result
         (λ read. IfSome read (λ request. request.length ≤ length came.now)) }
 {
@@ -169,7 +169,7 @@ fn request_in(alloc: Global, came: &[u8]) -> Result<Option<Request>, RequestFaul
 /// it; of its method, its body, its credentials and its target the first is refused that is wrong.
 /// `RequestFault` says why, or that memory ran out.
 pub fn read_request(alloc: Global, came: &[u8]) -> Result<Option<Request>, RequestFault>
-    ensures reads { Reads came.now result }
+    ensures reads { ReadsRequest came.now result }
     ensures found { (head : RequestHead) (framing : Framing) (rest : List ℕ)
         → AcceptsRequest limits came.now head framing rest → length head.fields ≤ 64
         → AnswersFirst head result }

@@ -2,7 +2,7 @@
 
 ghost use Rattle.std.specs.Prelude.{◌≡◌, ◌<◌, IfSome, length, position};
 ghost use Rattle.web_request.specs.Asking.{Answers};
-ghost use Rattle.web_request.specs.Targets.{is_mark, unasked, history_in, csv_in, page_at, page_of};
+ghost use Rattle.web_request.specs.Targets.{is_mark, unasked, history_in, csv_in, page_at, target_page};
 
 use crate::page::{Fault, Page, Part, Refusal};
 use crate::query::question_in;
@@ -66,9 +66,9 @@ fn page_at(alloc: Global, path: &[u8], query: &[u8]) -> Result<Page, Fault>
 }
 
 /// The page that a target names.
-#[tactic(auto, unfolding(crate::specs::Targets::page_of))]
+#[tactic(auto, unfolding(crate::specs::Targets::target_page))]
 pub(crate) fn page_of(alloc: Global, target: &[u8]) -> Result<Page, Fault>
-    ensures { Answers (page_of target.now) result }
+    ensures { Answers (target_page target.now) result }
 {
     let Some(mark) = mark_of(target) else {
         return page_at(alloc, target, &[]);

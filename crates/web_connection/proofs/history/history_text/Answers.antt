@@ -10,7 +10,7 @@ use Rattle.web_request.specs.Refusals.{refusal_text}
 use Rattle.web_request.specs.declared.answer.Kind.TheVariants.{Html}
 use Rattle.web_request.specs.declared.page.Refusal.TheVariants as why
 use Rattle.web_connection.specs.Answers.{TellsHistory}
-use Rattle.web_connection.specs.Texts.{page_text}
+use Rattle.web_connection.specs.Texts.{answer_text}
 use Rattle.web_connection.proofs.AskingLemmas.{text-by}
 use Rattle.web_connection.proofs.PageLemmas.{history-told, crowded-told, part-asks, store-told}
 use Rattle.web_connection.proofs.history.history_text.Goals as goal
@@ -24,7 +24,7 @@ returns-in-Ok-clause-answers g c =
     let page = c.put_part.new.out.items in
     let text = c.as_slice.result.now in
     let head_only = c.args.head_only in
-    text-by (λ text. text.items) c.page_text.result (page_text Html text head_only)
+    text-by (λ text. text.items) c.page_text.result (answer_text Html text head_only)
     (state c.args.archive.now) (state c.put_part.new.archive) []
     (λ R. PutsPart report empty page R)
     (λ (R : Content) (faults : List StoreFault) (text : List ℕ).
@@ -58,7 +58,8 @@ returns-in-Err-Report-Store-clause-answers g c =
     let question = c.args.question in
     let head_only = c.args.head_only in
     let fault = c.in-Err-Report-Store.field-0-0-0 in
-    text-by (λ text. text.items) c.refusal_text-in-Err-Report-Store.result (refusal_text why.Store head_only)
+    text-by (λ text. text.items) c.refusal_text-in-Err-Report-Store.result
+    (refusal_text why.Store head_only)
     (state c.args.archive.now) (state c.put_part.new.archive) (fault ∷ []) (λ R. Unit {0})
     (λ (R : Content) (faults : List StoreFault) (text : List ℕ).
     TellsHistory R question head_only faults text)
@@ -77,7 +78,8 @@ returns-in-Err-Report-NoText-clause-answers g c =
     let state = g.A.Archive.state in
     let question = c.args.question in
     let head_only = c.args.head_only in
-    text-by (λ text. text.items) c.refusal_text-in-Err-Report-NoText.result (refusal_text why.NoText head_only)
+    text-by (λ text. text.items) c.refusal_text-in-Err-Report-NoText.result
+    (refusal_text why.NoText head_only)
     (state c.args.archive.now) (state c.put_part.new.archive) [] (λ R. Unit {0})
     (λ (R : Content) (faults : List StoreFault) (text : List ℕ).
     TellsHistory R question head_only faults text)

@@ -25,4 +25,5 @@ returns-in-Err-clause-answers g c =
     only-asked (state c.args.archive.now) (state c.next-next.new.archive)
     (report_faults (ending c.next-next.result))
     (λ (R : Content). IsPortion c.args.sending.portions c.next-next.new.self R
-    c.new-portion.result.items c.next-next.new.out.items c.next-next.result) c.next-next.ensures.takes
+    c.new-portion.result.items c.next-next.new.out.items c.next-next.result)
+    c.next-next.ensures.takes

@@ -10,7 +10,7 @@ use Rattle.web_request.specs.Refusals.{refusal_text}
 use Rattle.web_request.specs.declared.answer.Kind.TheVariants.{Html}
 use Rattle.web_request.specs.declared.page.Refusal.TheVariants as why
 use Rattle.web_connection.specs.Answers.{TellsPage}
-use Rattle.web_connection.specs.Texts.{page_text}
+use Rattle.web_connection.specs.Texts.{answer_text}
 use Rattle.web_connection.proofs.AskingLemmas.{text-by}
 use Rattle.web_connection.proofs.PageLemmas.{front-asks, page-told, store-told}
 use Rattle.web_connection.proofs.pages.front_text.Goals as goal
@@ -23,7 +23,7 @@ returns-in-Ok-clause-answers g c =
     let page = c.put_front.new.out.items in
     let text = c.as_slice.result.now in
     let head_only = c.args.head_only in
-    text-by (λ text. text.items) c.page_text.result (page_text Html text head_only)
+    text-by (λ text. text.items) c.page_text.result (answer_text Html text head_only)
     (state c.args.archive.now) (state c.put_front.new.archive) []
     (λ R. IsPut empty page (IsFront s R))
     (λ (R : Content) (faults : List StoreFault) (text : List ℕ).

@@ -8,8 +8,8 @@ use Rattle.web_request.specs.Refusals.{refusal_text}
 use Rattle.web_request.specs.declared.answer.Kind.TheVariants.{Json}
 use Rattle.web_request.specs.declared.page.Refusal.TheVariants as why
 use Rattle.web_connection.specs.Answers.{TellsPage}
-use Rattle.web_connection.specs.Status.{status_text}
-use Rattle.web_connection.specs.Texts.{page_text}
+use Rattle.web_connection.specs.Status.{status_json}
+use Rattle.web_connection.specs.Texts.{answer_text}
 use Rattle.web_connection.proofs.AskingLemmas.{text-by, reads-answer, reads-fault}
 use Rattle.web_connection.proofs.PageLemmas.{state-told, store-told}
 use Rattle.web_connection.proofs.pages.state_text.Goals as goal
@@ -21,10 +21,10 @@ returns-in-Ok-clause-answers g c =
     let head_only = c.args.head_only in
     let numbers = c.in-Ok.vector in
     text-by (λ text. text.items) c.state_page.result
-    (page_text Json (status_text s (number_of numbers)) head_only)
+    (answer_text Json (status_json s (number_of numbers)) head_only)
     (state c.args.archive.now) (state c.vector.new.self) [] (λ R. IsVectorOf numbers R)
     (λ (R : Content) (faults : List StoreFault) (text : List ℕ).
-    TellsPage Json head_only (λ page. page ≡ status_text s (vec R)) faults text)
+    TellsPage Json head_only (λ page. page ≡ status_json s (vec R)) faults text)
     (λ R p. state-told s R head_only numbers p) c.state_page.ensures
     (reads-answer (state c.args.archive.now) (state c.vector.new.self)
     (λ (R : Content) (v : List ℕ). IsVectorOf v R) numbers c.in-Ok.ensures.asks)
@@ -38,7 +38,7 @@ returns-in-Err-clause-answers g c =
     text-by (λ text. text.items) c.refusal_text.result (refusal_text why.Store head_only)
     (state c.args.archive.now) (state c.vector.new.self) (fault ∷ []) (λ R. ⊤)
     (λ (R : Content) (faults : List StoreFault) (text : List ℕ).
-    TellsPage Json head_only (λ page. page ≡ status_text s (vec R)) faults text)
+    TellsPage Json head_only (λ page. page ≡ status_json s (vec R)) faults text)
     (λ R p. inl (store-told head_only fault)) c.refusal_text.ensures
     (reads-fault (state c.args.archive.now) (state c.vector.new.self) fault _
     c.in-Err.ensures.asks)

@@ -1,7 +1,7 @@
 use Rattle.std.proofs.Common.{◌≡◌, List, [], Option, Ok, Err, inl, inr, refl, subst}
 use Rattle.records.specs.Contents.{Content}
 use Rattle.archive.specs.declared.fault.StoreFault.{StoreFault}
-use Rattle.web_request.specs.Requests.{Reads as IsRead}
+use Rattle.web_request.specs.Requests.{ReadsRequest as IsRead}
 use Rattle.web_request.specs.declared.page.Request.{Request}
 use Rattle.web_request.specs.declared.page.RequestFault.{RequestFault}
 use Rattle.web_connection.specs.Answers.{AnswersRequest}
@@ -13,7 +13,8 @@ returns-in-Ok-None-clause-answers g c =
     let state = g.A.Archive.state in (
       subst (λ (read : Option Request). IsRead c.args.came.now (Ok read)) c.in-Ok-None.field-0-is
           c.in-Ok-None.ensures.reads,
-      made-alone (state c.args.archive.now) (λ R (faults : List StoreFault). faults ≡ []) (λ R. refl),
+      made-alone (state c.args.archive.now) (λ R (faults : List StoreFault). faults ≡ [])
+          (λ R. refl),
     )
 
 pub returns-in_ok-answer_request-in-Ok-Some-clause-answers :
@@ -43,7 +44,8 @@ returns-in_ok-refusal_text-in-Err-Refused-clause-answers g c =
       c.in-Err-Refused.why,
       c.in-Err-Refused.head_only,
       subst (λ (fault : RequestFault).
-          IsRead c.args.came.now (Err fault)) c.in-Err-Refused.field-0-is c.in-Err-Refused.ensures.reads,
+          IsRead c.args.came.now (Err fault)) c.in-Err-Refused.field-0-is
+          c.in-Err-Refused.ensures.reads,
       (refl, c.in_ok-refusal_text-in-Err-Refused.ensures),
       refl,
     ))

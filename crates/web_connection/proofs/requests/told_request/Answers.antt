@@ -5,7 +5,7 @@ use Rattle.web_page.specs.Front.{IsFront}
 use Rattle.web_request.specs.declared.answer.Kind.TheVariants.{Html, Json}
 use Rattle.web_request.specs.declared.page.Page.TheVariants as page
 use Rattle.web_connection.specs.Answers.{TellsAsked, TellsCsv, TellsHistory, TellsPage}
-use Rattle.web_connection.specs.Status.{status_text}
+use Rattle.web_connection.specs.Status.{status_json}
 use Rattle.web_connection.specs.declared.sending.Sending.{Sending}
 use Rattle.web_connection.proofs.AskingLemmas.{made-as}
 use Rattle.web_connection.proofs.PageLemmas.{asked-as, result-as}
@@ -31,7 +31,7 @@ returns-in-Status-clause-answers g c =
     let text = c.in_ok-state_text-in-Status.field-0.items in
     made-as (state c.args.archive.now) (state c.state_text.new.archive)
     (λ (R : Content) (faults : List StoreFault).
-    TellsPage Json request.head_only (λ page. page ≡ status_text s (vec R)) faults text) _
+    TellsPage Json request.head_only (λ page. page ≡ status_json s (vec R)) faults text) _
     (λ R faults p. asked-as s R request.page page.Status request.head_only request.takes_chunks
     faults text None c.in-Status.is (p, refl)) c.in_ok-state_text-in-Status.ensures.answers
 

@@ -4,7 +4,7 @@ use Rattle.records.specs.Contents.{Content}
 use Rattle.records.specs.declared.shown.Held.{Held}
 use Rattle.history_report.specs.Paging.{IsPut}
 use Rattle.settings_check.specs.Stored.{IsVectorOf}
-use Rattle.web_page.specs.Front.{IsRowOf, IsVariableRow, latest}
+use Rattle.web_page.specs.Front.{IsRowOf, IsVariableRow, latest_value}
 use Rattle.web_page.proofs.AskingLemmas.{reads-as}
 use Rattle.web_page.proofs.front.put_variable.Goals as goal
 
@@ -17,7 +17,7 @@ returns-in-Ok-put_told-clause-answers g c =
     let one = c.args.listed.now in
     reads-as (state c.args.archive.now) (state c.latest_of.new.archive) []
     (λ (R : Content). IsVectorOf c.args.within.now R
-    → slice_get c.in-Ok.values.items 0 ≡ latest R one.node)
+    → slice_get c.in-Ok.values.items 0 ≡ latest_value R one.node)
     (λ (R : Content). IsVectorOf c.args.within.now R
     → IsPut old new (IsVariableRow space R one))
     (λ R p same. subst (λ (h : Option Held). IsPut old new (IsRowOf space one h))
@@ -29,5 +29,5 @@ returns-clause-answers g c =
     let state = g.A.Archive.state in
     reads-as (state c.args.archive.now) (state c.latest_of.new.archive) []
     (λ (R : Content). IsVectorOf c.args.within.now R
-    → slice_get c.in-Ok.values.items 0 ≡ latest R c.args.listed.now.node)
+    → slice_get c.in-Ok.values.items 0 ≡ latest_value R c.args.listed.now.node)
     (λ R. ⊤) (λ R p. tt) c.in-Ok.ensures.answers

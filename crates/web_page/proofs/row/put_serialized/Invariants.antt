@@ -5,5 +5,6 @@ use Rattle.web_page.proofs.row.put_serialized.Given as goal
 
 abbrev pub invariant-loop-piece : goal.invariant-loop-piece
 invariant-loop-piece l = record {
-  puts : l.out.items ++ serialized_text l.piece-iterator ≡ l.initial.out.items ++ byte_serialize l.bytes;
+  puts : l.out.items ++ serialized_text l.piece-iterator
+      ≡ l.initial.out.items ++ byte_serialize l.bytes;
 }
