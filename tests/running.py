@@ -17,7 +17,7 @@ STATED = [
     (3, r"store refused \([1-4]\)\n(uahist: [^\n]{1,80}\n)?"),
     (3, r"store broken\nuahist: [^\n]{1,80}\n"),
     (2, r"bad hex\n"),
-    (1, r"(door's |)address refused\nuahist: [^\n]{1,80}\n"),
+    (1, r"(door's |page's |)address refused\nuahist: [^\n]{1,80}\n"),
     (1, r"peer's address refused \(\d+\)\nuahist: [^\n]{1,80}\n"),
     (1, r"exchange ended \(\d+\)\n"),
     (2, r"--(node|from|to): want a .*\n"),
