@@ -22,14 +22,14 @@ any = record { token = 0; user = None }
 
 pub closes-one : (state : SessionsState) (token : NodeId) (place : ℕ) (rest : List Session)
     → position (is_named token) state.alive ≡ Some place → rest ≡ remove state.alive place
-    → Closes state token (Ok tt) (record { made = state.made; alive = rest })
+    → Closes state token (Ok tt) (record state { alive = rest })
 closes-one state token place rest at is =
     let here = found token state.alive place at in
     let one = find_some token state.alive place here any in
     record {
       answer = rw one refl;
       leaves = ap (λ l. let s : SessionsState =
-          record { made = state.made; alive = l } in s)
+          record state { alive = l } in s)
           (is ∙ without_session-at token state.alive place here);
     }
 
@@ -74,8 +74,7 @@ pub activates-one : (state : SessionsState) (token : NodeId) (allowed : Allowed)
     → position (is_named token) state.alive ≡ Some place → Ok user ≡ judgement allowed claim
     → d ≡ get_or state.alive place d → name ≡ user
     → Activates state token allowed claim (Ok user)
-    (record {
-      made = state.made;
+    (record state {
       alive =
           set state.alive place (record { token = d.token; user = Some name });
     })
@@ -88,7 +87,7 @@ activates-one state token allowed claim place user name d at is there copied =
     record {
       answer = rw (one, ← is) refl;
       leaves =
-          ap (λ l. let s : SessionsState = record { made = state.made; alive = l } in s) same;
+          ap (λ l. let s : SessionsState = record state { alive = l } in s) same;
     }
 
 pub short-set : (alive : List Session) (token : NodeId) (place : ℕ) (user : List ℕ) (d : Session)

@@ -1,5 +1,5 @@
 -- What the sessions of a connection are, and what each call answers and leaves (Part 4, 5.7).
-use Rattle.std.specs.Prelude.{◌≡◌, ◌≤◌, ◌+◌, ◌*◌, ℕ, Bool, false, List, [], ◌∷◌, ◌++◌, length, ◌==◌, ◌&&◌, ◌||◌, nat_le, None, Some, IfSome, Result, Ok, Err, MatchResult, find, is_some, if◌then◌else◌}
+use Rattle.std.specs.Prelude.{◌≡◌, ◌≤◌, ◌+◌, ◌*◌, ◌^◌, ◌-◌, min, ℕ, Bool, false, List, [], ◌∷◌, ◌++◌, length, ◌==◌, ◌&&◌, ◌||◌, nat_le, Option, None, Some, IfSome, Result, Ok, Err, MatchResult, find, is_some, if◌then◌else◌}
 use Rattle.std.specs.List.{list_any}
 use Rattle.std.specs.Option.{ok_or}
 use Rattle.ua_binary.specs.Format.{◌>>=◌, IsOrStarved}
@@ -7,6 +7,7 @@ use Rattle.ua_binary.specs.declared.values.NodeId.{NodeId}
 use Rattle.ua_binary.specs.declared.values.NodeId.TheVariants.{Numeric}
 use Rattle.ua_session.specs.declared.fault.SessionFault.{SessionFault}
 use Rattle.ua_session.specs.declared.fault.SessionFault.TheVariants.{TooMany, IdInvalid, NotActivated, OutOfMemory}
+use Rattle.ua_session.specs.declared.audit.AuditEvent.{AuditEvent}
 use Rattle.ua_session.specs.declared.session.Session.{Session}
 use Rattle.ua_session.specs.Users.{Allowed, Claim, judgement}
 
@@ -23,14 +24,17 @@ abbrev pub is_named : NodeId → Session → Bool
 is_named id session =
     elim id [ Numeric namespace number ↦ namespace == 1 && number == session.token | _ ↦ false ]
 
--- how many sessions were made, and those that are open, the oldest first
+-- how many sessions were made, and those that are open, the oldest first; how many audit events
+-- there were, and the last one
 pub record SessionsState : Type 0 where
   pub made : ℕ
   pub alive : List Session
+  pub audits : ℕ
+  pub last_audit : Option AuditEvent
 
 -- no session yet
 abbrev pub no_sessions : SessionsState
-no_sessions = record { made = 0; alive = [] }
+no_sessions = record { made = 0; alive = []; audits = 0; last_audit = None }
 
 -- ---- what a call answers where memory is there
 
@@ -64,7 +68,7 @@ has_user state = list_any (λ session. is_some session.user) state.alive
 -- one session more, which nobody activated
 abbrev pub with_new : SessionsState → SessionsState
 with_new state =
-    record {
+    record state {
       made = state.made + 1;
       alive = state.alive ++ record { token = 2 * (state.made + 1) + 1; user = None } ∷ [];
     }
@@ -81,6 +85,11 @@ abbrev pub without_session : NodeId → List Session → List Session
 without_session token [] = []
 without_session token (session ∷ alive) =
     if is_named token session then alive else session ∷ without_session token alive
+
+-- this was done in them last
+abbrev pub with_audit : AuditEvent → SessionsState → SessionsState
+with_audit event state =
+    record state { audits = min (state.audits + 1) (2 ^ 64 - 1); last_audit = Some event }
 
 -- ---- the calls
 

@@ -2,6 +2,7 @@
 //! was activated.
 #![tactic(auto)]
 
+mod audit;
 mod fault;
 mod identity;
 mod laws;
@@ -9,6 +10,7 @@ mod session;
 mod sessions;
 mod users;
 
+pub use audit::{AuditEvent, AuditName, UpdateAudit, UpdateKind};
 pub use fault::SessionFault;
 pub use identity::{Access, Identity};
 pub use laws::{

@@ -5,8 +5,9 @@ ghost use Rattle.std.specs.List.{AllByRecursion};
 ghost use Rattle.std.specs.Option.{option_copied};
 ghost use Rattle.ua_binary.specs.Binary.{node_of};
 ghost use Rattle.ua_session.specs.Users.{claim_of, user_name_of, IsUserName};
-ghost use Rattle.ua_session.specs.Sessions.{no_sessions, user_at, has_user, is_named, HasShortUser, Creates, Activates, Closes};
+ghost use Rattle.ua_session.specs.Sessions.{no_sessions, user_at, with_audit, has_user, is_named, HasShortUser, Creates, Activates, Closes};
 
+use crate::audit::AuditEvent;
 use crate::fault::SessionFault;
 use crate::identity::Identity;
 use crate::session::{NAMESPACE, Session};
@@ -24,12 +25,15 @@ const MAX_MADE: u32 = 1_000_000;
 /// The sessions of one connection (Part 4, 5.7), each known by its authentication token.
 ///
 /// The k-th session has the id `ns=1;i=2k` and the token `ns=1;i=2k+1`, so that no token is ever given
-/// twice. A session has no user until it is activated.
+/// twice. A session has no user until it is activated. What was done in them last is kept for a log.
 #[derive(Debug, Drop)]
 pub struct Sessions {
     alloc: Global,
     made: u32,
     alive: Vec<Session>,
+    // how many audit events there were, and the last one
+    audits: u64,
+    last_audit: Option<AuditEvent>,
 }
 
 impl Model for Sessions {
@@ -39,7 +43,12 @@ impl Model for Sessions {
 
     ghost Value = { SessionsState };
 
-    ghost view = { λ s. record { made = s.made; alive = s.alive.items } };
+    ghost view = { λ s. record {
+      made = s.made;
+      alive = s.alive.items;
+      audits = s.audits;
+      last_audit = s.last_audit;
+    } };
 
     ghost invariant = { λ s. (s.made ≤ 1000000) × AllByRecursion HasShortUser s.alive.items };
 }
@@ -53,6 +62,8 @@ impl Sessions {
             alloc,
             made: 0,
             alive: Vec::new(alloc),
+            audits: 0,
+            last_audit: None,
         }
     }
 
@@ -126,6 +137,28 @@ impl Sessions {
         let session = find_session(&self.alive, token).ok_or(SessionFault::IdInvalid)?;
         let user = session.user.as_ref().ok_or(SessionFault::NotActivated)?;
         Ok(user.as_str())
+    }
+
+    /// Keeps what was done in them, in place of what was kept before.
+    pub fn note(&mut self, event: AuditEvent)
+        ensures { self.new ≡ with_audit event self.old }
+    {
+        self.audits = self.audits.saturating_add(1);
+        self.last_audit = Some(event);
+    }
+
+    /// How many times `note` was called, at most 2^64 - 1.
+    pub fn audits(&self) -> u64
+        ensures { result ≡ self.now.audits }
+    {
+        self.audits
+    }
+
+    /// What was done in them last, if something was.
+    pub fn last_audit(&self) -> Option<&AuditEvent>
+        ensures { option_copied result ≡ self.now.last_audit }
+    {
+        self.last_audit.as_ref()
     }
 
     /// Whether a session that is open was activated.
