@@ -66,6 +66,8 @@ pub fn plant_of(alloc: Global, number: u8) -> Option<Settings> {
         ends_broken: false,
         is_strict: false,
         slow: None,
+        logins: None,
+        events: false,
     }))
 }
 

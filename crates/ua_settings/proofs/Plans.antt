@@ -254,23 +254,26 @@ users_same lines document server anonymous access named s a may n =
 -- what the tables list, by its parts
 pub same_lists : (lines : List PasswordLine) (document : Members) (space : Layout)
     (users : Allowed) (peers : List PeerCall) (door : Option DoorSettings)
-    (web : Option WebSettings)
+    (web : Option WebSettings) (events : Bool)
     → users ≡ (listed_in lines document space).users
     → peers ≡ (listed_in lines document space).peers
     → door ≡ (listed_in lines document space).door
     → web ≡ (listed_in lines document space).web
+    → events ≡ (listed_in lines document space).events
     → (let listed : Listed = record {
       users = users;
       peers = peers;
       door = door;
       web = web;
+      events = events;
       space = space;
     } in listed) ≡ listed_in lines document space
-same_lists lines document space users peers door web u p d w =
+same_lists lines document space users peers door web events u p d w e =
     λ i. record {
       users = u i;
       peers = p i;
       door = d i;
       web = w i;
+      events = e i;
       space = space;
     }

@@ -6,7 +6,7 @@ use Rattle.std.specs.List.{list_any, AllByRecursion}
 use Rattle.std.specs.Cmp.Lexicographic.{pointwise}
 use Rattle.toml.specs.Data.{Data, Members, no_members, get_member, as_str, as_integer, as_table}
 use Rattle.ua_settings.specs.declared.keys.Section.{Section}
-use Rattle.ua_settings.specs.declared.keys.Section.TheVariants.{Document, Archive, Server, User, Folder, Variable, Peer, Door, Web}
+use Rattle.ua_settings.specs.declared.keys.Section.TheVariants.{Document, Archive, Server, User, Folder, Variable, Peer, Door, Web, Log}
 use Rattle.ua_settings.specs.declared.keys.Wrong.{Wrong}
 use Rattle.ua_settings.specs.declared.keys.Wrong.TheVariants.{Unknown, Missing, Bad}
 use Rattle.ua_settings.specs.declared.password.PasswordLine.{PasswordLine}
@@ -65,6 +65,7 @@ each_section lines document wrong none section =
     let seven = none_both (wrong_in lines document wrong Peer) _ six.1 in
     let eight = none_both (wrong_in lines document wrong Door) _ seven.1 in
     let nine = none_both (wrong_in lines document wrong Web) _ eight.1 in
+    let ten = none_both (wrong_in lines document wrong Log) _ nine.1 in
     elim section as (λ s. wrong_in lines document wrong s ≡ None) [
       | Document ↦ one.0
       | Archive ↦ two.0
@@ -76,6 +77,7 @@ each_section lines document wrong none section =
       | Peer ↦ seven.0
       | Door ↦ eight.0
       | Web ↦ nine.0
+      | Log ↦ ten.0
     ]
 
 -- ---- a table in which nothing is wrong
@@ -193,6 +195,8 @@ server_sound names members right =
           spoils.1.1.1.1.1.1.0;
       slow = optional_held (is_up_to 60000) as_integer (get_member (codes "slow") members)
           spoils.1.1.1.1.1.1.1.1.1.0;
+      logins = optional_held (is_up_to 1000) as_integer (get_member (codes "logins") members)
+          spoils.1.1.1.1.1.1.1.1.1.1.0;
     }
 
 name_of_user : (users : List (List ℕ)) (name : List ℕ) (b : Bool) → (is_name name && b) ≡ true

@@ -7,7 +7,7 @@ use Rattle.std.specs.Cmp.Lexicographic.{pointwise}
 use Rattle.toml.specs.Data.{Data, Items, no_items, item, Members, no_members, member, get_member, as_str, as_integer, as_bool, as_array, as_table}
 use Rattle.uuid.specs.Text.{parsed}
 use Rattle.ua_settings.specs.declared.keys.Section.{Section}
-use Rattle.ua_settings.specs.declared.keys.Section.TheVariants.{Document, Archive, Server, User, Folder, Variable, Peer, Door, Web}
+use Rattle.ua_settings.specs.declared.keys.Section.TheVariants.{Document, Archive, Server, User, Folder, Variable, Peer, Door, Web, Log}
 use Rattle.ua_settings.specs.declared.keys.Holds.{Holds}
 use Rattle.ua_settings.specs.declared.keys.Holds.TheVariants.{Text, Id, Replica, UpTo, Truth, NodeName, UserName, FolderId, Access, AfterBreak, PasswordFile, Texts, Replicas, OneTable, Tables}
 use Rattle.ua_settings.specs.declared.keys.Wrong.{Wrong}
@@ -39,7 +39,8 @@ document_keys =
     required (codes "archive") OneTable ∷ required (codes "server") OneTable
     ∷ optional (codes "user") Tables ∷ optional (codes "folder") Tables
     ∷ optional (codes "variable") Tables ∷ optional (codes "peer") Tables
-    ∷ optional (codes "door") OneTable ∷ optional (codes "web") OneTable ∷ []
+    ∷ optional (codes "door") OneTable ∷ optional (codes "web") OneTable
+    ∷ optional (codes "log") OneTable ∷ []
 
 -- those of the table `archive`
 abbrev pub archive_keys : List Rule
@@ -54,7 +55,8 @@ server_keys =
     ∷ required (codes "application") Text ∷ required (codes "namespace") Text
     ∷ required (codes "anonymous") Truth ∷ optional (codes "connections") (UpTo 1000)
     ∷ optional (codes "waiting") (UpTo 65536) ∷ optional (codes "anonymous_access") Access
-    ∷ optional (codes "strict") Truth ∷ optional (codes "slow") (UpTo 60000) ∷ []
+    ∷ optional (codes "strict") Truth ∷ optional (codes "slow") (UpTo 60000)
+    ∷ optional (codes "logins") (UpTo 1000) ∷ []
 
 -- those of a table of a user
 abbrev pub user_keys : List Rule
@@ -78,6 +80,10 @@ door_keys =
 abbrev pub web_keys : List Rule
 web_keys = required (codes "listen") Text ∷ optional (codes "connections") (UpTo 1000) ∷ []
 
+-- those of the table `log`
+abbrev pub log_keys : List Rule
+log_keys = optional (codes "events") Truth ∷ []
+
 -- those of a table of a peer
 abbrev pub peer_keys : List Rule
 peer_keys = required (codes "address") Text ∷ required (codes "every") (UpTo 86400) ∷ []
@@ -93,11 +99,12 @@ rules Variable = variable_keys
 rules Peer = peer_keys
 rules Door = door_keys
 rules Web = web_keys
+rules Log = log_keys
 
 -- the kinds of tables, in the order in which a document is judged
 abbrev pub sections : List Section
 sections =
-    Document ∷ Archive ∷ Server ∷ User ∷ Folder ∷ Variable ∷ Peer ∷ Door ∷ Web ∷ []
+    Document ∷ Archive ∷ Server ∷ User ∷ Folder ∷ Variable ∷ Peer ∷ Door ∷ Web ∷ Log ∷ []
 
 -- ---- the tables of a document
 
@@ -132,6 +139,8 @@ tables document Door =
     option_to_list (option_and_then as_table (get_member (codes "door") document))
 tables document Web =
     option_to_list (option_and_then as_table (get_member (codes "web") document))
+tables document Log =
+    option_to_list (option_and_then as_table (get_member (codes "log") document))
 
 -- the text at a key, empty where there is none
 abbrev pub text_at : List ℕ → Members → List ℕ

@@ -7,7 +7,7 @@ use Rattle.std.specs.Fmt.{decimal}
 use Rattle.toml.specs.Data.{Members}
 use Rattle.ua_space.specs.Plan.{type_number}
 use Rattle.ua_settings.specs.declared.keys.Section.{Section}
-use Rattle.ua_settings.specs.declared.keys.Section.TheVariants.{Document, Archive, Server, User, Folder, Variable, Peer, Door, Web}
+use Rattle.ua_settings.specs.declared.keys.Section.TheVariants.{Document, Archive, Server, User, Folder, Variable, Peer, Door, Web, Log}
 use Rattle.ua_settings.specs.declared.password.PasswordLine.{PasswordLine}
 use Rattle.ua_settings.specs.declared.place.Place.{Place}
 use Rattle.ua_settings.specs.declared.place.Place.TheVariants.{Line, Key, Nodes}
@@ -88,6 +88,7 @@ heading Variable number = codes "[[variable]] " ++ decimal number ++ codes ", "
 heading Peer number = codes "[[peer]] " ++ decimal number ++ codes ", "
 heading Door number = codes "[door] "
 heading Web number = codes "[web] "
+heading Log number = codes "[log] "
 
 -- a byte of a text without control characters
 abbrev pub is_shown : ℕ → Bool

@@ -150,12 +150,13 @@ listed_in lines document space = record {
   peers = map peer_in (tables document Peer);
   door = option_map door_in (table_there (codes "door") document);
   web = option_map web_in (table_there (codes "web") document);
+  events = truth_at (codes "events") (table_at (codes "log") document);
   space = space;
 }
 
 -- what the tables `archive` and `server` give, with what others list; 64 connections at a time, and
--- 256 MiB, where the tables don't say, no end once the store is broken, files of any rights, and no
--- turn that is told
+-- 256 MiB, where the tables don't say, no end once the store is broken, files of any rights, no
+-- turn that is told, and no limit of refused logins
 abbrev pub values_of : (archive server : Members) → Listed → SettingsValues
 values_of archive server listed = record {
   archive = unwrap_or (parsed (text_at (codes "id") archive)) [];
@@ -174,6 +175,8 @@ values_of archive server listed = record {
   ends_broken = pointwise nat_eq (text_at (codes "broken") archive) (codes "stop");
   is_strict = truth_at (codes "strict") server;
   slow = number_there (codes "slow") server;
+  logins = number_there (codes "logins") server;
+  events = listed.events;
 }
 
 -- the settings of a document with these nodes

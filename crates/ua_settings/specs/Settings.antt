@@ -8,7 +8,8 @@ use Rattle.ua_settings.specs.declared.settings.Parts.{Parts}
 -- its nodes; how many connections it serves at a time, and how many MiB may wait to be written;
 -- the peers that it calls, where peers come to it, if not to the address where clients do, and
 -- where browsers come to it, if they do; whether it ends once its store is broken, whether others
--- may have a hand in its files, and from how many milliseconds on a turn is told
+-- may have a hand in its files, and from how many milliseconds on a turn is told; behind how many
+-- refused logins from one address its next ones wait, and whether what happens is told
 abbrev pub SettingsValues : Type 0
 SettingsValues = Parts
 
@@ -32,6 +33,8 @@ bare = record {
   ends_broken = false;
   is_strict = false;
   slow = None;
+  logins = None;
+  events = false;
 }
 
 -- a text of settings has at most 65,536 bytes

@@ -27,6 +27,7 @@ pub record IsSoundServer (server : Members) : Type 0 where
   pub connections : IsUpTo 1000 (codes "connections") server
   pub waiting : IsUpTo 65536 (codes "waiting") server
   pub slow : IsUpTo 60000 (codes "slow") server
+  pub logins : IsUpTo 1000 (codes "logins") server
 
 pub record IsSoundUser (user : Members) : Type 0 where
   pub name : is_name (text_at (codes "name") user) ≡ true

@@ -29,7 +29,7 @@ const MOST_TEXT: usize = 65_536;
 const MOST_NAME: usize = 256;
 
 /// The kinds of tables, in the order in which a document is judged.
-const SECTIONS: [Section; 9] = [
+const SECTIONS: [Section; 10] = [
     Section::Document,
     Section::Archive,
     Section::Server,
@@ -39,6 +39,7 @@ const SECTIONS: [Section; 9] = [
     Section::Peer,
     Section::Door,
     Section::Web,
+    Section::Log,
 ];
 
 /// What may be wrong, in the order in which it is judged.

@@ -20,6 +20,7 @@ pub enum Section {
     Peer,
     Door,
     Web,
+    Log,
 }
 
 /// What a key must hold.
@@ -136,7 +137,7 @@ macro_rules! key {
     };
 }
 
-static DOCUMENT: [Key; 8] = [
+static DOCUMENT: [Key; 9] = [
     key!("archive", OneTable),
     key!("server", OneTable),
     key!("user", Tables, optional),
@@ -145,6 +146,7 @@ static DOCUMENT: [Key; 8] = [
     key!("peer", Tables, optional),
     key!("door", OneTable, optional),
     key!("web", OneTable, optional),
+    key!("log", OneTable, optional),
 ];
 
 static ARCHIVE: [Key; 4] = [
@@ -154,7 +156,7 @@ static ARCHIVE: [Key; 4] = [
     key!("broken", AfterBreak, optional),
 ];
 
-static SERVER: [Key; 10] = [
+static SERVER: [Key; 11] = [
     key!("listen", Text),
     key!("url", Text),
     key!("application", Text),
@@ -165,6 +167,7 @@ static SERVER: [Key; 10] = [
     key!("anonymous_access", Access, optional),
     key!("strict", Truth, optional),
     key!("slow", up to 60000, optional),
+    key!("logins", up to 1000, optional),
 ];
 
 static USER: [Key; 4] = [
@@ -198,6 +201,8 @@ static WEB: [Key; 2] = [
     key!("connections", up to 1000, optional),
 ];
 
+static LOG: [Key; 1] = [key!("events", Truth, optional)];
+
 /// The keys of a kind of table.
 pub(crate) fn keys_of(section: Section) -> &'static [Key]
     ensures { map rule_of result.now ≡ rules section }
@@ -212,5 +217,6 @@ pub(crate) fn keys_of(section: Section) -> &'static [Key]
         Section::Peer => &PEER,
         Section::Door => &DOOR,
         Section::Web => &WEB,
+        Section::Log => &LOG,
     }
 }

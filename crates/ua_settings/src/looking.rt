@@ -237,5 +237,6 @@ pub(crate) fn tables_of<'a>(
         Section::Peer => many(alloc, document, "peer"),
         Section::Door => one(alloc, document, "door"),
         Section::Web => one(alloc, document, "web"),
+        Section::Log => one(alloc, document, "log"),
     }
 }

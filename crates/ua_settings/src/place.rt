@@ -147,6 +147,7 @@ fn put_heading(section: Section, number: usize, text: &mut String) -> Result<(),
         Section::Peer => write!(text, "[[peer]] {number}, "),
         Section::Door => text.push_str("[door] "),
         Section::Web => text.push_str("[web] "),
+        Section::Log => text.push_str("[log] "),
     }
 }
 

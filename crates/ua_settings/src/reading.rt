@@ -10,7 +10,7 @@ ghost use Rattle.ua_space.specs.declared.plan.Plan.{Plan};
 ghost use Rattle.ua_space.specs.Lent.{entry_of, folder_of};
 ghost use Rattle.ua_settings.specs.File.{tables, text_at};
 ghost use Rattle.ua_settings.specs.Judging.{is_id, is_replica, test};
-ghost use Rattle.ua_settings.specs.Reading.{folder_in, variable_in, number_at, table_at, table_there, password_in, user_in, peer_in, door_in, web_in, texts_in, replicas_in, listed_in, values_of, IsAcceptedOrStarved, IsSpaceOrStarved, space_fault};
+ghost use Rattle.ua_settings.specs.Reading.{folder_in, variable_in, number_at, truth_at, table_at, table_there, password_in, user_in, peer_in, door_in, web_in, texts_in, replicas_in, listed_in, values_of, IsAcceptedOrStarved, IsSpaceOrStarved, space_fault};
 ghost use Rattle.ua_settings.specs.Sound.{IsSound, IsSoundArchive, IsSoundUser, IsSoundServer, IsSoundPeer, IsSoundDoor, IsSoundWeb};
 
 use crate::door::DoorSettings;
@@ -319,6 +319,16 @@ fn read_web(alloc: Global, document: &Table) -> Result<Option<WebSettings>, Allo
     }
 }
 
+/// Whether what happens is told.
+fn tells_events(document: &Table) -> bool
+    ensures { result ≡ truth_at (codes "events") (table_at (codes "log") (table_view document.now)) }
+{
+    match table_at(document, "log") {
+        None => false,
+        Some(log) => truth(log, "events"),
+    }
+}
+
 /// What the tables of a document list, beside those of the archive and the server.
 #[derive(Drop)]
 pub(crate) struct Listed {
@@ -326,6 +336,7 @@ pub(crate) struct Listed {
     pub(crate) peers: Peers,
     pub(crate) door: Option<DoorSettings>,
     pub(crate) web: Option<WebSettings>,
+    pub(crate) events: bool,
     pub(crate) space: Space,
 }
 
@@ -360,6 +371,8 @@ fn settings_of(
         ends_broken: text(archive, "broken") == "stop",
         is_strict: truth(server, "strict"),
         slow: number_there(server, "slow", 60_000),
+        logins: number_there(server, "logins", 1_000),
+        events: listed.events,
     }))
 }
 
@@ -392,6 +405,7 @@ fn list_of(
         peers: read_peers(alloc, peers.as_slice())?,
         door: read_door(alloc, document)?,
         web: read_web(alloc, document)?,
+        events: tells_events(document),
         space,
     })
 }

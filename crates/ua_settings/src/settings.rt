@@ -68,6 +68,11 @@ pub struct Parts {
     pub is_strict: bool,
     /// From how many milliseconds on a turn of a connection is told; none: none is.
     pub slow: Option<u32>,
+    /// Behind how many refused logins from one address within a minute its next ones are answered a second later each,
+    /// 1 to 1,000; none: behind any number they aren't.
+    pub logins: Option<u32>,
+    /// Whether what happens is told on standard error.
+    pub events: bool,
 }
 
 /// What a server is set to.
@@ -89,6 +94,8 @@ pub struct Settings {
     ends_broken: bool,
     is_strict: bool,
     slow: Option<u32>,
+    logins: Option<u32>,
+    events: bool,
 }
 
 impl Model for Settings {
@@ -114,6 +121,8 @@ impl Model for Settings {
           ends_broken = s.ends_broken;
           is_strict = s.is_strict;
           slow = s.slow;
+          logins = s.logins;
+          events = s.events;
         } };
 
     ghost invariant = { λ s. IsSettingsText s.url × IsSettingsText s.application };
@@ -159,6 +168,8 @@ impl Settings {
             ends_broken: false,
             is_strict: false,
             slow: None,
+            logins: None,
+            events: false,
         })
     }
 
@@ -213,6 +224,8 @@ impl Settings {
             ends_broken: parts.ends_broken,
             is_strict: parts.is_strict,
             slow: parts.slow,
+            logins: parts.logins,
+            events: parts.events,
         }
     }
 
@@ -310,6 +323,21 @@ impl Settings {
         ensures { result ≡ self.now.slow }
     {
         self.slow
+    }
+
+    /// Behind how many refused logins from one address within a minute its next ones are answered a second later each;
+    /// none: behind any number they aren't.
+    pub fn logins(&self) -> Option<u32>
+        ensures { result ≡ self.now.logins }
+    {
+        self.logins
+    }
+
+    /// Whether what happens is told on standard error.
+    pub fn tells_events(&self) -> bool
+        ensures { result ≡ self.now.events }
+    {
+        self.events
     }
 
     /// The peers that are called.

@@ -42,7 +42,7 @@ const HEAD: &str =
     "[archive]\nid = '00000000000000000000000000000000'\nreplica = 1\n[server]\nlisten = ''\nurl = ''\napplication = ''\n";
 
 /// What goes on behind the start, and why it is refused, if it is.
-static ROWS: [(&str, Option<SettingsFault>); 68] = [
+static ROWS: [(&str, Option<SettingsFault>); 82] = [
     ("namespace = ''\nanonymous = true", None),
     ("namespace = ''\nanonymous =", Some(SettingsFault::NotToml)),
     (
@@ -279,6 +279,53 @@ static ROWS: [(&str, Option<SettingsFault>); 68] = [
         "namespace = ''\nanonymous = true\n[web]\nconnections = 8",
         Some(SettingsFault::MissingKey),
     ),
+    ("namespace = ''\nanonymous = true\nlogins = 1", None),
+    ("namespace = ''\nanonymous = true\nlogins = 1000", None),
+    (
+        "namespace = ''\nanonymous = true\nlogins = 0",
+        Some(SettingsFault::BadValue),
+    ),
+    (
+        "namespace = ''\nanonymous = true\nlogins = 1001",
+        Some(SettingsFault::BadValue),
+    ),
+    (
+        "namespace = ''\nanonymous = true\nlogins = -1",
+        Some(SettingsFault::BadValue),
+    ),
+    (
+        "namespace = ''\nanonymous = true\nlogins = 5.0",
+        Some(SettingsFault::BadValue),
+    ),
+    (
+        "namespace = ''\nanonymous = true\nlogins = true",
+        Some(SettingsFault::BadValue),
+    ),
+    ("namespace = ''\nanonymous = true\n[log]", None),
+    (
+        "namespace = ''\nanonymous = true\n[log]\nevents = false",
+        None,
+    ),
+    (
+        "namespace = ''\nanonymous = true\n[log]\nevents = 1",
+        Some(SettingsFault::BadValue),
+    ),
+    (
+        "namespace = ''\nanonymous = true\n[log]\nevents = 'true'",
+        Some(SettingsFault::BadValue),
+    ),
+    (
+        "namespace = ''\nanonymous = true\n[[log]]\nevents = true",
+        Some(SettingsFault::BadValue),
+    ),
+    (
+        "namespace = ''\nanonymous = true\n[log]\nlogins = 5",
+        Some(SettingsFault::UnknownKey),
+    ),
+    (
+        "namespace = ''\nanonymous = true\nevents = true",
+        Some(SettingsFault::UnknownKey),
+    ),
     (
         "namespace = ''\nanonymous = true\n[[user]]\nname = 'ann'\npassword_file = 'ann'",
         Some(SettingsFault::BadValue),
@@ -458,6 +505,34 @@ fn webs_are_read(rt: HostRuntime) -> Result<(), Fail> {
     Ok(())
 }
 
+/// What goes on behind the start; behind how many refused logins the next ones wait, and whether what happens is told.
+static LOGS: [(&str, Option<u32>, bool); 6] = [
+    ("", None, false),
+    ("logins = 1\n", Some(1), false),
+    ("logins = 1000\n", Some(1_000), false),
+    ("[log]\n", None, false),
+    ("logins = 5\n[log]\nevents = true\n", Some(5), true),
+    ("strict = true\n[log]\nevents = false\n", None, false),
+];
+
+/// Both as a text says them; none where it is refused.
+fn logs_in(alloc: Global, text: &str) -> Option<(Option<u32>, bool)> {
+    match Settings::read(alloc, text) {
+        Ok(settings) => Some((settings.logins(), settings.tells_events())),
+        Err(_) => None,
+    }
+}
+
+#[test]
+fn logs_are_read(rt: HostRuntime) -> Result<(), Fail> {
+    for (rest, logins, events) in &LOGS {
+        let text = format!(in rt.alloc(); "{HEAD}namespace = ''\nanonymous = true\n{rest}")?;
+        let read = logs_in(rt.alloc(), text.as_str());
+        assert_eq!(rt; read, Some((*logins, *events)), "{rest}");
+    }
+    Ok(())
+}
+
 /// The door's text is kept as it is, whatever it spells.
 #[test]
 fn doors_are_read(rt: HostRuntime) -> Result<(), Fail> {
@@ -488,7 +563,7 @@ fn faults_have_numbers(rt: HostRuntime) {
 }
 
 /// What goes on behind the start, and the place where it is refused.
-static PLACES: [(&str, &str); 21] = [
+static PLACES: [(&str, &str); 23] = [
     ("namespace =", "line 8"),
     ("namespace = ''\nanonymous = 1", "[server] anonymous"),
     (
@@ -552,6 +627,14 @@ static PLACES: [(&str, &str); 21] = [
     (
         "namespace = ''\nanonymous = true\n[web]\nlisten = ''\nconnections = 0",
         "[web] connections",
+    ),
+    (
+        "namespace = ''\nanonymous = true\nlogins = 0",
+        "[server] logins",
+    ),
+    (
+        "namespace = ''\nanonymous = true\n[log]\nevents = 1",
+        "[log] events",
     ),
     (
         "namespace = ''\nanonymous = true\n[[user]]\nname = 'ann'\npassword_file = 'ann'",

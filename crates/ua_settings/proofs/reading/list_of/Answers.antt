@@ -32,9 +32,10 @@ returns-clause-ok c =
     c.as_slice.result.now) ∙ ap (map (user_in lines)) users in
     let called = sym (map_twice peer_in (λ table. table_view table.now) c.as_slice-2.result.now)
     ∙ ap (map peer_in) peers in
-    same_lists lines document c.args.space _ _ _ _
+    same_lists lines document c.args.space _ _ _ _ _
     (c.in_ok-read_users.ensures.ok ∙ users_same lines document (table_view c.args.server.now)
     c.truth-anonymous.result c.access-anonymous_access.result
     (map (λ user. user_in lines (table_view user.now)) c.as_slice.result.now) c.requires.same
     c.truth-anonymous.ensures c.access-anonymous_access.ensures named)
     (c.in_ok-read_peers.ensures.ok ∙ called) c.in_ok-read_door.ensures c.in_ok-read_web.ensures
+    c.tells_events.ensures
