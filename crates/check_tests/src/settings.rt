@@ -10,7 +10,7 @@ use ua_settings::Settings;
 const ARCHIVE: &str = "[archive]\nid = '12345678-9abc-def0-1234-56789abcdef0'\nreplica = 1\n";
 
 /// What goes on behind the start, and what is told of it, but for the first line.
-static ROWS: [(&str, &str); 6] = [
+static ROWS: [(&str, &str); 7] = [
     (
         "store = '/var/plant.db'\n[server]\nlisten = '0.0.0.0:4840'\nurl = 'opc.tcp://plant-a:4840'\n\
          application = ''\nnamespace = ''\nanonymous = false\n\
@@ -24,7 +24,8 @@ static ROWS: [(&str, &str); 6] = [
          0 variables, 0 folders\n\
          1 peer is called; the door listens at 10.1.0.1:4841\n\
          browsers come to 10.1.0.1:8080, 8 at a time\n\
-         warning: browsers send passwords unencrypted: have a proxy with TLS in front of [web]\n",
+         warning: browsers send passwords unencrypted: have a proxy with TLS in front of [web]\n\
+         warning: there is no [server] logins, so any number of passwords may be tried\n",
     ),
     (
         "[server]\nlisten = '0.0.0.0:4840'\nurl = 'opc.tcp://localhost:4840'\n\
@@ -64,7 +65,7 @@ static ROWS: [(&str, &str); 6] = [
     ),
     (
         "store = '/a'\n[server]\nlisten = '10.0.0.1:4840'\nurl = 'opc.tcp://a'\n\
-         application = ''\nnamespace = ''\nanonymous = false\n\
+         application = ''\nnamespace = ''\nanonymous = false\nlogins = 5\n\
          [[user]]\nname = 'ann'\npassword = 'pw'\n\
          [door]\nlisten = '10.0.0.1:4841'\n\
          [[peer]]\naddress = '10.0.0.2:4841'\nevery = 1\n\
@@ -76,6 +77,7 @@ static ROWS: [(&str, &str); 6] = [
          there are users with a name; without a name: not allowed\n\
          0 variables, 0 folders\n\
          4 peers are called; the door listens at 10.0.0.1:4841\n\
+         behind 5 refused logins from one address within a minute its next ones are answered a second later each\n\
          warning: two peers have the address 10.0.0.2:4841\n\
          warning: a peer has this server's own address 10.0.0.1:4840\n\
          warning: a peer has this server's own address 10.0.0.1:4841\n",
@@ -93,7 +95,23 @@ static ROWS: [(&str, &str); 6] = [
          listens at 127.0.0.1:4840; clients are told opc.tcp://localhost:4840\n\
          there are users with a name; without a name: not allowed\n\
          3 variables, 2 folders\n\
-         0 peers are called; peers come to the clients' address\n",
+         0 peers are called; peers come to the clients' address\n\
+         warning: there is no [server] logins, so any number of passwords may be tried\n",
+    ),
+    (
+        "store = 'a'\n[server]\nlisten = '127.0.0.1:4840'\nurl = 'opc.tcp://localhost:4840'\n\
+         application = ''\nnamespace = ''\nanonymous = false\nlogins = 1\n\
+         [[user]]\nname = 'ann'\npassword = 'pw'\n\
+         [web]\nlisten = '127.0.0.1:80'\n[log]\nevents = true\n",
+        "store a\n\
+         listens at 127.0.0.1:4840; clients are told opc.tcp://localhost:4840\n\
+         there are users with a name; without a name: not allowed\n\
+         0 variables, 0 folders\n\
+         0 peers are called; peers come to the clients' address\n\
+         browsers come to 127.0.0.1:80, 8 at a time\n\
+         what happens is told on standard error, a line each\n\
+         behind 1 refused login from one address within a minute its next ones are answered a second later each\n\
+         warning: the store's path is relative: from another folder it makes a new, empty archive\n",
     ),
 ];
 

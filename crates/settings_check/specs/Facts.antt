@@ -1,5 +1,5 @@
 -- What settings say, a fact a line.
-use Rattle.std.specs.Prelude.{ℕ, ◌==◌, nat_lt, List, [], ◌∷◌, ◌++◌, length, codes, Option, None, Some, if◌then◌else◌}
+use Rattle.std.specs.Prelude.{ℕ, Bool, ◌==◌, nat_lt, List, [], ◌∷◌, ◌++◌, length, codes, Option, None, Some, if◌then◌else◌}
 use Rattle.std.specs.Fmt.{decimal}
 use Rattle.uuid.specs.Text.{hyphenated_text, lower}
 use Rattle.ua_session.specs.Users.{Allowed}
@@ -89,6 +89,22 @@ plain_facts s =
     archive_line s ∷ store_line s ∷ listen_line s ∷ users_line s.users ∷ variables_line s.space
     ∷ peers_line s ∷ []
 
+-- that what happens is told, where it is
+abbrev pub events_facts : (events : Bool) → List (List ℕ)
+events_facts events =
+    if events then codes "what happens is told on standard error, a line each" ∷ [] else []
+
+-- behind how many refused logins from one address its next ones wait
+abbrev pub logins_line : (most : ℕ) → List ℕ
+logins_line most =
+    codes "behind " ++ counted_noun most (codes " refused login") (codes " refused logins")
+    ++ codes " from one address within a minute its next ones are answered a second later each"
+
+-- the same, where they wait
+abbrev pub logins_facts : (logins : Option ℕ) → List (List ℕ)
+logins_facts logins = elim logins [ None ↦ [] | Some most ↦ logins_line most ∷ [] ]
+
 -- what settings say
 abbrev pub settings_facts : SettingsValues → List (List ℕ)
-settings_facts s = plain_facts s ++ web_facts s.web
+settings_facts s =
+    plain_facts s ++ web_facts s.web ++ events_facts s.events ++ logins_facts s.logins

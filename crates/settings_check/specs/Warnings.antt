@@ -77,6 +77,12 @@ web_warning s =
     && option_map_or (λ web. not (is_local web.listen)) s.web false)
     (codes "browsers send passwords unencrypted: have a proxy with TLS in front of [web]")
 
+-- any number of passwords may be tried
+abbrev pub logins_warning : SettingsValues → List (List ℕ)
+logins_warning s =
+    warned (nat_lt 0 (length s.users.named) && is_none s.logins)
+    (codes "there is no [server] logins, so any number of passwords may be tried")
+
 -- the store's path is taken from the folder in which the program is started
 abbrev pub path_warning : SettingsValues → List (List ℕ)
 path_warning s =
@@ -108,5 +114,5 @@ own_warnings s peers = flat_map (own_warning s) peers
 abbrev pub warnings : SettingsValues → List (List ℕ)
 warnings s =
     scheme_warning s ++ local_warning s ++ nobody_warning s ++ anonymous_warning s
-    ++ door_warning s ++ web_warning s ++ path_warning s ++ repeated_warnings s.peers
-    ++ own_warnings s s.peers
+    ++ door_warning s ++ web_warning s ++ logins_warning s ++ path_warning s
+    ++ repeated_warnings s.peers ++ own_warnings s s.peers

@@ -4,7 +4,7 @@ ghost use Rattle.std.specs.Prelude.{◌≡◌, ◌++◌, length, IfOk, OnOk};
 ghost use Rattle.std.specs.Option.{option_copied};
 ghost use Rattle.settings_check.specs.Texts.{text_of};
 ghost use Rattle.settings_check.specs.Nodes.{variable_ids};
-ghost use Rattle.settings_check.specs.Facts.{archive_line, store_line, listen_line, users_line, named_words, anonymous_words, variables_line, called_words, door_words, peers_line, web_line, web_facts, plain_facts, settings_facts};
+ghost use Rattle.settings_check.specs.Facts.{archive_line, store_line, listen_line, users_line, named_words, anonymous_words, variables_line, called_words, door_words, peers_line, web_line, web_facts, plain_facts, events_facts, logins_line, logins_facts, settings_facts};
 
 use crate::nodes::{folders_of, variables_of};
 use crate::texts::{put_counted, put_number, put_shown};
@@ -185,6 +185,39 @@ fn put_plain(alloc: Global, out: &mut Vec<u8>, settings: &Settings) -> Result<()
     out.extend_from_slice(b"\n")
 }
 
+/// Appends that what happens is told, where it is.
+fn put_events(out: &mut Vec<u8>, events: bool) -> Result<(), AllocError>
+    ensures { OnOk result (out.new.items ≡ out.old.items ++ text_of (events_facts events)) }
+{
+    if events {
+        out.extend_from_slice(b"what happens is told on standard error, a line each")?;
+        out.push(b'\n')?;
+    }
+    Ok(())
+}
+
+/// Appends behind how many refused logins from one address its next ones wait.
+fn put_most_logins(out: &mut Vec<u8>, most: u32) -> Result<(), AllocError>
+    ensures { OnOk result (out.new.items ≡ out.old.items ++ logins_line most) }
+{
+    out.extend_from_slice(b"behind ")?;
+    put_counted(out, u64::from(most), b" refused login", b" refused logins")?;
+    out.extend_from_slice(
+        b" from one address within a minute its next ones are answered a second later each",
+    )
+}
+
+/// Appends the same, where they wait.
+fn put_logins(out: &mut Vec<u8>, logins: Option<u32>) -> Result<(), AllocError>
+    ensures { OnOk result (out.new.items ≡ out.old.items ++ text_of (logins_facts logins)) }
+{
+    let Some(most) = logins else {
+        return Ok(());
+    };
+    put_most_logins(out, most)?;
+    out.extend_from_slice(b"\n")
+}
+
 /// Appends what settings say.
 pub(crate) fn put_facts(
     alloc: Global,
@@ -194,5 +227,7 @@ pub(crate) fn put_facts(
     ensures { OnOk result (out.new.items ≡ out.old.items ++ text_of (settings_facts settings.now)) }
 {
     put_plain(alloc, out, settings)?;
-    put_web(out, settings.web())
+    put_web(out, settings.web())?;
+    put_events(out, settings.tells_events())?;
+    put_logins(out, settings.logins())
 }

@@ -13,7 +13,8 @@ use std::alloc::{AllocError, Global};
 use std::io::Write;
 use ua_settings::Settings;
 
-/// The lines that tell people what settings say, each with its end: five facts, and then a line
+/// The lines that tell people what settings say, each with its end: six facts, those of browsers, of
+/// what happens and of refused logins where they are set, and then a line
 /// `warning: ..` for each thing that is lawful and unwise. Bytes of the settings that control a
 /// terminal are shown as `?`. The one error is want of memory.
 ///

@@ -6,7 +6,7 @@ ghost use Rattle.std.specs.List.{list_any};
 ghost use Rattle.std.specs.Cmp.Lexicographic.{pointwise};
 ghost use Rattle.history_report.specs.Tables.{legible};
 ghost use Rattle.settings_check.specs.Texts.{text_of, begins_with};
-ghost use Rattle.settings_check.specs.Warnings.{warned, is_local, is_local_url, anonymous_writes, is_own, scheme_warning, local_warning, nobody_warning, anonymous_warning, door_warning, web_warning, path_warning, repeated_warning, repeated_warnings, own_warning, own_warnings, warnings};
+ghost use Rattle.settings_check.specs.Warnings.{warned, is_local, is_local_url, anonymous_writes, is_own, scheme_warning, local_warning, nobody_warning, anonymous_warning, door_warning, web_warning, logins_warning, path_warning, repeated_warning, repeated_warnings, own_warning, own_warnings, warnings};
 
 use crate::texts::{begins_with, put_shown};
 use std::alloc::AllocError;
@@ -167,6 +167,18 @@ fn put_web(out: &mut Vec<u8>, settings: &Settings) -> Result<(), AllocError>
     )
 }
 
+/// Appends a warning where any number of passwords may be tried.
+fn put_logins(out: &mut Vec<u8>, settings: &Settings) -> Result<(), AllocError>
+    ensures { OnOk result
+        (out.new.items ≡ out.old.items ++ text_of (logins_warning settings.now)) }
+{
+    put_warned(
+        out,
+        settings.users().has_named() && settings.logins().is_none(),
+        b"there is no [server] logins, so any number of passwords may be tried",
+    )
+}
+
 /// Whether a path is taken from the folder in which the program is started.
 fn is_relative(path: Option<&str>) -> bool
     ensures { result
@@ -261,6 +273,7 @@ pub(crate) fn put_warnings(out: &mut Vec<u8>, settings: &Settings) -> Result<(),
     put_anonymous(out, settings)?;
     put_door(out, settings)?;
     put_web(out, settings)?;
+    put_logins(out, settings)?;
     put_path(out, settings)?;
     put_repeated(out, settings.peers().as_slice())?;
     put_own(out, settings, settings.peers().as_slice())
