@@ -56,16 +56,21 @@ each-next-by {I} a b c k j view f xs i other x ys more y same before here within
 -- ---- a whole service
 
 -- it is refused as a whole
+pub acts-refused : (s : Store) (service : Content → Served) (status : Status)
+    → ((R : Content) (marks : List StepResult) → service R marks ≡ give (Err status, R) marks)
+    → (used : List StepResult) × Refines s s used service (Err status)
+acts-refused s service status refuses = (
+  [],
+  acts-as s s [] (λ R. give (Err status, R)) service (Err status) (λ R marks. sym (refuses R marks))
+      (acts-give s (Err status)),
+)
+
 pub comes-refused : (s : Store) (service : Content → Served) (status : Status)
     (result : Result Made Status) → ((R : Content) (marks : List StepResult)
     → service R marks ≡ give (Err status, R) marks) → result ≡ Err status → Comes s s service result
-comes-refused s service status result refuses is = (
-  [],
-  Err status,
-  acts-as s s [] (λ R. give (Err status, R)) service (Err status) (λ R marks. sym (refuses R marks))
-      (acts-give s (Err status)),
-  subst (ReportsAnswer (Err status)) (sym is) (inl refl),
-)
+comes-refused s service status result refuses is =
+    let acts = acts-refused s service status refuses in
+    (acts.0, Err status, acts.1, subst (ReportsAnswer (Err status)) (sym is) (inl refl))
 
 -- memory for the answers is wanting
 pub acts-wanting : {X Y : Type 0} (s : Store) (service : Content → Served)

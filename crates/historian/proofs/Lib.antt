@@ -1,4 +1,5 @@
 pub mod Profiles
+pub mod Answered
 pub mod Performing
 pub mod Values
 pub mod Items

@@ -9,7 +9,9 @@ use Rattle.ua_binary.specs.Format.{IsOrStarved}
 use Rattle.ua_session.specs.declared.fault.SessionFault.{SessionFault}
 use Rattle.ua_session.specs.declared.fault.SessionFault.TheVariants.{OutOfMemory}
 use Rattle.ua_session.specs.Fault.{session_fault_status}
-use Rattle.ua_session.specs.Sessions.{SessionsState, user_at}
+use Rattle.ua_session.specs.Sessions.{SessionsState, activate_answer, user_at, with_audit}
+use Rattle.ua_session.specs.Users.{Claim}
+use Rattle.ua_services.specs.Updates.{Details}
 use Rattle.records.specs.Contents.{Content}
 use Rattle.archive.specs.Store.{Store, StepResult, Done, NoMemory, faults_of}
 use Rattle.archive.proofs.Acting.{moves-none-by, moves-behind-quiet}
@@ -17,9 +19,11 @@ use Rattle.archive.specs.Steps.{Fallible, give, step, Yields, Refines}
 use Rattle.historian.specs.declared.service.Service.{Service}
 use Rattle.historian.specs.declared.answer.Answer.{Answer as Made}
 use Rattle.historian.specs.Answers.{Answer, Response}
-use Rattle.historian.specs.Requests.{Call, call_in}
-use Rattle.historian.specs.Services.{ServerConfig, MessageOutcome, called, in_session, served, answered_call, answered_request}
-use Rattle.historian.specs.Telling.{Asks, service_answer, ReportsAnswer, Comes, Performs, PerformsHere, Written, Responds}
+use Rattle.historian.specs.Requests.{Call, ActivateSession, HistoryUpdate, call_in}
+use Rattle.historian.specs.declared.service.Service.TheVariants as services
+use Rattle.historian.specs.Services.{ServerConfig, MessageOutcome, activated, called, in_session, noting_activation, served, update_for, updates_of, answered_call, answered_request}
+use Rattle.historian.specs.Auditing.{activation_event, noting, updates_audited}
+use Rattle.historian.specs.Telling.{Asks, service_answer, response_made, ReportsAnswer, Comes, ComesTo, Performs, PerformsHere, Written, Responds}
 
 -- a call that was read is served
 pub does-read : (config : ServerConfig) (now : Ticks) (token : NodeId) (o : Option Call)
@@ -231,6 +235,26 @@ performs-done {A} config now token sessions new service call bytes done answer a
     (called sessions done answer) Done (Ok (done a).0) (Ok made) is same refl
     (called-done sessions done answer a given) (ap Ok tells))
 
+-- an activation was answered, which is kept for a log
+pub performs-activation : (config : ServerConfig) (now : Ticks) (token : NodeId)
+    (sessions new left : SessionsState) (bytes : List ℕ) (claim : Claim) (mark : StepResult)
+    (told : Response) (result : Result Made Status)
+    → call_in services.ActivateSession bytes ≡ Some (ActivateSession claim)
+    → faults_of (mark ∷ []) ≡ []
+    → called sessions (activated token sessions)
+    (activate_answer sessions token config.settings.users claim) mark ≡ (told, left)
+    → new ≡ with_audit (activation_event claim told) left → ReportsAnswer told result
+    → PerformsHere (answered_call config now token (call_in services.ActivateSession bytes) sessions)
+    new result
+performs-activation config now token sessions new left bytes claim mark told result is faultless
+    answers kept tells =
+    let answer = activate_answer sessions token config.settings.users claim in
+    performs-called config now token sessions new services.ActivateSession (ActivateSession claim)
+    bytes (λ mark. noting_activation claim (called sessions (activated token sessions) answer mark))
+    mark told result is (λ R marks. refl) faultless
+    (ap (noting_activation claim) answers
+    ∙ ap (λ (s : SessionsState). let r : Response × SessionsState = (told, s) in r) (sym kept)) tells
+
 -- ---- the archive isn't asked
 
 pub performs-here : (s : Store) (service : Content → Fallible MessageOutcome)
@@ -371,6 +395,70 @@ performs-comes a b config now token sessions asked call bytes user f result is s
     (used, told, acts, tells) =
     performs-over a b config now token sessions asked call bytes user f used told result is same
     in_use acts tells
+
+-- ---- updates, which are kept for a log
+
+-- what was made is told
+reports-made : (result : Result Made Status) → ReportsAnswer (response_made result) result
+reports-made (Ok made) = refl
+reports-made (Err status) = inl refl
+
+-- nobody activated the session
+pub performs-unknown : (config : ServerConfig) (now : Ticks) (token : NodeId)
+    (sessions : SessionsState) (details : List Details) (bytes : List ℕ) (fault : SessionFault)
+    (status : Status) (result : Result Made Status)
+    → call_in services.HistoryUpdate bytes ≡ Some (HistoryUpdate details)
+    → user_at sessions token ≡ Err fault → status ≡ session_fault_status fault
+    → result ≡ Err status
+    → PerformsHere (answered_call config now token (call_in services.HistoryUpdate bytes) sessions)
+    sessions result
+performs-unknown config now token sessions details bytes fault status result is unknown code err =
+    let Q : Result Made Status → Type 0 = λ x.
+    PerformsHere (answered_call config now token (call_in services.HistoryUpdate bytes) sessions)
+    sessions x in
+    subst Q (sym err)
+    (performs-given config now token sessions sessions services.HistoryUpdate
+    (HistoryUpdate details) bytes (Err (session_fault_status fault), sessions)
+    (Err (session_fault_status fault)) (Err status) is
+    (λ R marks. ap (λ (u : Result (List ℕ) SessionFault).
+    updates_of config now details sessions u R marks) unknown) refl (inl (ap Err (sym code))))
+
+-- somebody did
+pub performs-updates : (a b : Store) (config : ServerConfig) (now : Ticks) (token : NodeId)
+    (sessions new : SessionsState) (details : List Details) (bytes user : List ℕ)
+    (result : Result Made Status)
+    → call_in services.HistoryUpdate bytes ≡ Some (HistoryUpdate details)
+    → user_at sessions token ≡ Ok user
+    → ComesTo a b (λ R. update_for config now details R user) result
+    → new ≡ noting (updates_audited config.settings.events config.settings.space user details
+    (response_made result)) sessions
+    → Performs a b (answered_call config now token (call_in services.HistoryUpdate bytes) sessions)
+    new result
+performs-updates a b config now token sessions new details bytes user result is known (used, acts)
+    kept =
+    let told = response_made result in
+    let left : Response → SessionsState = λ answer.
+    noting (updates_audited config.settings.events config.settings.space user details answer)
+    sessions in (
+      Done ∷ used,
+      told,
+      moves-behind-quiet a b (Done ∷ []) used
+          (λ marks R S. Yields (update_for config now details R user) marks (told, S))
+          (λ marks R S. Yields (answered_call config now token
+          (call_in services.HistoryUpdate bytes) sessions R) marks ((told, new), S)) refl
+          (λ ms R S d. does-read config now token (call_in services.HistoryUpdate bytes)
+          (HistoryUpdate details) sessions R ms ((told, new), S) is (record {
+            does = λ later.
+                ap (λ (u : Result (List ℕ) SessionFault).
+                updates_of config now details sessions u R (ms ++ later)) known
+                ∙ ap (λ (x : (Response × Content) × List StepResult). let r :
+                MessageOutcome × List StepResult = (((x.0.0, left x.0.0), x.0.1), x.1) in r)
+                (d.does later)
+                ∙ ap (λ (s : SessionsState). let r : MessageOutcome × List StepResult =
+                (((told, s), S), later) in r) (sym kept);
+          })) acts,
+      reports-made result,
+    )
 
 -- ---- written responses
 

@@ -32,7 +32,7 @@ use Rattle.hist_update.specs.Codes.{list_refusal}
 use Rattle.historian.specs.Answers.{Answer, Response, Values, Histories, Updated as AllUpdated}
 use Rattle.historian.specs.Reading.{Served, unless_refused, answer_items, read_item, read, history_rules, read_released, read_history_of, query_of, read_history}
 use Rattle.historian.specs.Requests.{Call, GetEndpoints, CreateSession, ActivateSession, CloseSession, Browse, Read, HistoryRead, HistoryUpdate}
-use Rattle.historian.specs.Services.{ServerConfig, served, in_session, OnlyReads}
+use Rattle.historian.specs.Services.{ServerConfig, served, in_session, updates_of, OnlyReads}
 use Rattle.historian.specs.Updating.{type_asked, node_asked, asked_for, update_item, update_history}
 use Rattle.historian.specs.UserSpaces.{UserSpace, space_for}
 use Rattle.historian.proofs.ReadingParts.{read_by, history_by, histories_by}
@@ -184,6 +184,15 @@ reading_user : (found : Result (List ℕ) SessionFault) (P Q : List ℕ → Type
 reading_user (Err fault) P Q to is = tt
 reading_user (Ok user) P Q to is = to user is
 
+-- updates for a user who may only read, if somebody activated the session
+updates-unheld : (config : ServerConfig) (now : Ticks) (details : List Details)
+    (sessions : SessionsState) (R : Content) (found : Result (List ℕ) SessionFault)
+    → IfOk found (λ user. access_of config.settings.users user ≡ may.Read)
+    → (marks : List StepResult) → (updates_of config now details sessions found R marks).0.1 ≡ R
+updates-unheld config now details sessions R (Err fault) reads marks = refl
+updates-unheld config now details sessions R (Ok user) reads marks =
+    updates-leave config.own (space_for config.settings user) user now details reads R marks
+
 pub service-leaves : (config : ServerConfig) (now : Ticks) (token : NodeId) (call : Call)
     (sessions : SessionsState) (R : Content) (marks : List StepResult)
     → OnlyReads config.settings sessions token
@@ -208,11 +217,6 @@ service-leaves config now token (HistoryRead asked) sessions R marks reads =
     (any_user (user_at sessions token) _
     (λ user. histories-leave config.id config.settings.space asked R)) marks
 service-leaves config now token (HistoryUpdate details) sessions R marks reads =
-    session-leaves sessions (user_at sessions token)
-    (λ user. update_history config.own (space_for config.settings user) user now details R) R
-    (reading_user (user_at sessions token)
-    (λ user. access_of config.settings.users user ≡ may.Read) _
-    (λ user only. updates-leave config.own (space_for config.settings user) user now details only R)
-    reads) marks
+    updates-unheld config now details sessions R (user_at sessions token) reads marks
 
 pub ruleset leaving = (service-leaves)

@@ -5,5 +5,6 @@ pub mod Browsing
 pub mod UserSpaces
 pub mod Reading
 pub mod Updating
+pub mod Auditing
 pub mod Services
 pub mod Telling

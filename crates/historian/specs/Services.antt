@@ -10,7 +10,7 @@ use Rattle.ua_session.specs.declared.fault.SessionFault.{SessionFault}
 use Rattle.ua_session.specs.Fault.{session_fault_status}
 use Rattle.ua_session.specs.declared.identity.Access.TheVariants as may
 use Rattle.ua_session.specs.Users.{Claim, access_of}
-use Rattle.ua_session.specs.Sessions.{SessionsState, create_answer, activate_answer, close_answer, user_at, with_new, with_user, without_session}
+use Rattle.ua_session.specs.Sessions.{SessionsState, with_audit, create_answer, activate_answer, close_answer, user_at, with_new, with_user, without_session}
 use Rattle.ua_services.specs.Attributes.{ReadAsked}
 use Rattle.ua_services.specs.Browsing.{BrowseFields}
 use Rattle.ua_services.specs.History.{HistoryAsked}
@@ -26,6 +26,7 @@ use Rattle.historian.specs.Browsing.{browse}
 use Rattle.historian.specs.Reading.{Served, read, read_history}
 use Rattle.historian.specs.Updating.{update_history}
 use Rattle.historian.specs.UserSpaces.{space_for}
+use Rattle.historian.specs.Auditing.{activation_event, updates_audited, noting}
 
 -- a server: its settings, and the number and the id of its replica of the archive
 pub record ServerConfig : Type 0 where
@@ -94,12 +95,18 @@ create_for config timeout sessions R =
     step
     (λ mark. (called sessions (created config timeout sessions) (create_answer sessions) mark, R))
 
+-- what an activation by this claim came to, which is kept for a log
+abbrev pub noting_activation : Claim → Response × SessionsState → Response × SessionsState
+noting_activation claim (response, sessions) =
+    (response, with_audit (activation_event claim response) sessions)
+
 -- a session is activated as whom this identity is allowed, which takes memory
 abbrev pub activate_for : ServerConfig → NodeId → Claim → SessionsState → Content
     → Fallible MessageOutcome
 activate_for config token claim sessions R =
     let answer = activate_answer sessions token config.settings.users claim in
-    step (λ mark. (called sessions (activated token sessions) answer mark, R))
+    step
+    (λ mark. (noting_activation claim (called sessions (activated token sessions) answer mark), R))
 
 -- a session is closed
 abbrev pub close_for : NodeId → SessionsState → Content → Fallible MessageOutcome
@@ -128,6 +135,29 @@ abbrev pub update_for : ServerConfig → Ticks → List Details → Content → 
 update_for config now details R user =
     update_history config.own (space_for config.settings user) user now details R
 
+-- HistoryUpdates of this user, in one of these sessions; what they came to is kept for a log, where
+-- the settings say so
+abbrev pub updated_by : ServerConfig → Ticks → List Details → SessionsState → Content
+    → (user : List ℕ) → Fallible MessageOutcome
+updated_by config now details sessions R user =
+    let s = config.settings in
+    and_then (update_for config now details R user)
+    (λ (response, S).
+    give ((response, noting (updates_audited s.events s.space user details response) sessions), S))
+
+-- HistoryUpdates for whoever activated the session, if somebody did
+abbrev pub updates_of : ServerConfig → Ticks → List Details → SessionsState
+    → Result (List ℕ) SessionFault → Content → Fallible MessageOutcome
+updates_of config now details sessions (Err fault) R =
+    give ((Err (session_fault_status fault), sessions), R)
+updates_of config now details sessions (Ok user) R = updated_by config now details sessions R user
+
+-- the same for the session of this token
+abbrev pub updates_for : ServerConfig → Ticks → NodeId → List Details → SessionsState → Content
+    → Fallible MessageOutcome
+updates_for config now token details sessions =
+    updates_of config now details sessions (user_at sessions token)
+
 -- What a service answers, and what it leaves: a session more, a session's user, a session less,
 -- which takes no memory; the last four want a session that was activated.
 abbrev pub served : ServerConfig → Ticks → NodeId → Call → SessionsState → Content
@@ -139,7 +169,7 @@ served config now token CloseSession = close_for token
 served config now token (Browse nodes) = for_user token (browse_for config nodes)
 served config now token (Read asked) = for_user token (read_for config now asked)
 served config now token (HistoryRead asked) = for_user token (history_for config asked)
-served config now token (HistoryUpdate details) = for_user token (update_for config now details)
+served config now token (HistoryUpdate details) = updates_for config now token details
 
 -- who activated the session of this token, if somebody did, may only read
 abbrev pub OnlyReads : SettingsValues → SessionsState → NodeId → Type 0

@@ -77,6 +77,16 @@ Comes old new service result =
     (used : List StepResult) × (told : Response) × Refines old new used service told
     × ReportsAnswer told result
 
+-- what is told by an answer of the code, or by the code that refuses
+abbrev pub response_made : Result Made Status → Response
+response_made (Ok answer) = Ok (service_answer answer)
+response_made (Err status) = Err status
+
+-- what a service of an archive comes to over what is held is this, also where memory was wanting
+abbrev pub ComesTo : Store → Store → (Content → Served) → Result Made Status → Type 0
+ComesTo old new service result =
+    (used : List StepResult) × Refines old new used service (response_made result)
+
 -- a service was performed over an archive, and what it came to is told
 abbrev pub Performs : Store → Store → (Content → Fallible MessageOutcome) → SessionsState
     → Result Made Status → Type 0

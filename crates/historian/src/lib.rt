@@ -3,6 +3,7 @@
 #![tactic(auto)]
 
 mod answer;
+mod auditing;
 mod browsing;
 mod endpoints;
 mod histories;

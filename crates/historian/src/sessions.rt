@@ -8,6 +8,7 @@ ghost use Rattle.historian.specs.Services.{ServerConfig, answered_call};
 ghost use Rattle.historian.specs.Telling.{IsEncodable, PerformsHere};
 
 use crate::answer::Answer;
+use crate::auditing::activation_event;
 use crate::endpoints::{all_endpoints, takes_transport};
 use crate::requests::{activation_request, closing_request, creation_request, endpoints_request};
 use std::alloc::Global;
@@ -69,7 +70,7 @@ pub(crate) fn create_session(
 
 /// ActivateSession (Part 4, 5.7.3): the session of this token has the user whom the identity is allowed as.
 /// `BAD_SESSION_ID_INVALID`, `BAD_IDENTITY_TOKEN_INVALID` and `BAD_IDENTITY_TOKEN_REJECTED` as `Sessions::activate` has
-/// them.
+/// them. Who asked, and what was answered, is kept in the sessions for a log.
 pub(crate) fn activate_session(
     settings: &Settings,
     sessions: &mut Sessions,
@@ -84,8 +85,15 @@ pub(crate) fn activate_session(
 {
     let asked = activation_request(request)?;
     match sessions.activate(token, asked.user_identity, settings.users()) {
-        Ok(_) => Ok(Answer::Activated),
-        Err(fault) => Err(fault.code()),
+        Ok(_) => {
+            sessions.note(activation_event(asked.user_identity, None));
+            Ok(Answer::Activated)
+        }
+        Err(fault) => {
+            let status = fault.code();
+            sessions.note(activation_event(asked.user_identity, Some(status)));
+            Err(status)
+        }
     }
 }
 

@@ -1,6 +1,6 @@
 //! HistoryUpdate (Part 4, 5.11.5).
 
-ghost use Rattle.std.specs.Prelude.{◌≡◌, ◌≤◌, ◌∷◌, [], List, map, length, All, IfOk, Some, option_map, vec_capacity};
+ghost use Rattle.std.specs.Prelude.{◌≡◌, ◌≤◌, ◌∷◌, [], List, map, length, All, IfOk, OnErr, Some, option_map, vec_capacity};
 ghost use Rattle.std.specs.List.{AllByRecursion};
 ghost use Rattle.ua_binary.specs.Binary.{node_of};
 ghost use Rattle.ua_session.specs.Users.{IsUserName};
@@ -14,10 +14,12 @@ ghost use Rattle.historian.specs.declared.service.Service.TheVariants as service
 ghost use Rattle.historian.specs.Updating.{node_asked, type_granted, update_of, asked_for, update_item, update_history};
 ghost use Rattle.historian.specs.Requests.{call_in};
 ghost use Rattle.historian.specs.Services.{site_of, answered_call};
-ghost use Rattle.historian.specs.Telling.{IsEncodable, Comes, Performs};
+ghost use Rattle.historian.specs.Auditing.{updates_audited};
+ghost use Rattle.historian.specs.Telling.{IsEncodable, ComesTo, Performs, response_made};
 ghost use Rattle.historian.specs.UserSpaces.{space_for, user_space_of};
 
 use crate::answer::Answer;
+use crate::auditing::{audits_of, note, update_event};
 use crate::browsing::list_refusal;
 use crate::requests::history_update_request;
 use crate::server::Server;
@@ -28,7 +30,7 @@ use hist_update::{Request, delete_at, delete_raw, update_data};
 use std::alloc::{AllocError, Global};
 use ua_binary::{Listing, NodeIdRef, Status, Text, Ticks};
 use ua_services::{HistoryUpdateDetails, HistoryUpdateResult};
-use ua_session::{Access, Sessions};
+use ua_session::{Access, AuditEvent, Sessions};
 use ua_settings::Settings;
 use ua_variant::ValueType;
 
@@ -47,7 +49,7 @@ fn refused(alloc: Global, status: Status) -> HistoryUpdateResult
 }
 
 /// The node of which details ask an update; none for details of another type.
-fn node_asked<'a>(details: &HistoryUpdateDetails<'a>) -> Option<NodeIdRef<'a>>
+pub(crate) fn node_asked<'a>(details: &HistoryUpdateDetails<'a>) -> Option<NodeIdRef<'a>>
     ensures { option_map node_of result ≡ node_asked (details_of details.now) }
 {
     match details {
@@ -248,7 +250,7 @@ fn update_all<A: Archive>(
 ) -> Result<Answer, Status>
     requires user { IsUserName user.now }
     requires values { AllByRecursion HasShortValues (map details_of details.now) }
-    ensures comes { Comes (A.state server.old.replica.archive)
+    ensures comes { ComesTo (A.state server.old.replica.archive)
         (A.state server.new.replica.archive)
         (update_history (A.state server.old.replica.archive).own
         (space_for server.old.settings user.now) user.now now (map details_of details.now))
@@ -278,14 +280,56 @@ fn update_all<A: Archive>(
     Ok(Answer::Updated(results))
 }
 
+/// What updates were answered, and what a log is told of them.
+#[derive(Drop)]
+struct Audited {
+    answer: Result<Answer, Status>,
+    event: Option<AuditEvent>,
+}
+
+/// Performs the details, and says what each came to, where the settings ask for it. The one error is want of memory for that,
+/// before the first one is done.
+fn update_audited<A: Archive>(
+    server: &mut Server<A>,
+    user: &str,
+    now: Ticks,
+    details: &[HistoryUpdateDetails<'_>],
+) -> Result<Audited, AllocError>
+    requires user { IsUserName user.now }
+    requires values { AllByRecursion HasShortValues (map details_of details.now) }
+    ensures comes { IfOk result (λ done. ComesTo (A.state server.old.replica.archive)
+        (A.state server.new.replica.archive)
+        (update_history (A.state server.old.replica.archive).own
+        (space_for server.old.settings user.now) user.now now (map details_of details.now))
+        done.answer) }
+    ensures event { IfOk result (λ done. done.event ≡ updates_audited server.old.settings.events
+        server.old.settings.space user.now (map details_of details.now)
+        (response_made done.answer)) }
+    ensures starved { OnErr result (server.new ≡ server.old) }
+    ensures settings { server.new.settings ≡ server.old.settings }
+    ensures short { IfOk result (λ done. IfOk done.answer IsEncodable) }
+{
+    if !server.settings.tells_events() {
+        return Ok(Audited {
+            answer: update_all(server, user, now, details),
+            event: None,
+        });
+    }
+    let audits = audits_of(server.alloc, server.settings.space(), details)?;
+    let answer = update_all(server, user, now, details);
+    let event = update_event(user, audits, &answer);
+    Ok(Audited { answer, event })
+}
+
 /// HistoryUpdate (Part 4, 5.11.5), in a session that was activated, whose user is the one that the records name: 1 to 100
 /// details, in order. `BAD_NOTHING_TO_DO` for none, `BAD_TOO_MANY_OPERATIONS` for more. Each of the details has a status of
 /// its own: `BAD_HISTORY_OPERATION_UNSUPPORTED` for another type of details, `BAD_NODE_ID_UNKNOWN`,
 /// `BAD_HISTORY_OPERATION_UNSUPPORTED` where the node isn't archived, `BAD_USER_ACCESS_DENIED` for a user who may only read,
-/// `BAD_OUT_OF_MEMORY`, and then those of `update_data`, `delete_raw` and `delete_at`.
+/// `BAD_OUT_OF_MEMORY`, and then those of `update_data`, `delete_raw` and `delete_at`. Where the settings ask for it, what each
+/// of them came to is kept in the sessions for a log; memory for that is had before the first one is done.
 pub(crate) fn update_history<A: Archive>(
     server: &mut Server<A>,
-    sessions: &Sessions,
+    sessions: &mut Sessions,
     now: Ticks,
     request: ServiceRequest<'_>,
 ) -> Result<Answer, Status>
@@ -293,11 +337,15 @@ pub(crate) fn update_history<A: Archive>(
         (A.state server.new.replica.archive)
         (answered_call (site_of server.old.settings (A.state server.old.replica.archive)) now
         (node_of request.entry.token) (call_in service.HistoryUpdate request.entry.body)
-        sessions.now) sessions.now result }
+        sessions.old) sessions.new result }
     ensures settings { server.new.settings ≡ server.old.settings }
     ensures short { IfOk result IsEncodable }
 {
     let asked = history_update_request(server.alloc, request.body)?;
     let user = sessions.user_of(request.token)?;
-    update_all(server, user, now, &asked.details)
+    let Ok(done) = update_audited(server, user, now, &asked.details) else {
+        return Err(Status::BAD_OUT_OF_MEMORY);
+    };
+    note(sessions, done.event);
+    done.answer
 }

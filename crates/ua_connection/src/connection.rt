@@ -1,6 +1,7 @@
 //! A connection, one item after the other.
 
 ghost use Rattle.std.specs.Prelude.{◌≡◌, ◌≤◌, ◌++◌, Ok, OnOk, OnErr};
+ghost use Rattle.std.specs.Option.{option_copied};
 ghost use Rattle.ua_session.specs.Sessions.{has_user};
 ghost use Rattle.ua_connection.specs.Environments.{Environment};
 ghost use Rattle.ua_connection.specs.declared.turn.Step.TheVariants.{NeedsInput};
@@ -14,6 +15,7 @@ use counted_io::ServeFault;
 use historian::Server;
 use std::alloc::Global;
 use std::marker::Model;
+use ua_session::AuditEvent;
 use uacp::{Intake, UacpFault};
 
 /// The chunks that one connection may have.
@@ -111,6 +113,20 @@ impl Connection {
         ensures { result ≡ has_user self.now.client.sessions }
     {
         self.client.sessions.has_user()
+    }
+
+    /// How many audit events its sessions had.
+    pub fn audits(&self) -> u64
+        ensures { result ≡ self.now.client.sessions.audits }
+    {
+        self.client.sessions.audits()
+    }
+
+    /// The last audit event of its sessions, if they had one.
+    pub fn last_audit(&self) -> Option<&AuditEvent>
+        ensures { option_copied result ≡ self.now.client.sessions.last_audit }
+    {
+        self.client.sessions.last_audit()
     }
 
     /// Answers the chunk that stands first in the bytes that wait, if it is whole, or the fault that stands in its place: the

@@ -6,13 +6,12 @@ use Rattle.ua_services.specs.Updates.{details_of}
 use Rattle.ua_session.specs.Users.{access_of}
 use Rattle.archive.specs.Store.{StepResult}
 use Rattle.archive.specs.Steps.{Refines, each}
-use Rattle.historian.specs.declared.answer.Answer.TheVariants as made
 use Rattle.historian.specs.Answers.{Updated as AllUpdated}
 use Rattle.hist_update.specs.Codes.{list_refusal}
 use Rattle.historian.specs.Reading.{unless_refused, answer_items}
 use Rattle.historian.specs.UserSpaces.{UserSpace, space_for}
 use Rattle.historian.specs.Updating.{update_item, update_history}
-use Rattle.historian.proofs.Items.{comes-refused, comes-starved, comes-items}
+use Rattle.historian.proofs.Items.{acts-refused, acts-wanting, acts-items}
 use Rattle.historian.proofs.updating.update_all.Goals as goal
 
 pub returns-in-Some-clause-comes : goal.returns-in-Some-clause-comes
@@ -24,11 +23,10 @@ returns-in-Some-clause-comes g c =
     let refused : list_refusal 100 (length details) ≡ Some c.in-Some.status =
     ap (list_refusal 100) (length-map c.args.details.now details_of)
     ∙ sym c.list_refusal.ensures ∙ c.in-Some.is in
-    comes-refused s (update_history s.own space user c.args.now details) c.in-Some.status
-    (Err c.in-Some.status) (λ R marks.
-    ap (λ (o : Option Status).
+    acts-refused s (update_history s.own space user c.args.now details) c.in-Some.status
+    (λ R marks. ap (λ (o : Option Status).
     unless_refused o R (answer_items AllUpdated
-    (update_item s.own space user c.args.now) details R) marks) refused) refl
+    (update_item s.own space user c.args.now) details R) marks) refused)
 
 pub returns-in_default-with_capacity-clause-comes :
     goal.returns-in_default-with_capacity-clause-comes
@@ -40,7 +38,7 @@ returns-in_default-with_capacity-clause-comes g c =
     let taken : list_refusal 100 (length details) ≡ None =
     ap (list_refusal 100) (length-map c.args.details.now details_of)
     ∙ sym c.list_refusal.ensures ∙ c.in_default.is in
-    comes-starved s (update_history s.own space user c.args.now details) AllUpdated
+    acts-wanting s (update_history s.own space user c.args.now details) AllUpdated
     (update_item s.own space user c.args.now) details
     (λ R marks. ap (λ (o : Option Status).
     unless_refused o R (answer_items AllUpdated
@@ -64,10 +62,9 @@ returns-clause-comes g c =
     (used : List StepResult)
     × Refines a b used (each (update_item a.own space user c.args.now) details)
     c.update_items.new.results.items in
-    comes-items a b (update_history a.own space user c.args.now details) AllUpdated
+    acts-items a b (update_history a.own space user c.args.now details) AllUpdated
     (update_item a.own space user c.args.now) details c.update_items.new.results.items
-    (made.Updated c.update_items.new.results)
     (λ R marks. ap (λ (o : Option Status).
     unless_refused o R (answer_items AllUpdated
     (update_item a.own space user c.args.now) details R) marks) taken)
-    (subst P same c.update_items.ensures.acts) refl
+    (subst P same c.update_items.ensures.acts)

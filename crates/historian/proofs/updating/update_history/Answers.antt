@@ -1,4 +1,4 @@
-use Rattle.std.proofs.Common.{◌∙◌, List, map, Err, refl, sym, ap, subst}
+use Rattle.std.proofs.Common.{◌≡◌, ◌∙◌, List, map, Err, refl, sym, ap, subst}
 use Rattle.std.proofs.lemmas.Result.{err_from_is_err_and}
 use Rattle.ua_binary.specs.Binary.{node_of}
 use Rattle.ua_services.specs.declared.updates.HistoryUpdateRequest.{HistoryUpdateRequest}
@@ -9,8 +9,10 @@ use Rattle.historian.specs.UserSpaces.{space_for}
 use Rattle.historian.specs.Updating.{update_history}
 use Rattle.historian.specs.Requests.{HistoryUpdate, call_in}
 use Rattle.historian.specs.Services.{site_of, answered_call}
-use Rattle.historian.specs.Telling.{Comes}
-use Rattle.historian.proofs.Performing.{performs-unread, performs-outside, performs-here, performs-comes}
+use Rattle.historian.specs.Auditing.{noting, updates_audited}
+use Rattle.historian.specs.Telling.{ComesTo, Performs, response_made}
+use Rattle.ua_binary.specs.declared.codes.TheConstants.Status.{BAD_OUT_OF_MEMORY}
+use Rattle.historian.proofs.Performing.{performs-unread, performs-unknown, performs-starved, performs-updates, performs-here}
 use Rattle.historian.proofs.updating.update_history.Goals as goal
 
 pub returns-in_err-asked-clause-performs : goal.returns-in_err-asked-clause-performs
@@ -40,26 +42,41 @@ returns-in_err-user-clause-performs g c =
     performs-here s (answered_call config c.args.now token
     (call_in service.HistoryUpdate c.args.request.body) sessions) sessions
     c.from_residual-in_err-user.result
-    (performs-outside config c.args.now token sessions service.HistoryUpdate
-    (HistoryUpdate asked) c.args.request.body (λ R user.
-    update_history config.own (space_for config.settings user) user c.args.now asked R) c.in_err-user.field-0.0
-    p.0 c.from_residual-in_err-user.result
-    c.in_ok-asked.ensures.asks (λ R marks. refl) (sym c.in_err-user.ensures.value) p.2 p.1)
+    (performs-unknown config c.args.now token sessions asked c.args.request.body
+    c.in_err-user.field-0.0 p.0 c.from_residual-in_err-user.result
+    c.in_ok-asked.ensures.asks (sym c.in_err-user.ensures.value) p.2 p.1)
+
+pub returns-in_default-clause-performs : goal.returns-in_default-clause-performs
+returns-in_default-clause-performs g c =
+    let s = g.A.Archive.state c.args.server.now.replica.archive in
+    let config = site_of c.args.server.now.settings s in
+    let token = node_of c.args.request.token in
+    let sessions = c.args.sessions.now in
+    let answers = answered_call config c.args.now token
+    (call_in service.HistoryUpdate c.args.request.body) sessions in
+    subst (λ server.
+    Performs s (g.A.Archive.state server.replica.archive) answers sessions (Err BAD_OUT_OF_MEMORY))
+    (sym c.in_default.ensures.starved)
+    (performs-here s answers sessions (Err BAD_OUT_OF_MEMORY)
+    (performs-starved config c.args.now token sessions service.HistoryUpdate c.args.request.body
+    BAD_OUT_OF_MEMORY (Err BAD_OUT_OF_MEMORY) refl refl))
 
 pub returns-clause-performs : goal.returns-clause-performs
 returns-clause-performs g c =
     let a = g.A.Archive.state c.args.server.now.replica.archive in
-    let b = g.A.Archive.state c.update_all.new.server.replica.archive in
+    let b = g.A.Archive.state c.update_audited.new.server.replica.archive in
     let config = site_of c.args.server.now.settings a in
-    let asked = map details_of c.in_ok-asked.asked.details.items in
+    let settings = config.settings in
+    let sessions = c.args.sessions.now in
     let user = c.in_ok-user.user.now in
-    let Q : List HistoryUpdateDetails → Type 0 =
-    λ details. Comes a b (update_history a.own (space_for config.settings user) user c.args.now
-    (map details_of details)) c.update_all.result in
-    performs-comes a b config c.args.now
-    (node_of c.args.request.token) c.args.sessions.now service.HistoryUpdate
-    (HistoryUpdate asked) c.args.request.body user
-    (λ R user. update_history config.own (space_for config.settings user) user c.args.now asked R)
-    c.update_all.result
-    c.in_ok-asked.ensures.asks (λ R marks. refl) (sym c.in_ok-user.ensures.value)
-    (subst Q c.deref.ensures.value c.update_all.ensures.comes)
+    let done = c.in-Ok.done in
+    let Q : List HistoryUpdateDetails → Type 0 = λ details.
+    ComesTo a b (update_history a.own (space_for settings user) user c.args.now
+    (map details_of details)) done.answer
+    × (done.event ≡ updates_audited settings.events settings.space user (map details_of details)
+    (response_made done.answer)) in
+    let so = subst Q c.deref.ensures.value (c.in-Ok.ensures.comes, c.in-Ok.ensures.event) in
+    performs-updates a b config c.args.now (node_of c.args.request.token) sessions
+    c.note.new.sessions (map details_of c.in_ok-asked.asked.details.items) c.args.request.body user
+    done.answer c.in_ok-asked.ensures.asks (sym c.in_ok-user.ensures.value) so.0
+    (c.note.ensures ∙ ap (λ e. noting e sessions) so.1)
