@@ -176,7 +176,7 @@ static ANSWERED: [Row; 10] = [
 ];
 
 /// Requests that are refused.
-static REFUSED: [Row; 9] = [
+static REFUSED: [Row; 8] = [
     (
         true,
         "GET /history?node=ns%3D1%3Bs%3Dm HTTP/1.1\r\nHost: a\r\n\r\n",
@@ -200,14 +200,7 @@ static REFUSED: [Row; 9] = [
     ),
     (
         true,
-        "GET / HTTP/1.1\r\nHost: a\r\nAuthorization: Basic YW5uOm5v\r\n\r\n",
-        "HTTP/1.1 401 Unauthorized\r\n",
-        "\n<p>Expected a name and a password by the scheme Basic.</p></body>\n</html>\n",
-        0,
-    ),
-    (
-        false,
-        "GET / HTTP/1.1\r\nHost: a\r\nAuthorization: Basic ZXZlOnB3\r\n\r\n",
+        "GET / HTTP/1.1\r\nHost: a\r\nAuthorization: Bearer YW5uOm5v\r\n\r\n",
         "HTTP/1.1 401 Unauthorized\r\n",
         "\n<p>Expected a name and a password by the scheme Basic.</p></body>\n</html>\n",
         0,
@@ -242,30 +235,57 @@ static REFUSED: [Row; 9] = [
     ),
 ];
 
-/// Whether what was made is what a row says.
-fn is_wanted(made: &Made, row: &Row) -> bool {
+/// Requests whose credentials let nobody in.
+static DENIED: [Row; 3] = [
+    (
+        true,
+        "GET / HTTP/1.1\r\nHost: a\r\nAuthorization: Basic YW5uOm5v\r\n\r\n",
+        "HTTP/1.1 401 Unauthorized\r\n",
+        "\n<p>Expected a name and a password by the scheme Basic.</p></body>\n</html>\n",
+        0,
+    ),
+    (
+        false,
+        "GET / HTTP/1.1\r\nHost: a\r\nAuthorization: Basic ZXZlOnB3\r\n\r\n",
+        "HTTP/1.1 401 Unauthorized\r\n",
+        "\n<p>Expected a name and a password by the scheme Basic.</p></body>\n</html>\n",
+        0,
+    ),
+    (
+        false,
+        "HEAD /history.csv?node=ns%3D1%3Bs%3Dn HTTP/1.1\r\nHost: a\r\nAuthorization: Basic YW5uOm5v\r\n\r\n",
+        "HTTP/1.1 401 Unauthorized\r\n",
+        "\r\n\r\n",
+        0,
+    ),
+];
+
+/// Whether what was made is what a row says, and the last step is this.
+fn is_wanted(made: &Made, row: &Row, end: WebStep) -> bool {
     let (text, count, step) = made;
     let (_, _, first, last, steps) = row;
     match str::from_utf8(text.as_slice()) {
         Ok(text) => {
-            text.starts_with(*first)
-                && text.ends_with(*last)
-                && *count == *steps
-                && *step == WebStep::Ended
+            text.starts_with(*first) && text.ends_with(*last) && *count == *steps && *step == end
         }
         Err(_) => false,
     }
 }
 
-/// Whether a request is answered as its row says, whole and byte by byte.
-fn is_answered<A: Archive>(alloc: Global, archive: &mut A, row: &Row) -> Result<bool, Fail> {
+/// Whether a request is answered as its row says, whole and byte by byte, and the last step is this.
+fn is_answered<A: Archive>(
+    alloc: Global,
+    archive: &mut A,
+    row: &Row,
+    end: WebStep,
+) -> Result<bool, Fail> {
     let (anonymous, request, ..) = *row;
     let settings = settings_of(alloc, anonymous)?;
     let whole = made_at_once(alloc, &settings, archive, request)?;
     let Some(by_bytes) = made_by_bytes(alloc, &settings, archive, request)? else {
         return Ok(false);
     };
-    Ok(is_wanted(&whole, row) && is_wanted(&by_bytes, row) && whole.0 == by_bytes.0)
+    Ok(is_wanted(&whole, row, end) && is_wanted(&by_bytes, row, end) && whole.0 == by_bytes.0)
 }
 
 #[test]
@@ -273,7 +293,7 @@ fn requests_are_answered(rt: HostRuntime) -> Result<(), Fail> {
     let alloc = rt.alloc();
     let mut archive = plant(alloc)?;
     for row in &ANSWERED {
-        let good = is_answered(alloc, &mut archive, row)?;
+        let good = is_answered(alloc, &mut archive, row, WebStep::Ended)?;
         assert!(rt; good, "{}", row.1);
     }
     Ok(())
@@ -284,7 +304,18 @@ fn requests_are_refused(rt: HostRuntime) -> Result<(), Fail> {
     let alloc = rt.alloc();
     let mut archive = plant(alloc)?;
     for row in &REFUSED {
-        let good = is_answered(alloc, &mut archive, row)?;
+        let good = is_answered(alloc, &mut archive, row, WebStep::Ended)?;
+        assert!(rt; good, "{}", row.1);
+    }
+    Ok(())
+}
+
+#[test]
+fn wrong_credentials_are_denied(rt: HostRuntime) -> Result<(), Fail> {
+    let alloc = rt.alloc();
+    let mut archive = plant(alloc)?;
+    for row in &DENIED {
+        let good = is_answered(alloc, &mut archive, row, WebStep::Denied)?;
         assert!(rt; good, "{}", row.1);
     }
     Ok(())

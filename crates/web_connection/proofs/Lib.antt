@@ -1,5 +1,6 @@
 mod AccessLemmas
 mod StatusLemmas
 mod AskingLemmas
+mod DenialLemmas
 mod PageLemmas
 mod StepLemmas

@@ -28,7 +28,7 @@ use Rattle.web_request.specs.declared.page.Question.{Question}
 use Rattle.web_request.specs.declared.page.Refusal.{Refusal}
 use Rattle.web_request.specs.declared.page.Refusal.TheVariants as why
 use Rattle.web_request.specs.declared.page.Request.{Request}
-use Rattle.web_connection.specs.Answers.{BeginsCsv, GoesOn, IsCrowded, IsHistoryPage, IsPortionText, OnlyAsks, Makes, TellsCsv, rest_of, TellsAsked, TellsPage, TellsRefusal, TellsStoreFault, AnswersRequest, refusal_of, report_of}
+use Rattle.web_connection.specs.Answers.{BeginsCsv, GoesOn, IsCrowded, IsHistoryPage, IsPortionText, OnlyAsks, Makes, TellsCsv, rest_of, TellsAsked, TellsPage, TellsRefusal, TellsStoreFault, AnswersRequest, refusal_of, report_of, sending_of}
 use Rattle.web_connection.specs.Status.{status_json}
 use Rattle.web_connection.specs.Texts.{answer_text, csv_head, coding_of}
 use Rattle.web_connection.specs.declared.sending.Sending.{Sending}
@@ -194,15 +194,18 @@ pub result-as : (s t : Store) (result : Result Told AllocError)
     (P Q : Content → List StoreFault → List ℕ → Option Sending → Type 0)
     → ((R : Content) (faults : List StoreFault) (text : List ℕ) (sending : Option Sending)
     → P R faults text sending → Q R faults text sending)
-    → MatchResult result (λ told. Makes s t (λ R faults. P R faults told.text.items told.sending))
+    → MatchResult result (λ told. Makes s t
+    (λ R faults. P R faults told.text.items (sending_of told.rest)))
     (λ starved. OnlyAsks s t)
-    → MatchResult result (λ told. Makes s t (λ R faults. Q R faults told.text.items told.sending))
+    → MatchResult result (λ told. Makes s t
+    (λ R faults. Q R faults told.text.items (sending_of told.rest)))
     (λ starved. OnlyAsks s t)
 result-as s t (Ok told) P Q says made =
     made-as s t (λ (R : Content) (faults : List StoreFault).
-    P R faults told.text.items told.sending)
-    (λ (R : Content) (faults : List StoreFault). Q R faults told.text.items told.sending)
-    (λ R faults p. says R faults told.text.items told.sending p) made
+    P R faults told.text.items (sending_of told.rest))
+    (λ (R : Content) (faults : List StoreFault).
+    Q R faults told.text.items (sending_of told.rest))
+    (λ R faults p. says R faults told.text.items (sending_of told.rest) p) made
 result-as s t (Err starved) P Q says asks = asks
 
 -- the head of a history alone

@@ -1,5 +1,5 @@
 -- What a browser's connection is answered.
-use Rattle.std.specs.Prelude.{◌≡◌, ◌≢◌, ◌⊎◌, ⊤, ℕ, Bool, true, false, List, [], ◌++◌, Option, None, Some, is_some, not, Result, Ok, Err, if◌then◌else◌}
+use Rattle.std.specs.Prelude.{◌≡◌, ◌≢◌, ◌↔◌, ◌⊎◌, ⊤, ℕ, Bool, true, false, List, [], ◌++◌, Option, None, Some, is_some, not, Result, Ok, Err, IfOk, if◌then◌else◌}
 use Rattle.std.specs.declared.alloc.AllocError.{AllocError}
 use Rattle.http1.specs.Encoder.{piece_text, end_text}
 use Rattle.records.specs.Contents.{Content, vec}
@@ -30,12 +30,14 @@ use Rattle.web_request.specs.declared.page.Refusal.{Refusal}
 use Rattle.web_request.specs.declared.page.Refusal.TheVariants as why
 use Rattle.web_request.specs.declared.page.Request.{Request}
 use Rattle.web_request.specs.declared.page.RequestFault.TheVariants.{Refused}
-use Rattle.web_connection.specs.Access.{is_let_in}
+use Rattle.web_connection.specs.Access.{is_let_in, are_wrong}
 use Rattle.web_connection.specs.Texts.{answer_text, csv_head, coding_of}
 use Rattle.web_connection.specs.Status.{status_json}
 use Rattle.web_connection.specs.declared.sending.Sending.{Sending}
+use Rattle.web_connection.specs.declared.sending.Rest.{Rest}
+use Rattle.web_connection.specs.declared.sending.Rest.TheVariants as rest
 use Rattle.web_connection.specs.declared.step.WebStep.{WebStep}
-use Rattle.web_connection.specs.declared.step.WebStep.TheVariants.{NeedsInput, Continues, Ended}
+use Rattle.web_connection.specs.declared.step.WebStep.TheVariants.{NeedsInput, Continues, Ended, Denied}
 
 -- ---- what a connection keeps
 
@@ -216,11 +218,26 @@ AnswersInput s R came faults text sending =
     ⊎ ((request : Request) × IsRead came (Ok (Some request))
     × AnswersRequest s R request faults text sending)
 
+-- a request came whose credentials let nobody in
+abbrev pub AreWrongIn : SettingsValues → (came : List ℕ) → Type 0
+AreWrongIn s came =
+    (request : Request) × IsRead came (Ok (Some request))
+    × (are_wrong s request.credentials ≡ true)
+
 -- ---- a step
 
--- it goes on as long as something is still to be sent
-abbrev pub step_of : Option Sending → WebStep
-step_of sending = elim sending [ None ↦ Ended | Some left ↦ Continues ]
+-- what is behind a text and still to be sent, if anything is
+abbrev pub sending_of : Rest → Option Sending
+sending_of behind = elim behind [ rest.Sending left ↦ Some left | _ ↦ None ]
+
+-- what a step comes to, by what is behind its text
+abbrev pub step_of : Rest → WebStep
+step_of behind =
+    elim behind [ rest.Sending left ↦ Continues | rest.Over ↦ Ended | rest.Denied ↦ Denied ]
+
+-- who asks is to be denied: a request is answered now whose credentials let nobody in
+abbrev pub IsDenied : SettingsValues → WebState → Type 0
+IsDenied s web = (web.sending ≡ None) × AreWrongIn s web.came
 
 -- no whole request came, and all stays
 abbrev pub WaitsForRequest : WebState → List StoreFault → List ℕ → WebState → Type 0
@@ -235,23 +252,26 @@ GoesFurther s R came old faults made new =
       | Some was ↦ GoesOn R was faults made new
     ]
 
--- A step made this of the answer, over what an archive held, and its store met these faults. Where
--- memory was wanting, it made nothing.
+-- A step made this of the answer, over what an archive held, and its store met these faults; it
+-- goes on as long as something is still to be sent. Where memory was wanting, it made nothing.
 abbrev pub AnswersStep : SettingsValues → Content → WebState → List StoreFault → (made : List ℕ)
     → Result WebStep AllocError → WebState → Type 0
 AnswersStep s R web faults made (Err starved) next = made ≡ []
 AnswersStep s R web faults made (Ok NeedsInput) next = WaitsForRequest web faults made next
-AnswersStep s R web faults made (Ok step) next =
-    (step ≡ step_of next.sending)
-    × GoesFurther s R web.came web.sending faults made next.sending
+AnswersStep s R web faults made (Ok Continues) next =
+    (next.sending ≢ None) × GoesFurther s R web.came web.sending faults made next.sending
+AnswersStep s R web faults made (Ok over) next =
+    (next.sending ≡ None) × GoesFurther s R web.came web.sending faults made next.sending
 
--- an archive was asked, which stays as it is, and by what it held a step made this of the answer;
--- its store met the faults that the answer is by, and no other
+-- An archive was asked, which stays as it is, and by what it held a step made this of the answer;
+-- its store met the faults that the answer is by, and no other. Whatever it held, a step that isn't
+-- starved is `Denied` exactly where who asks is to be denied.
 abbrev pub AnswersWeb : SettingsValues → Store → Store → WebState → (made : List ℕ)
     → Result WebStep AllocError → WebState → Type 0
 AnswersWeb s old new web made result next =
     (faults : List StoreFault)
     × Reads old new faults (λ R. AnswersStep s R web faults made result next)
+    × IfOk result (λ step. (step ≡ Denied) ↔ IsDenied s web)
 
 -- an archive was asked, which stays as it is, and a text of which this holds was made by it
 abbrev pub Makes : Store → Store → (Content → List StoreFault → Type 0) → Type 0

@@ -2,7 +2,7 @@
 
 ghost use Rattle.std.specs.Prelude.{◌≡◌};
 ghost use Rattle.ua_session.specs.Users.{claim_of};
-ghost use Rattle.web_connection.specs.Access.{claim_in, is_let_in};
+ghost use Rattle.web_connection.specs.Access.{claim_in, is_let_in, are_wrong};
 
 use ua_session::Identity;
 use ua_settings::Settings;
@@ -31,4 +31,11 @@ pub(crate) fn is_let_in(settings: &Settings, credentials: &Option<Credentials>) 
 {
     let identity = identity_of(credentials);
     settings.users().judge(identity).is_ok()
+}
+
+/// Whether credentials are given, and let nobody in.
+pub(crate) fn are_wrong(settings: &Settings, credentials: &Option<Credentials>) -> bool
+    ensures { result ≡ are_wrong settings.now credentials.now }
+{
+    credentials.is_some() && !is_let_in(settings, credentials)
 }

@@ -1,28 +1,40 @@
 //! A browser's connection: the bytes that came of its request, and what is still to be sent.
 
-ghost use Rattle.std.specs.Prelude.{◌≡◌, ◌++◌, [], List, ℕ, None, Ok, IfOk, OnOk, OnErr, MatchOption, MatchResult};
+ghost use Rattle.std.specs.Prelude.{◌≡◌, ◌≢◌, ◌↔◌, ◌++◌, [], List, ℕ, None, Ok, IfOk, OnOk, OnErr, MatchOption, MatchResult};
 ghost use Rattle.archive.specs.Store.{IsAskedWithin};
 ghost use Rattle.web_connection.specs.declared.step.WebStep.TheVariants.{NeedsInput};
+ghost use Rattle.web_connection.specs.declared.sending.Rest.TheVariants.{Denied};
 ghost use Rattle.web_request.specs.Requests.{IsCutHead};
-ghost use Rattle.web_connection.specs.Answers.{AnswersWeb, GoesFurther, Makes, NeedsRequest, OnlyAsks, new_web, with_input, web_of, step_of};
+ghost use Rattle.web_connection.specs.Answers.{AnswersWeb, GoesFurther, IsDenied, Makes, NeedsRequest, OnlyAsks, new_web, sending_of, with_input, web_of, step_of};
 
 use crate::history::next_portion;
 use crate::requests::answer_first;
-use crate::sending::{Sending, Told};
+use crate::sending::{Rest, Sending, Told};
 use crate::step::WebStep;
 use archive::Archive;
 use std::alloc::{AllocError, Global};
 use std::marker::Model;
 use ua_settings::Settings;
 
-/// What a step comes to, by what of a history is still to be sent.
-fn step_of(sending: &Option<Sending>) -> WebStep
-    ensures same { result ≡ step_of sending.now }
-    ensures goes { result ≡ NeedsInput → ⊥ }
+/// Keeps what is still to be sent. What the step comes to.
+fn keep(rest: Rest, sending: &mut Option<Sending>) -> WebStep
+    ensures kept { sending.new ≡ sending_of rest }
+    ensures same { result ≡ step_of rest }
+    ensures goes { result ≢ NeedsInput }
 {
-    match sending {
-        None => WebStep::Ended,
-        Some(_) => WebStep::Continues,
+    match rest {
+        Rest::Sending(left) => {
+            *sending = Some(left);
+            WebStep::Continues
+        }
+        Rest::Over => {
+            *sending = None;
+            WebStep::Ended
+        }
+        Rest::Denied => {
+            *sending = None;
+            WebStep::Denied
+        }
     }
 }
 
@@ -41,8 +53,11 @@ fn tell_next<A: Archive>(
         × Makes (A.state archive.old) (A.state archive.new) (λ R faults. faults ≡ []))
         (λ told. Makes (A.state archive.old) (A.state archive.new)
         (λ R faults. GoesFurther settings.now R came.now sending faults told.text.items
-        told.sending)))
+        (sending_of told.rest))))
         (λ starved. OnlyAsks (A.state archive.old) (A.state archive.new)) }
+    ensures denied { IfOk result (λ answer. MatchOption answer
+        (¬ IsDenied settings.now (web_of came.now sending))
+        (λ told. (told.rest ≡ Denied) ↔ IsDenied settings.now (web_of came.now sending))) }
     ensures asked { IsAskedWithin 501 (A.asked archive.old) (A.asked archive.new) }
 {
     match sending {
@@ -57,13 +72,12 @@ fn tell_next<A: Archive>(
 /// Appends what is told; what is still to be sent is kept.
 fn send(out: &mut Vec<u8>, told: Told, sending: &mut Option<Sending>) -> Result<WebStep, AllocError>
     ensures ok { IfOk result (λ step. (out.new.items ≡ out.old.items ++ told.text.items)
-        × (sending.new ≡ told.sending) × (step ≡ step_of told.sending)) }
+        × (sending.new ≡ sending_of told.rest) × (step ≡ step_of told.rest)) }
     ensures err { OnErr result (out.new.items ≡ out.old.items) }
-    ensures goes { result ≡ Ok NeedsInput → ⊥ }
+    ensures goes { result ≢ Ok NeedsInput }
 {
     out.extend_from_slice(told.text.as_slice())?;
-    *sending = told.sending;
-    Ok(step_of(sending))
+    Ok(keep(told.rest, sending))
 }
 
 /// Makes the next part of the answer.
@@ -131,11 +145,12 @@ impl WebConnection {
     /// Makes the next part of the answer, and appends it to `out`: what came is refused, or the page
     /// that is asked for is told, whole or its head alone; a history as CSV goes on at each call, by at
     /// most a hundred values or modifications of the records that were held when it began. Who isn't
-    /// one of the settings' users is told that, and no page. The archive stays as it is; where its
-    /// store meets a fault that is told, or a history that was begun is broken off.
+    /// one of the settings' users is told that, and no page; where credentials were given, the step is
+    /// `Denied`. The archive stays as it is; where its store meets a fault that is told, or a history
+    /// that was begun is broken off.
     ///
     /// The one error is want of memory, and then nothing is appended. The connection is over then, as
-    /// it is behind `Ended`.
+    /// it is behind `Ended` and `Denied`.
     pub fn answer<A: Archive>(
         &mut self,
         settings: &Settings,

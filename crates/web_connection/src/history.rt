@@ -1,12 +1,13 @@
 //! Histories: as CSV, portion by portion, and as a page.
 
-ghost use Rattle.std.specs.Prelude.{◌≡◌, ◌⊎◌, ◌++◌, [], MatchResult, IfOk, OnOk, None, false};
+ghost use Rattle.std.specs.Prelude.{◌≡◌, ◌≢◌, ◌⊎◌, ◌++◌, [], MatchResult, IfOk, OnOk, None, false};
 ghost use Rattle.archive.specs.Store.{IsAskedWithin};
 ghost use Rattle.http1.specs.Encoder.{piece_text, end_text};
 ghost use Rattle.web_connection.specs.Texts.{csv_head, coding_of};
-ghost use Rattle.web_connection.specs.Answers.{Makes, OnlyAsks, TellsStoreFault, TellsHistory, TellsCsv, BeginsCsv, GoesOn, IsPortionText, rest_of, is_variable, report_of};
+ghost use Rattle.web_connection.specs.Answers.{Makes, OnlyAsks, TellsStoreFault, TellsHistory, TellsCsv, BeginsCsv, GoesOn, IsPortionText, rest_of, sending_of, is_variable, report_of};
+ghost use Rattle.web_connection.specs.declared.sending.Rest.TheVariants.{Denied};
 
-use crate::sending::{Sending, Told};
+use crate::sending::{Rest, Sending, Told};
 use crate::texts::{page_text, refusal_text, told_of};
 use archive::Archive;
 use history_report::{Form, PartFault, Portions, Report, ReportFault, put_part};
@@ -89,9 +90,11 @@ fn begin_csv<A: Archive>(
 ) -> Result<Told, AllocError>
     ensures answers { MatchResult result
         (λ told. Makes (A.state archive.old) (A.state archive.new)
-        (λ R faults. (TellsStoreFault false faults told.text.items × (told.sending ≡ None))
-        ⊎ ((faults ≡ []) × BeginsCsv R question chunked told.text.items told.sending)))
+        (λ R faults. (TellsStoreFault false faults told.text.items × (sending_of told.rest ≡ None))
+        ⊎ ((faults ≡ [])
+        × BeginsCsv R question chunked told.text.items (sending_of told.rest))))
         (λ starved. OnlyAsks (A.state archive.old) (A.state archive.new)) }
+    ensures let_in { IfOk result (λ told. told.rest ≢ Denied) }
     ensures asked { IsAskedWithin 501 (A.asked archive.old) (A.asked archive.new) }
 {
     let mut names = Vec::new(alloc);
@@ -99,14 +102,14 @@ fn begin_csv<A: Archive>(
         Ok(portions) => match begun_text(alloc, names.as_slice(), chunked) {
             Ok(text) => Ok(Told {
                 text,
-                sending: Some(Sending { portions, chunked }),
+                rest: Rest::Sending(Sending { portions, chunked }),
             }),
             Err(_) => Err(AllocError),
         },
         Err(ReportFault::Store(_)) => match refusal_text(alloc, Refusal::Store, false) {
             Ok(text) => Ok(Told {
                 text,
-                sending: None,
+                rest: Rest::Over,
             }),
             Err(_) => Err(AllocError),
         },
@@ -124,14 +127,16 @@ pub(crate) fn told_csv<A: Archive>(
 ) -> Result<Told, AllocError>
     ensures answers { MatchResult result
         (λ told. Makes (A.state archive.old) (A.state archive.new)
-        (λ R faults. TellsCsv R question head_only chunked faults told.text.items told.sending))
+        (λ R faults. TellsCsv R question head_only chunked faults told.text.items
+        (sending_of told.rest)))
         (λ starved. OnlyAsks (A.state archive.old) (A.state archive.new)) }
+    ensures let_in { IfOk result (λ told. told.rest ≢ Denied) }
     ensures asked { IsAskedWithin 501 (A.asked archive.old) (A.asked archive.new) }
 {
     if head_only {
         return Ok(Told {
             text: csv_head(alloc, chunked)?,
-            sending: None,
+            rest: Rest::Over,
         });
     }
     begin_csv(alloc, archive, question, chunked)
@@ -204,14 +209,15 @@ fn portion_text(
     }
 }
 
-/// What is still to be sent behind a portion.
-fn rest_of(portions: Portions, next: Result<bool, ReportFault>, chunked: bool) -> Option<Sending>
-    ensures { result ≡ rest_of chunked portions next }
+/// What is behind a portion.
+fn rest_of(portions: Portions, next: Result<bool, ReportFault>, chunked: bool) -> Rest
+    ensures left { sending_of result ≡ rest_of chunked portions next }
+    ensures let_in { result ≢ Denied }
 {
     match next {
-        Ok(true) => Some(Sending { portions, chunked }),
-        Ok(false) => None,
-        Err(_) => None,
+        Ok(true) => Rest::Sending(Sending { portions, chunked }),
+        Ok(false) => Rest::Over,
+        Err(_) => Rest::Over,
     }
 }
 
@@ -224,8 +230,9 @@ pub(crate) fn next_portion<A: Archive>(
 ) -> Result<Told, AllocError>
     ensures answers { MatchResult result
         (λ told. Makes (A.state archive.old) (A.state archive.new)
-        (λ R faults. GoesOn R sending faults told.text.items told.sending))
+        (λ R faults. GoesOn R sending faults told.text.items (sending_of told.rest)))
         (λ starved. OnlyAsks (A.state archive.old) (A.state archive.new)) }
+    ensures let_in { IfOk result (λ told. told.rest ≢ Denied) }
     ensures asked { IsAskedWithin 501 (A.asked archive.old) (A.asked archive.new) }
 {
     let Sending {
@@ -237,7 +244,7 @@ pub(crate) fn next_portion<A: Archive>(
     match portion_text(alloc, portion.as_slice(), next, chunked) {
         Ok(text) => Ok(Told {
             text,
-            sending: rest_of(portions, next, chunked),
+            rest: rest_of(portions, next, chunked),
         }),
         Err(_) => Err(AllocError),
     }

@@ -1,14 +1,16 @@
 //! What a request is answered.
 
-ghost use Rattle.std.specs.Prelude.{◌≡◌, [], MatchResult, MatchOption, None};
+ghost use Rattle.std.specs.Prelude.{◌≡◌, ◌≢◌, ◌↔◌, [], true, MatchResult, MatchOption, IfOk, None};
 ghost use Rattle.archive.specs.Store.{IsAskedWithin};
 ghost use Rattle.web_request.specs.Requests.{IsCutHead};
-ghost use Rattle.web_connection.specs.Answers.{Makes, OnlyAsks, lacks_variable, refusal_of, TellsAsked, AnswersRequest, AnswersInput};
+ghost use Rattle.web_connection.specs.Access.{are_wrong};
+ghost use Rattle.web_connection.specs.Answers.{Makes, OnlyAsks, lacks_variable, refusal_of, sending_of, TellsAsked, AnswersRequest, AnswersInput, AreWrongIn};
+ghost use Rattle.web_connection.specs.declared.sending.Rest.TheVariants.{Denied};
 
-use crate::access::is_let_in;
+use crate::access::{are_wrong, is_let_in};
 use crate::history::{history_text, is_variable, told_csv};
 use crate::pages::{front_text, state_text};
-use crate::sending::Told;
+use crate::sending::{Rest, Told};
 use crate::texts::refusal_text;
 use archive::Archive;
 use std::alloc::{AllocError, Global};
@@ -38,6 +40,18 @@ fn refusal_of(settings: &Settings, request: &Request) -> Option<Refusal>
     None
 }
 
+/// What is behind a refusal.
+fn refused_rest(settings: &Settings, request: &Request) -> Rest
+    ensures none { sending_of result ≡ None }
+    ensures denied { (result ≡ Denied) ↔ (are_wrong settings.now request.now.credentials ≡ true) }
+{
+    if are_wrong(settings, &request.credentials) {
+        Rest::Denied
+    } else {
+        Rest::Over
+    }
+}
+
 /// What somebody who is let in is told.
 fn told_request<A: Archive>(
     alloc: Global,
@@ -48,8 +62,9 @@ fn told_request<A: Archive>(
     ensures answers { MatchResult result
         (λ told. Makes (A.state archive.old) (A.state archive.new)
         (λ R faults. TellsAsked settings.now R request.page request.head_only request.takes_chunks
-        faults told.text.items told.sending))
+        faults told.text.items (sending_of told.rest)))
         (λ starved. OnlyAsks (A.state archive.old) (A.state archive.new)) }
+    ensures let_in { IfOk result (λ told. told.rest ≢ Denied) }
     ensures asked { IsAskedWithin 501 (A.asked archive.old) (A.asked archive.new) }
 {
     let Request {
@@ -61,16 +76,16 @@ fn told_request<A: Archive>(
     match page {
         Page::Front => Ok(Told {
             text: front_text(alloc, archive, settings, head_only)?,
-            sending: None,
+            rest: Rest::Over,
         }),
         Page::Status => Ok(Told {
             text: state_text(alloc, archive, settings, head_only)?,
-            sending: None,
+            rest: Rest::Over,
         }),
         Page::Csv(question) => told_csv(alloc, archive, question, head_only, takes_chunks),
         Page::History(question) => Ok(Told {
             text: history_text(alloc, archive, question, head_only)?,
-            sending: None,
+            rest: Rest::Over,
         }),
     }
 }
@@ -84,14 +99,17 @@ fn answer_request<A: Archive>(
 ) -> Result<Told, AllocError>
     ensures answers { MatchResult result
         (λ told. Makes (A.state archive.old) (A.state archive.new)
-        (λ R faults. AnswersRequest settings.now R request faults told.text.items told.sending))
+        (λ R faults. AnswersRequest settings.now R request faults told.text.items
+        (sending_of told.rest)))
         (λ starved. OnlyAsks (A.state archive.old) (A.state archive.new)) }
+    ensures denied { IfOk result
+        (λ told. (told.rest ≡ Denied) ↔ (are_wrong settings.now request.credentials ≡ true)) }
     ensures asked { IsAskedWithin 501 (A.asked archive.old) (A.asked archive.new) }
 {
     match refusal_of(settings, &request) {
         Some(why) => Ok(Told {
             text: refusal_text(alloc, why, request.head_only)?,
-            sending: None,
+            rest: refused_rest(settings, &request),
         }),
         None => told_request(alloc, archive, settings, request),
     }
@@ -109,8 +127,11 @@ pub(crate) fn answer_first<A: Archive>(
         (IsCutHead came.now × Makes (A.state archive.old) (A.state archive.new)
         (λ R faults. faults ≡ []))
         (λ told. Makes (A.state archive.old) (A.state archive.new)
-        (λ R faults. AnswersInput settings.now R came.now faults told.text.items told.sending)))
+        (λ R faults. AnswersInput settings.now R came.now faults told.text.items
+        (sending_of told.rest))))
         (λ starved. OnlyAsks (A.state archive.old) (A.state archive.new)) }
+    ensures denied { IfOk result (λ answer. MatchOption answer (¬ AreWrongIn settings.now came.now)
+        (λ told. (told.rest ≡ Denied) ↔ AreWrongIn settings.now came.now)) }
     ensures asked { IsAskedWithin 501 (A.asked archive.old) (A.asked archive.new) }
 {
     match read_request(alloc, came) {
@@ -118,7 +139,7 @@ pub(crate) fn answer_first<A: Archive>(
         Ok(Some(request)) => Ok(Some(answer_request(alloc, archive, settings, request)?)),
         Err(RequestFault::Refused(why, head_only)) => Ok(Some(Told {
             text: refusal_text(alloc, why, head_only)?,
-            sending: None,
+            rest: Rest::Over,
         })),
         Err(RequestFault::OutOfMemory) => Err(AllocError),
     }

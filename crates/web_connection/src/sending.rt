@@ -11,11 +11,22 @@ pub(crate) struct Sending {
     pub(crate) chunked: bool,
 }
 
-/// What a step tells: bytes, and what of a history is still to be sent behind them.
+/// What is behind what a step tells.
+#[derive(Drop)]
+pub(crate) enum Rest {
+    /// What is still to be sent.
+    Sending(Sending),
+    /// Nothing: the answer is over.
+    Over,
+    /// Nothing: the answer is over, and who asked was told that the credentials let nobody in.
+    Denied,
+}
+
+/// What a step tells: bytes, and what is behind them.
 #[derive(Drop)]
 pub(crate) struct Told {
     /// The bytes.
     pub(crate) text: Vec<u8>,
-    /// What is still to be sent; none: the answer is over.
-    pub(crate) sending: Option<Sending>,
+    /// What is behind them.
+    pub(crate) rest: Rest,
 }

@@ -9,4 +9,7 @@ pub enum WebStep {
     Continues,
     /// The answer is over, and the connection is to be closed behind it.
     Ended,
+    /// The answer is over: who asked isn't one of the settings' users and was told so. Credentials were
+    /// given; who gave none is answered as `Ended`.
+    Denied,
 }

@@ -1,4 +1,5 @@
-use Rattle.web_connection.proofs.StepLemmas.{first-next, goes-next}
+use Rattle.web_connection.specs.Answers.{sending_of}
+use Rattle.web_connection.proofs.StepLemmas.{first-denied, first-next, goes-denied, goes-next}
 use Rattle.web_connection.proofs.connection.tell_next.Goals as goal
 
 pub returns-in-None-clause-answers : goal.returns-in-None-clause-answers
@@ -8,9 +9,19 @@ returns-in-None-clause-answers g c =
     (state c.answer_first.new.archive) c.answer_first.result c.in-None.is
     c.answer_first.ensures.answers
 
+pub returns-in-None-clause-denied : goal.returns-in-None-clause-denied
+returns-in-None-clause-denied g c =
+    first-denied c.args.settings.now c.args.came.now c.args.sending c.answer_first.result
+    c.in-None.is c.answer_first.ensures.denied
+
 pub returns-in-Ok-clause-answers : goal.returns-in-Ok-clause-answers
 returns-in-Ok-clause-answers g c =
     let state = g.A.Archive.state in
     goes-next c.args.settings.now c.args.came.now c.args.sending c.in-Some.left
     (state c.args.archive.now) (state c.next_portion.new.archive) c.in-Ok.told.text.items
-    c.in-Ok.told.sending c.in-Some.is c.in-Ok.ensures.answers
+    (sending_of c.in-Ok.told.rest) c.in-Some.is c.in-Ok.ensures.answers
+
+pub returns-in-Ok-clause-denied : goal.returns-in-Ok-clause-denied
+returns-in-Ok-clause-denied g c =
+    goes-denied c.args.settings.now c.args.came.now c.args.sending c.in-Some.left
+    c.in-Ok.told.rest c.in-Some.is c.in-Ok.ensures.let_in

@@ -1,6 +1,7 @@
 use Rattle.records.specs.Contents.{Content}
 use Rattle.history_report.specs.Reports.{report_faults}
 use Rattle.history_report.specs.Portions.{IsPortion, ending}
+use Rattle.web_connection.specs.Answers.{sending_of}
 use Rattle.web_connection.proofs.AskingLemmas.{made-by, only-asked}
 use Rattle.web_connection.proofs.PageLemmas.{portion-told}
 use Rattle.web_connection.proofs.history.next_portion.Goals as goal
@@ -16,8 +17,8 @@ returns-in-Ok-clause-answers g c =
     (report_faults (ending c.next-next.result))
     (λ (R : Content). IsPortion was.portions now R empty portion c.next-next.result) _
     (λ R p. portion-told R was now c.next-next.result empty portion c.as_slice.result.now
-    c.in-Ok.text.items c.rest_of.result c.new-portion.ensures.items c.as_slice.ensures.value p
-    c.in-Ok.ensures c.rest_of.ensures) c.next-next.ensures.takes
+    c.in-Ok.text.items (sending_of c.rest_of.result) c.new-portion.ensures.items
+    c.as_slice.ensures.value p c.in-Ok.ensures c.rest_of.ensures.left) c.next-next.ensures.takes
 
 pub returns-in-Err-clause-answers : goal.returns-in-Err-clause-answers
 returns-in-Err-clause-answers g c =

@@ -4,8 +4,9 @@ use Rattle.archive.specs.declared.fault.StoreFault.{StoreFault}
 use Rattle.web_request.specs.Requests.{ReadsRequest as IsRead}
 use Rattle.web_request.specs.declared.page.Request.{Request}
 use Rattle.web_request.specs.declared.page.RequestFault.{RequestFault}
-use Rattle.web_connection.specs.Answers.{AnswersRequest}
+use Rattle.web_connection.specs.Answers.{AnswersRequest, sending_of}
 use Rattle.web_connection.proofs.AskingLemmas.{made-alone, made-as}
+use Rattle.web_connection.proofs.DenialLemmas.{Finds, none-wrong, read-wrong, refused-wrong}
 use Rattle.web_connection.proofs.requests.answer_first.Goals as goal
 
 pub returns-in-Ok-None-clause-answers : goal.returns-in-Ok-None-clause-answers
@@ -26,7 +27,7 @@ returns-in_ok-answer_request-in-Ok-Some-clause-answers g c =
     let told = c.in_ok-answer_request-in-Ok-Some.field-0 in
     made-as (state c.args.archive.now) (state c.answer_request.new.archive)
     (λ (R : Content) (faults : List StoreFault).
-    AnswersRequest s R request faults told.text.items told.sending) _
+    AnswersRequest s R request faults told.text.items (sending_of told.rest)) _
     (λ R faults p. inr (
       request,
       subst (λ (read : Option Request). IsRead c.args.came.now (Ok read))
@@ -49,3 +50,31 @@ returns-in_ok-refusal_text-in-Err-Refused-clause-answers g c =
       (refl, c.in_ok-refusal_text-in-Err-Refused.ensures),
       refl,
     ))
+
+pub returns-in-Ok-None-clause-denied : goal.returns-in-Ok-None-clause-denied
+returns-in-Ok-None-clause-denied g c =
+    let came = c.args.came.now in
+    none-wrong c.args.settings.now came
+    (subst (λ (read : Option Request). Finds came (Ok read)) c.in-Ok-None.field-0-is
+    c.in-Ok-None.ensures.found)
+
+pub returns-in_ok-answer_request-in-Ok-Some-clause-denied :
+    goal.returns-in_ok-answer_request-in-Ok-Some-clause-denied
+returns-in_ok-answer_request-in-Ok-Some-clause-denied g c =
+    let came = c.args.came.now in
+    read-wrong c.args.settings.now came c.in-Ok-Some.request
+    c.in_ok-answer_request-in-Ok-Some.field-0.rest
+    (subst (λ (read : Option Request). Finds came (Ok read)) c.in-Ok-Some.field-0-is
+    c.in-Ok-Some.ensures.found)
+    (subst (λ (read : Option Request). IsRead came (Ok read)) c.in-Ok-Some.field-0-is
+    c.in-Ok-Some.ensures.reads) c.in_ok-answer_request-in-Ok-Some.ensures.denied
+
+pub returns-in_ok-refusal_text-in-Err-Refused-clause-denied :
+    goal.returns-in_ok-refusal_text-in-Err-Refused-clause-denied
+returns-in_ok-refusal_text-in-Err-Refused-clause-denied g c =
+    let came = c.args.came.now in
+    let none = refused-wrong c.args.settings.now came c.in-Err-Refused.why
+    c.in-Err-Refused.head_only
+    (subst (λ (fault : RequestFault). Finds came (Err fault)) c.in-Err-Refused.field-0-is
+    c.in-Err-Refused.ensures.found) in
+    (λ over. absurd cc, λ wrong. absurd (none wrong))

@@ -1,9 +1,10 @@
-use Rattle.std.proofs.Common.{List, ℕ, Option}
+use Rattle.std.proofs.Common.{List, [], ℕ, Option, subst, sym}
 use Rattle.records.specs.Contents.{Content}
 use Rattle.archive.specs.declared.fault.StoreFault.{StoreFault}
 use Rattle.web_connection.specs.Answers.{AnswersRequest, TellsAsked}
 use Rattle.web_connection.specs.declared.sending.Sending.{Sending}
 use Rattle.web_connection.proofs.AskingLemmas.{made-alone}
+use Rattle.web_connection.proofs.DenialLemmas.{taken-denied}
 use Rattle.web_connection.proofs.PageLemmas.{refused, result-as, taken}
 use Rattle.web_connection.proofs.requests.answer_request.Goals as goal
 
@@ -12,10 +13,13 @@ pub returns-in_ok-refusal_text-in-Some-clause-answers :
 returns-in_ok-refusal_text-in-Some-clause-answers g c =
     let state = g.A.Archive.state in
     let s = c.args.settings.now in
+    let request = c.args.request in
+    let text = c.in_ok-refusal_text-in-Some.field-0.items in
     made-alone (state c.args.archive.now) _
-    (λ R. refused s R c.args.request c.refusal_of.result c.in-Some.why
-    c.in_ok-refusal_text-in-Some.field-0.items c.refusal_of.ensures c.in-Some.is
-    c.in_ok-refusal_text-in-Some.ensures)
+    (λ R. subst (λ (sending : Option Sending). AnswersRequest s R request [] text sending)
+    (sym c.refused_rest.ensures.none)
+    (refused s R request c.refusal_of.result c.in-Some.why text c.refusal_of.ensures c.in-Some.is
+    c.in_ok-refusal_text-in-Some.ensures))
 
 pub returns-in-None-clause-answers : goal.returns-in-None-clause-answers
 returns-in-None-clause-answers g c =
@@ -29,3 +33,8 @@ returns-in-None-clause-answers g c =
     AnswersRequest s R request faults text sending)
     (λ R faults text sending p. taken s R request c.refusal_of.result faults text sending
     c.refusal_of.ensures c.in-None.is p) c.told_request.ensures.answers
+
+pub returns-in-None-clause-denied : goal.returns-in-None-clause-denied
+returns-in-None-clause-denied g c =
+    taken-denied c.args.settings.now c.args.request c.refusal_of.result c.told_request.result
+    c.refusal_of.ensures c.in-None.is c.told_request.ensures.let_in
