@@ -1,0 +1,4 @@
+mod LinesLemmas
+mod OneLineLemmas
+mod OneLineTexts
+mod OneLineEvents

@@ -1,0 +1,20 @@
+use Rattle.event_lines.proofs.OneLineEvents.{connected, login, denied, updated, ended, called}
+use Rattle.event_lines.proofs.laws.a_line_is_one_line.Goals as goal
+
+pub returns-clause-connected : goal.returns-clause-connected
+returns-clause-connected c = connected
+
+pub returns-clause-login : goal.returns-clause-login
+returns-clause-login c = login
+
+pub returns-clause-update : goal.returns-clause-update
+returns-clause-update c = updated
+
+pub returns-clause-denial : goal.returns-clause-denial
+returns-clause-denial c = denied
+
+pub returns-clause-end : goal.returns-clause-end
+returns-clause-end c = ended
+
+pub returns-clause-call : goal.returns-clause-call
+returns-clause-call c = called
