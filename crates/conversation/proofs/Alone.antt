@@ -6,6 +6,7 @@ use Rattle.std.proofs.lemmas.List.{append-nil}
 use Rattle.archive.specs.Store.{Store}
 use Rattle.archive.proofs.Acting.{moves-as}
 use Rattle.historian.specs.Services.{site_of}
+use Rattle.historian.specs.declared.server.Server.{Server}
 use Rattle.multiplex.specs.Alone.{AreOwnSteps, bytes_received, bytes_made}
 use Rattle.multiplex.specs.Input.{Input}
 use Rattle.multiplex.specs.Output.{Output}
@@ -26,11 +27,12 @@ use Rattle.conversation.specs.declared.world.World.{World}
 use Rattle.conversation.specs.declared.door.Door.{Door}
 use Rattle.conversation.specs.declared.door.Door.TheVariants.{Both, Clients, Peers, Browsers}
 use Rattle.conversation.specs.Doors.{is_peers}
-use Rattle.conversation.specs.OtherEnds.{ConversationEnding, known_by, unless_over}
+use Rattle.conversation.specs.OtherEnds.{ConversationEnding, known_by, none_moved, unless_over}
 use Rattle.conversation.specs.Receiving.{TakesBytes}
 use Rattle.conversation.specs.Answering.{AnswersFirst, client_ending}
-use Rattle.conversation.specs.Alone.{still_behavior, TakesAll, AnswersStretch}
-use Rattle.conversation.specs.Closing.{LogCalls}
+use Rattle.conversation.specs.Alone.{StaysStill, still_behavior, TakesAll, AnswersStretch}
+use Rattle.conversation.specs.Events.{Telling}
+use Rattle.multiplex.specs.declared.stay.Stay.{Stay}
 
 -- this connection, with more bytes that wait
 abbrev with_more : ConnectionState → List ℕ → ConnectionState
@@ -56,10 +58,11 @@ fed settings a b link later used made piece advances =
 -- nothing came, and nothing was made, behind an end
 abbrev IsStill : {A C L : Type 0} → World A C L → (came made : List ℕ) → World A C L → OtherEnd
     → Type 0
-IsStill v came made w next = (came ≡ []) × (made ≡ []) × (w ≡ v) × (next ≡ Over)
+IsStill v came made w next =
+    (came ≡ []) × (made ≡ []) × StaysStill v w × (next ≡ Over none_moved)
 
 ends-known : (end : Option ConversationEnding) (link : ConnectionState)
-    → unless_over end (Client link) ≡ Over → option_map Finished end ≡ None → ⊥
+    → unless_over end (Client link) ≡ Over none_moved → option_map Finished end ≡ None → ⊥
 ends-known None link over none = cc
 ends-known (Some e) link over none = cc
 
@@ -90,11 +93,24 @@ known door came more client = by (nat_lt (length came) 3) refl
     by false e = inr (rw e (rw (sym (peers-more door came more e) ∙ client) refl))
 
 module _ {R W A C L : Type 0} (input : Input R) (output : Output W) (state : A → Store)
-    (gave : C → List ℤ → C → Type 0) (log : LogCalls L) where
+    (gave : C → List ℤ → C → Type 0) (told : Telling L) where
+  -- a world that stays, and then is the same
+  stays-then : (v u w : World A C L) → StaysStill v u → w ≡ u → StaysStill v w
+  stays-then v u w stays e = (
+    ap (λ (x : World A C L). x.server) e ∙ stays.0,
+    ap (λ (x : World A C L). x.clock) e ∙ stays.1,
+  )
+
+  -- the same, and then stays again
+  through : (v u x w : World A C L) → StaysStill v u → x ≡ u → StaysStill x w → StaysStill v w
+  through v u x w stays e more =
+      let so = stays-then v u x stays e in (more.0 ∙ so.0, more.1 ∙ so.1)
+
   -- the steps behind an end
   still : (v w : World A C L) (old new : Slot OtherEnd R W ConversationEnding)
-      (steps : List (Step ConversationEnding)) → old.handler ≡ Over → (old.ending ≡ None → ⊥)
-      → AreOwnSteps input output (still_behavior state gave log) v old steps w new
+      (steps : List (Step ConversationEnding)) → old.handler ≡ Over none_moved
+      → (old.ending ≡ None → ⊥)
+      → AreOwnSteps input output (still_behavior state gave told) v old steps w new
       → IsStill v (bytes_received steps) (bytes_made steps) w new.handler
   still v w old new [] over ended own =
       (refl, refl, own.0, ap (λ (s : Slot OtherEnd R W ConversationEnding). s.handler) own.1 ∙ over)
@@ -104,61 +120,86 @@ module _ {R W A C L : Type 0} (input : Input R) (output : Output W) (state : A �
       absurd (ended own.5.responsive.0)
   still v w old new (step.Lacks ∷ steps) over ended own =
       let said = subst (λ (o : OtherEnd).
-      AnswersFirst state gave own.0 o [] None own.1 own.3.handler) over own.5.answers in
+      AnswersFirst state gave told old.stay own.0 o [] None own.1 own.3.handler) over own.5.answers in
       let on = still own.1 w own.3 new steps said.3
       (λ e. ended (sym (ap (λ (s : Slot OtherEnd R W ConversationEnding). s.ending)
       own.5.others) ∙ e)) own.6 in
-      (on.0, on.1, on.2 ∙ said.2 ∙ own.4, on.3)
+      (on.0, on.1, through v own.0 own.1 w own.4 said.2 on.2, on.3)
   still v w old new (step.Writes bytes ∷ steps) over ended own =
       let on = still own.1 w own.3 new steps (ap
       (λ (s : Slot OtherEnd R W ConversationEnding). s.handler) own.5.1.others ∙ over)
       (λ e. ended (sym (ap (λ (s : Slot OtherEnd R W ConversationEnding). s.ending)
       own.5.1.others) ∙ e)) own.6 in
-      (on.0, on.1, on.2 ∙ own.5.0 ∙ own.4, on.3)
+      (on.0, on.1, through v own.0 own.1 w own.4 own.5.0 on.2, on.3)
   still v w old new (step.Stops ending ∷ steps) over ended own =
       let on = still own.1 w own.3 new steps (ap
       (λ (s : Slot OtherEnd R W ConversationEnding). s.handler) own.5.1.others ∙ over)
       (λ e. cc (ap (λ (s : Slot OtherEnd R W ConversationEnding). s.ending) own.5.1.others, e))
       own.6 in
-      (on.0, on.1, on.2 ∙ own.5.0 ∙ own.4, on.3)
+      (on.0, on.1, through v own.0 own.1 w own.4 own.5.0 on.2, on.3)
   still v w old new (step.FindsEmpty ∷ steps) over ended own =
       let on = still own.1 w own.3 new steps (ap
       (λ (s : Slot OtherEnd R W ConversationEnding). s.handler) own.5.1.others ∙ over)
       (λ e. ended (sym (ap (λ (s : Slot OtherEnd R W ConversationEnding). s.ending)
       own.5.1.others) ∙ e)) own.6 in
-      (on.0, on.1, on.2 ∙ own.5.0 ∙ own.4, on.3)
+      (on.0, on.1, through v own.0 own.1 w own.4 own.5.0 on.2, on.3)
   still v w old new (step.FindsFull ∷ steps) over ended own =
       let on = still own.1 w own.3 new steps (ap
       (λ (s : Slot OtherEnd R W ConversationEnding). s.handler) own.5.1.others ∙ over)
       (λ e. ended (sym (ap (λ (s : Slot OtherEnd R W ConversationEnding). s.ending)
       own.5.1.others) ∙ e)) own.6 in
-      (on.0, on.1, on.2 ∙ own.5.0 ∙ own.4, on.3)
+      (on.0, on.1, through v own.0 own.1 w own.4 own.5.0 on.2, on.3)
   still v w old new (step.Releases ∷ steps) over ended own =
       let on = still own.1 w own.3 new steps (ap
       (λ (s : Slot OtherEnd R W ConversationEnding). s.handler) own.5.1.others ∙ over)
       (λ e. ended (sym (ap (λ (s : Slot OtherEnd R W ConversationEnding). s.ending)
       own.5.1.others) ∙ e)) own.6 in
-      (on.0, on.1, on.2 ∙ own.5.0 ∙ own.4, on.3)
+      (on.0, on.1, through v own.0 own.1 w own.4 own.5.0 on.2, on.3)
   still v w old new (step.Wakes ∷ steps) over ended own =
       let on = still own.1 w own.3 new steps (ap
       (λ (s : Slot OtherEnd R W ConversationEnding). s.handler) own.5.1 ∙ over)
       (λ e. ended (sym (ap (λ (s : Slot OtherEnd R W ConversationEnding). s.ending) own.5.1)
       ∙ e)) own.6 in
-      (on.0, on.1, on.2 ∙ own.5.0 ∙ own.4, on.3)
+      (on.0, on.1, through v own.0 own.1 w own.4 own.5.0 on.2, on.3)
 
-  -- from the same world
+  -- from another world where nothing is otherwise
   same-answered : (v u w : World A C L) (link : ConnectionState) (came made : List ℕ)
-      (next : OtherEnd) → u ≡ v → AnswersStretch state gave u link came made w next
+      (next : OtherEnd) → StaysStill v u → AnswersStretch state gave u link came made w next
       → AnswersStretch state gave v link came made w next
-  same-answered v u w link came made next e is =
-      subst (λ (x : World A C L). AnswersStretch state gave x link came made w next) e is
+  same-answered v u w link came made next stays is = record {
+    used = is.used;
+    ends = is.ends;
+    later = is.later;
+    settings = is.settings ∙ ap (λ (s : Server A). s.settings) stays.0;
+    clock = subst (λ (c : C). gave c is.used.readings w.clock) stays.1 is.clock;
+    advances = subst (λ (s : Server A). Advances s.settings (state s.replica.archive)
+        (state w.server.replica.archive) (with_more link came) is.used made is.ends is.later)
+        stays.0 is.advances;
+    leaves = is.leaves;
+  }
+
+  -- to another world where nothing is otherwise
+  left-answered : (v u w : World A C L) (link : ConnectionState) (came made : List ℕ)
+      (next : OtherEnd) → StaysStill u w → AnswersStretch state gave v link came made u next
+      → AnswersStretch state gave v link came made w next
+  left-answered v u w link came made next stays is = record {
+    used = is.used;
+    ends = is.ends;
+    later = is.later;
+    settings = ap (λ (s : Server A). s.settings) stays.0 ∙ is.settings;
+    clock = subst (λ (c : C). gave v.clock is.used.readings c) (sym stays.1) is.clock;
+    advances = subst (λ (s : Server A). Advances v.server.settings (state v.server.replica.archive)
+        (state s.replica.archive) (with_more link came) is.used made is.ends is.later)
+        (sym stays.0) is.advances;
+    leaves = is.leaves;
+  }
 
   -- nothing was answered
   none-answered : ((clock : C) → gave clock [] clock)
-      → (v w : World A C L) (link : ConnectionState) (next : OtherEnd) → w ≡ v → next ≡ Client link
-      → AnswersStretch state gave v link [] [] w next
-  none-answered gave_none v w link next e is =
-      subst (λ (x : World A C L). AnswersStretch state gave v link [] [] x next) (sym e) (record {
+      → (v w : World A C L) (link : ConnectionState) (next : OtherEnd) → StaysStill v w
+      → next ≡ Client link → AnswersStretch state gave v link [] [] w next
+  none-answered gave_none v w link next stays is =
+      left-answered v v w link [] [] next stays (record {
         used = empty_environment;
         ends = None;
         later = with_more link [];
@@ -189,14 +230,14 @@ module _ {R W A C L : Type 0} (input : Input R) (output : Output W) (state : A �
 
   -- an answer, and what came behind it
   first-answered : ((a b c : C) (xs ys : List ℤ) → gave a xs b → gave b ys c → gave a (xs ++ ys) c)
-      → (u b w : World A C L) (link : ConnectionState) (made came more : List ℕ)
+      → (stay : Stay) (u b w : World A C L) (link : ConnectionState) (made came more : List ℕ)
       (ending : Option ConversationEnding) (next last : OtherEnd)
-      → AnswersFirst state gave u (Client link) made ending b next
+      → AnswersFirst state gave told stay u (Client link) made ending b next
       → ((later : ConnectionState) → next ≡ Client later
       → AnswersStretch state gave b later came more w last)
-      → (next ≡ Over → IsStill b came more w last)
+      → (next ≡ Over none_moved → IsStill b came more w last)
       → AnswersStretch state gave u link came (made ++ more) w last
-  first-answered gave_more u b w link made came more ending next last is on over =
+  first-answered gave_more stay u b w link made came more ending next last is on over =
       by is.ends is.advances is.ended_so
     where
       by : (ends : Option ClientEnding)
@@ -230,11 +271,12 @@ module _ {R W A C L : Type 0} (input : Input R) (output : Output W) (state : A �
             leaves = more_so.leaves;
           }
       by (Some e) advances so =
-          let ended : next ≡ Over =
+          let ended : next ≡ Over none_moved =
           is.leaves ∙ ap (λ (x : Option ConversationEnding). unless_over x (Client is.later)) so
           in
           let rest = over ended in
-          let whole : AnswersStretch state gave u link [] (made ++ []) b Over = record {
+          let whole : AnswersStretch state gave u link [] (made ++ []) b
+          (Over none_moved) = record {
             used = is.used;
             ends = Some e;
             later = is.later;
@@ -255,8 +297,7 @@ module _ {R W A C L : Type 0} (input : Input R) (output : Output W) (state : A �
           (sym rest.0)
           (subst (λ (m : List ℕ). AnswersStretch state gave u link [] (made ++ m) w last)
           (sym rest.1)
-          (subst (λ (x : World A C L). AnswersStretch state gave u link [] (made ++ []) x last)
-          (sym rest.2)
+          (left-answered u b w link [] (made ++ []) last rest.2
           (subst (λ (o : OtherEnd). AnswersStretch state gave u link [] (made ++ []) b o)
           (sym rest.3) whole)))
 
@@ -266,7 +307,7 @@ module _ {R W A C L : Type 0} (input : Input R) (output : Output W) (state : A �
       alone : (v w : World A C L) (link : ConnectionState)
           (old new : Slot OtherEnd R W ConversationEnding) (steps : List (Step ConversationEnding))
           → old.handler ≡ Client link → TakesAll steps
-          → AreOwnSteps input output (still_behavior state gave log) v old steps w new
+          → AreOwnSteps input output (still_behavior state gave told) v old steps w new
           → AnswersStretch state gave v link (bytes_received steps) (bytes_made steps) w new.handler
       alone v w link old new [] is taken own =
           none-answered gave_none v w link new.handler own.0
@@ -280,16 +321,16 @@ module _ {R W A C L : Type 0} (input : Input R) (output : Output W) (state : A �
           let behind = came-answered own.1 w link bytes (bytes_received steps)
           (bytes_made steps) new.handler on in
           same-answered v own.1 w link (bytes ++ bytes_received steps)
-          (made ++ bytes_made steps) new.handler (own.5.0 ∙ own.4)
+          (made ++ bytes_made steps) new.handler (stays-then v own.0 own.1 own.4 own.5.0)
           (subst (λ (m : List ℕ). AnswersStretch state gave own.1 link
           (bytes ++ bytes_received steps)
           (m ++ bytes_made steps) w new.handler) (sym got.0) behind)
       alone v w link old new (step.Answers made end ∷ steps) is taken own =
           let said = subst (λ (o : OtherEnd).
-          AnswersFirst state gave own.0 o made end own.1 own.3.handler) is own.5.answers in
+          AnswersFirst state gave told old.stay own.0 o made end own.1 own.3.handler) is own.5.answers in
           same-answered v own.0 w link (bytes_received steps)
           (made ++ bytes_made steps) new.handler own.4
-          (first-answered gave_more own.0 own.1 w link made (bytes_received steps)
+          (first-answered gave_more old.stay own.0 own.1 w link made (bytes_received steps)
           (bytes_made steps) end own.3.handler new.handler said
           (λ later goes. alone own.1 w later own.3 new steps goes taken.1 own.6)
           (λ over. still own.1 w own.3 new steps over
@@ -298,45 +339,45 @@ module _ {R W A C L : Type 0} (input : Input R) (output : Output W) (state : A �
           own.6))
       alone v w link old new (step.Lacks ∷ steps) is taken own =
           let said = subst (λ (o : OtherEnd).
-          AnswersFirst state gave own.0 o [] None own.1 own.3.handler) is own.5.answers in
+          AnswersFirst state gave told old.stay own.0 o [] None own.1 own.3.handler) is own.5.answers in
           same-answered v own.0 w link (bytes_received steps) (bytes_made steps) new.handler own.4
-          (first-answered gave_more own.0 own.1 w link [] (bytes_received steps)
+          (first-answered gave_more old.stay own.0 own.1 w link [] (bytes_received steps)
           (bytes_made steps) None own.3.handler new.handler said
           (λ later goes. alone own.1 w later own.3 new steps goes taken.1 own.6)
           (λ over. absurd (cc (said.leaves, over))))
       alone v w link old new (step.Writes bytes ∷ steps) is taken own =
           same-answered v own.1 w link (bytes_received steps) (bytes_made steps) new.handler
-          (own.5.0 ∙ own.4)
+          (stays-then v own.0 own.1 own.4 own.5.0)
           (alone own.1 w link own.3 new steps (ap
           (λ (s : Slot OtherEnd R W ConversationEnding). s.handler) own.5.1.others ∙ is) taken.1
           own.6)
       alone v w link old new (step.Stops ending ∷ steps) is taken own =
           same-answered v own.1 w link (bytes_received steps) (bytes_made steps) new.handler
-          (own.5.0 ∙ own.4)
+          (stays-then v own.0 own.1 own.4 own.5.0)
           (alone own.1 w link own.3 new steps (ap
           (λ (s : Slot OtherEnd R W ConversationEnding). s.handler) own.5.1.others ∙ is) taken.1
           own.6)
       alone v w link old new (step.FindsEmpty ∷ steps) is taken own =
           same-answered v own.1 w link (bytes_received steps) (bytes_made steps) new.handler
-          (own.5.0 ∙ own.4)
+          (stays-then v own.0 own.1 own.4 own.5.0)
           (alone own.1 w link own.3 new steps (ap
           (λ (s : Slot OtherEnd R W ConversationEnding). s.handler) own.5.1.others ∙ is) taken.1
           own.6)
       alone v w link old new (step.FindsFull ∷ steps) is taken own =
           same-answered v own.1 w link (bytes_received steps) (bytes_made steps) new.handler
-          (own.5.0 ∙ own.4)
+          (stays-then v own.0 own.1 own.4 own.5.0)
           (alone own.1 w link own.3 new steps (ap
           (λ (s : Slot OtherEnd R W ConversationEnding). s.handler) own.5.1.others ∙ is) taken.1
           own.6)
       alone v w link old new (step.Releases ∷ steps) is taken own =
           same-answered v own.1 w link (bytes_received steps) (bytes_made steps) new.handler
-          (own.5.0 ∙ own.4)
+          (stays-then v own.0 own.1 own.4 own.5.0)
           (alone own.1 w link own.3 new steps (ap
           (λ (s : Slot OtherEnd R W ConversationEnding). s.handler) own.5.1.others ∙ is) taken.1
           own.6)
       alone v w link old new (step.Wakes ∷ steps) is taken own =
           same-answered v own.1 w link (bytes_received steps) (bytes_made steps) new.handler
-          (own.5.0 ∙ own.4)
+          (stays-then v own.0 own.1 own.4 own.5.0)
           (alone own.1 w link own.3 new steps (ap
           (λ (s : Slot OtherEnd R W ConversationEnding). s.handler) own.5.1 ∙ is) taken.1 own.6)
 
@@ -346,7 +387,7 @@ module _ {R W A C L : Type 0} (input : Input R) (output : Output W) (state : A �
           → old.handler ≡ Unknown door letters → nat_lt (length letters) 3 ≡ true → TakesAll steps
           → 3 ≤ length (letters ++ bytes_received steps)
           → is_peers door (letters ++ bytes_received steps) ≡ false
-          → AreOwnSteps input output (still_behavior state gave log) v old steps w new
+          → AreOwnSteps input output (still_behavior state gave told) v old steps w new
           → AnswersStretch state gave v new_link (letters ++ bytes_received steps)
           (bytes_made steps) w new.handler
       from-letters v w door letters old new [] is few taken long client own =
@@ -374,7 +415,7 @@ module _ {R W A C L : Type 0} (input : Input R) (output : Output W) (state : A �
                 (with_more new_link (letters ++ bytes)) own.3 new steps (got.1 ∙ now) taken.1 own.6)
           ] in
           same-answered v own.1 w new_link (letters ++ (bytes ++ rest))
-          (made ++ bytes_made steps) new.handler (own.5.0 ∙ own.4)
+          (made ++ bytes_made steps) new.handler (stays-then v own.0 own.1 own.4 own.5.0)
           (subst (λ (came : List ℕ).
           AnswersStretch state gave own.1 new_link came (made ++ bytes_made steps) w new.handler)
           same
@@ -383,56 +424,56 @@ module _ {R W A C L : Type 0} (input : Input R) (output : Output W) (state : A �
       from-letters v w door letters old new
           (step.Answers made end ∷ steps) is few taken long client own =
           let said = subst (λ (o : OtherEnd).
-          AnswersFirst state gave own.0 o made end own.1 own.3.handler) is own.5.answers in
+          AnswersFirst state gave told old.stay own.0 o made end own.1 own.3.handler) is own.5.answers in
           let on = from-letters own.1 w door letters own.3 new steps said.3 few taken.1 long client
           own.6
           in
           same-answered v own.1 w new_link (letters ++ bytes_received steps)
-          (made ++ bytes_made steps) new.handler (said.2 ∙ own.4)
+          (made ++ bytes_made steps) new.handler (stays-then v own.0 own.1 own.4 said.2)
           (subst (λ (m : List ℕ). AnswersStretch state gave own.1 new_link
           (letters ++ bytes_received steps) (m ++ bytes_made steps) w new.handler)
           (sym said.0) on)
       from-letters v w door letters old new (step.Lacks ∷ steps) is few taken long client own =
           let said = subst (λ (o : OtherEnd).
-          AnswersFirst state gave own.0 o [] None own.1 own.3.handler) is own.5.answers in
+          AnswersFirst state gave told old.stay own.0 o [] None own.1 own.3.handler) is own.5.answers in
           same-answered v own.1 w new_link (letters ++ bytes_received steps)
-          (bytes_made steps) new.handler (said.2 ∙ own.4)
+          (bytes_made steps) new.handler (stays-then v own.0 own.1 own.4 said.2)
           (from-letters own.1 w door letters own.3 new steps said.3 few taken.1 long client own.6)
       from-letters v w door letters old new
           (step.Writes bytes ∷ steps) is few taken long client own =
           same-answered v own.1 w new_link (letters ++ bytes_received steps)
-          (bytes_made steps) new.handler (own.5.0 ∙ own.4)
+          (bytes_made steps) new.handler (stays-then v own.0 own.1 own.4 own.5.0)
           (from-letters own.1 w door letters own.3 new steps
           (ap (λ (s : Slot OtherEnd R W ConversationEnding). s.handler) own.5.1.others ∙ is) few
           taken.1 long client own.6)
       from-letters v w door letters old new
           (step.Stops ending ∷ steps) is few taken long client own =
           same-answered v own.1 w new_link (letters ++ bytes_received steps)
-          (bytes_made steps) new.handler (own.5.0 ∙ own.4)
+          (bytes_made steps) new.handler (stays-then v own.0 own.1 own.4 own.5.0)
           (from-letters own.1 w door letters own.3 new steps
           (ap (λ (s : Slot OtherEnd R W ConversationEnding). s.handler) own.5.1.others ∙ is) few
           taken.1 long client own.6)
       from-letters v w door letters old new (step.FindsEmpty ∷ steps) is few taken long client own =
           same-answered v own.1 w new_link (letters ++ bytes_received steps)
-          (bytes_made steps) new.handler (own.5.0 ∙ own.4)
+          (bytes_made steps) new.handler (stays-then v own.0 own.1 own.4 own.5.0)
           (from-letters own.1 w door letters own.3 new steps
           (ap (λ (s : Slot OtherEnd R W ConversationEnding). s.handler) own.5.1.others ∙ is) few
           taken.1 long client own.6)
       from-letters v w door letters old new (step.FindsFull ∷ steps) is few taken long client own =
           same-answered v own.1 w new_link (letters ++ bytes_received steps)
-          (bytes_made steps) new.handler (own.5.0 ∙ own.4)
+          (bytes_made steps) new.handler (stays-then v own.0 own.1 own.4 own.5.0)
           (from-letters own.1 w door letters own.3 new steps
           (ap (λ (s : Slot OtherEnd R W ConversationEnding). s.handler) own.5.1.others ∙ is) few
           taken.1 long client own.6)
       from-letters v w door letters old new (step.Releases ∷ steps) is few taken long client own =
           same-answered v own.1 w new_link (letters ++ bytes_received steps)
-          (bytes_made steps) new.handler (own.5.0 ∙ own.4)
+          (bytes_made steps) new.handler (stays-then v own.0 own.1 own.4 own.5.0)
           (from-letters own.1 w door letters own.3 new steps
           (ap (λ (s : Slot OtherEnd R W ConversationEnding). s.handler) own.5.1.others ∙ is) few
           taken.1 long client own.6)
       from-letters v w door letters old new (step.Wakes ∷ steps) is few taken long client own =
           same-answered v own.1 w new_link (letters ++ bytes_received steps)
-          (bytes_made steps) new.handler (own.5.0 ∙ own.4)
+          (bytes_made steps) new.handler (stays-then v own.0 own.1 own.4 own.5.0)
           (from-letters own.1 w door letters own.3 new steps
           (ap (λ (s : Slot OtherEnd R W ConversationEnding). s.handler) own.5.1 ∙ is) few taken.1
           long client own.6)

@@ -12,7 +12,9 @@ use Rattle.conversation.specs.declared.world.World.{World}
 use Rattle.conversation.specs.OtherEnds.{ConversationEnding, known_by, unless_over}
 use Rattle.conversation.specs.Receiving.{TakesBytes}
 use Rattle.conversation.specs.Answering.{AnswersFirst}
+use Rattle.conversation.specs.Events.{Telling}
 use Rattle.conversation.specs.ClientsDoors.{IsAtClientsDoor}
+use Rattle.multiplex.specs.declared.stay.Stay.{Stay}
 
 -- who is known by these bytes
 known-client : (door : Door) (came : List ℕ) → door ≡ Clients → IsAtClientsDoor (known_by door came)
@@ -40,19 +42,20 @@ bytes-at-door (Client link) new bytes made None at takes = subst IsAtClientsDoor
 bytes-at-door (Peer peer) new bytes made None at takes = absurd at
 bytes-at-door (Browser web) new bytes made None at takes = subst IsAtClientsDoor (sym takes.1) tt
 bytes-at-door Stranger new bytes made None at takes = subst IsAtClientsDoor (sym takes.1) tt
-bytes-at-door Over new bytes made None at takes = subst IsAtClientsDoor (sym takes.1) tt
+bytes-at-door (Over moved) new bytes made None at takes = subst IsAtClientsDoor (sym takes.1) tt
 
 pub answer-at-door : {A C L : Type 0} (state : A → Store) (gave : C → List ℤ → C → Type 0)
-    (v w : World A C L) (old new : OtherEnd) (made : List ℕ) (ending : Option ConversationEnding)
-    → IsAtClientsDoor old → AnswersFirst state gave v old made ending w new → IsAtClientsDoor new
-answer-at-door state gave v w (Unknown door letters) new made ending at answers =
+    (told : Telling L) (stay : Stay) (v w : World A C L) (old new : OtherEnd) (made : List ℕ)
+    (ending : Option ConversationEnding) → IsAtClientsDoor old
+    → AnswersFirst state gave told stay v old made ending w new → IsAtClientsDoor new
+answer-at-door state gave told stay v w (Unknown door letters) new made ending at answers =
     subst IsAtClientsDoor (sym answers.3) at
-answer-at-door state gave v w (Client link) new made ending at answers =
+answer-at-door state gave told stay v w (Client link) new made ending at answers =
     subst IsAtClientsDoor (sym answers.leaves) (left ending (Client answers.later) tt)
-answer-at-door state gave v w (Peer peer) new made ending at answers = absurd at
-answer-at-door state gave v w (Browser web) new made ending at answers =
+answer-at-door state gave told stay v w (Peer peer) new made ending at answers = absurd at
+answer-at-door state gave told stay v w (Browser web) new made ending at answers =
     subst IsAtClientsDoor (sym answers.leaves) (left ending (Browser answers.later) tt)
-answer-at-door state gave v w Stranger new made ending at answers =
+answer-at-door state gave told stay v w Stranger new made ending at answers =
     subst IsAtClientsDoor (sym answers.3) tt
-answer-at-door state gave v w Over new made ending at answers =
+answer-at-door state gave told stay v w (Over moved) new made ending at answers =
     subst IsAtClientsDoor (sym answers.3) tt

@@ -19,14 +19,18 @@ use Rattle.conversation.specs.declared.door.Door.{Door}
 use Rattle.conversation.specs.Doors.{is_peers}
 use Rattle.conversation.specs.OtherEnds.{ConversationEnding, unless_over}
 use Rattle.conversation.specs.Answering.{client_ending}
-use Rattle.conversation.specs.Closing.{LogCalls}
+use Rattle.conversation.specs.Events.{Telling}
 use Rattle.conversation.specs.Conversing.{behavior_over}
 
--- what is said on a connection between whose steps the world stays
+-- what answers are made by stays; the log, the time, and what is known of logins may change
+abbrev pub StaysStill : {A C L : Type 0} → World A C L → World A C L → Type 0
+StaysStill v w = (w.server ≡ v.server) × (w.clock ≡ v.clock)
+
+-- what is said on a connection between whose steps the server and its clock stay
 abbrev pub still_behavior : {A C L : Type 0} → (A → Store) → (C → List ℤ → C → Type 0)
-    → LogCalls L → Behavior OtherEnd (World A C L) ConversationEnding
-still_behavior state gave log =
-    let behavior = behavior_over state gave log in record behavior { moves = λ v w. w ≡ v }
+    → Telling L → Behavior OtherEnd (World A C L) ConversationEnding
+still_behavior state gave told =
+    let behavior = behavior_over state gave told in record behavior { moves = StaysStill }
 
 -- memory for all that came was there
 abbrev pub TakesAll : List (Step ConversationEnding) → Type 0
@@ -57,10 +61,10 @@ pub record AnswersStretch {A C L : Type 0} (state : A → Store) (gave : C → L
 -- while nobody else changes the world a client is answered, from its first byte on, as on a
 -- connection of its own
 abbrev pub ClientAloneIsAnswered : {R W A C L : Type 0} → Input R → Output W → (A → Store)
-    → (C → List ℤ → C → Type 0) → LogCalls L → Type 0
-ClientAloneIsAnswered {R} {W} {A} {C} {L} input output state gave log =
+    → (C → List ℤ → C → Type 0) → Telling L → Type 0
+ClientAloneIsAnswered {R} {W} {A} {C} {L} input output state gave told =
     (v w : World A C L) (old new : Slot OtherEnd R W ConversationEnding) (door : Door)
     (steps : List (Step ConversationEnding)) → old.handler ≡ Unknown door []
     → AreOfClient door steps
-    → AreOwnSteps input output (still_behavior state gave log) v old steps w new
+    → AreOwnSteps input output (still_behavior state gave told) v old steps w new
     → AnswersStretch state gave v new_link (bytes_received steps) (bytes_made steps) w new.handler

@@ -1,5 +1,5 @@
 -- What stands first on a connection, and what it is answered.
-use Rattle.std.specs.Prelude.{◌≡◌, ◌⊎◌, ℕ, ℤ, ◌+◌, ◌≤◌, List, [], Option, None, Some, Result, Ok, Err}
+use Rattle.std.specs.Prelude.{◌≡◌, ◌⊎◌, ℕ, ℤ, Bool, true, false, ◌+◌, ◌≤◌, List, [], Option, None, Some, Result, Ok, Err}
 use Rattle.std.specs.Option.{option_map}
 use Rattle.std.specs.Result.{result_map_both}
 use Rattle.archive.specs.Store.{Store}
@@ -18,10 +18,13 @@ use Rattle.conversation.specs.declared.other_end.OtherEnd.{OtherEnd}
 use Rattle.conversation.specs.declared.other_end.OtherEnd.TheVariants.{Client, Peer, Browser, Stranger, Over}
 use Rattle.conversation.specs.declared.world.World.{World}
 use Rattle.conversation.specs.Admitting.{IsTimed, IsAdmitted, Refuses}
-use Rattle.conversation.specs.OtherEnds.{ConversationEnding, peer_at, unless_over}
+use Rattle.multiplex.specs.declared.stay.Stay.{Stay}
+use Rattle.conversation.specs.Events.{Telling, Denied, audited_by, LogsAudit}
+use Rattle.conversation.specs.Logins.{after_audit, after_step, is_denied, unheld}
+use Rattle.conversation.specs.OtherEnds.{ConversationEnding, none_moved, peer_at, unless_over}
 use Rattle.std.specs.declared.alloc.AllocError.{AllocError}
 use Rattle.web_connection.specs.declared.step.WebStep.{WebStep}
-use Rattle.web_connection.specs.declared.step.WebStep.TheVariants.{Ended}
+use Rattle.web_connection.specs.declared.step.WebStep.TheVariants.{Ended, Denied as WebDenied}
 use Rattle.web_connection.specs.Answers.{WebState, AnswersWeb, NeedsRequest}
 
 -- nothing whole stands first; with a stranger it is over, so nothing is waited for
@@ -43,17 +46,20 @@ abbrev pub peer_ending : Option (Result PeerEnded ServeFault) → Option Convers
 peer_ending = option_map (result_map_both ended.Peer (λ fault. fault))
 
 -- what stood first on a client's connection was answered, by one step over an archive; what the
--- server is set to stays, and nothing is told
+-- server is set to stays, and what was done in a session is told
 pub record AnswersClient {A C L : Type 0} (state : A → Store) (gave : C → List ℤ → C → Type 0)
-    (v : World A C L) (link : ConnectionState) (made : List ℕ) (ending : Option ConversationEnding)
-    (w : World A C L) (next : OtherEnd) : Type 0 where
+    (told : Telling L) (stay : Stay) (v : World A C L) (link : ConnectionState) (made : List ℕ)
+    (ending : Option ConversationEnding) (w : World A C L) (next : OtherEnd) : Type 0 where
   pub used : Environment
   pub ends : Option ClientEnding
   pub later : ConnectionState
   pub settings : w.server.settings ≡ v.server.settings
   pub clock : gave v.clock used.readings w.clock
-  pub log : w.log ≡ v.log
+  pub log : LogsAudit told stay (audited_by link.client.sessions later.client.sessions) v.log w.log
+  pub logins : w.logins ≡ after_audit v.server.settings.logins stay v.now
+      (audited_by link.client.sessions later.client.sessions) v.logins
   pub from : w.from ≡ v.from
+  pub now : w.now ≡ v.now
   pub advances : Advances v.server.settings (state v.server.replica.archive)
       (state w.server.replica.archive) link used made ends later
   pub ended_so : ending ≡ client_ending ends
@@ -81,7 +87,9 @@ pub record AnswersPeer {A C L : Type 0} (state : A → Store) (gave : C → List
   pub clock : gave v.clock readings w.clock
   pub timed : IsTimed v.server.settings readings time
   pub log : w.log ≡ v.log
+  pub logins : w.logins ≡ unheld v.logins
   pub from : w.from ≡ v.from
+  pub now : w.now ≡ v.now
   pub admitted : IsAdmitted v.server.settings time (party_of (state v.server.replica.archive))
       peer.frames.waiting
   pub talks : Talks peer.dialog (state v.server.replica.archive) (state w.server.replica.archive)
@@ -104,7 +112,9 @@ pub record RefusesPeer {A C L : Type 0} (state : A → Store) (gave : C → List
   pub clock : gave v.clock readings w.clock
   pub timed : IsTimed v.server.settings readings time
   pub log : w.log ≡ v.log
+  pub logins : w.logins ≡ unheld v.logins
   pub from : w.from ≡ v.from
+  pub now : w.now ≡ v.now
   pub refuses : Refuses v.server.settings time (party_of (state v.server.replica.archive))
       peer.frames.waiting said ends
   pub tells : Tells said ends made ending
@@ -121,21 +131,29 @@ MeetsPeer state gave v peer made ending w next =
 abbrev pub web_ending : Result WebStep AllocError → Option ConversationEnding
 web_ending step = elim step [
   | Ok Ended ↦ Some (Ok ended.Browser)
+  | Ok WebDenied ↦ Some (Ok ended.Browser)
   | Ok _ ↦ None
   | Err _ ↦ Some (Err OutOfMemory)
 ]
 
+-- a log was told that a browser was denied what it asked for, if it was
+abbrev pub LogsDenial : {L : Type 0} → Telling L → Stay → (denied : Bool) → L → L → Type 0
+LogsDenial told stay true old new = told old (Denied stay) new
+LogsDenial told stay false old new = new ≡ old
+
 -- what stood first on a browser's connection was answered, by one step over an archive, which stays
--- as it is; all else stays too, and nothing is told
-pub record AnswersBrowser {A C L : Type 0} (state : A → Store) (v : World A C L) (web : WebState)
-    (made : List ℕ) (ending : Option ConversationEnding) (w : World A C L) (next : OtherEnd)
-    : Type 0 where
+-- as it is; that it was denied what it asked for is told
+pub record AnswersBrowser {A C L : Type 0} (state : A → Store) (told : Telling L) (stay : Stay)
+    (v : World A C L) (web : WebState) (made : List ℕ) (ending : Option ConversationEnding)
+    (w : World A C L) (next : OtherEnd) : Type 0 where
   pub step : Result WebStep AllocError
   pub later : WebState
   pub settings : w.server.settings ≡ v.server.settings
   pub clock : w.clock ≡ v.clock
-  pub log : w.log ≡ v.log
+  pub log : LogsDenial told stay (is_denied step) v.log w.log
+  pub logins : w.logins ≡ after_step v.server.settings.logins stay v.now step v.logins
   pub from : w.from ≡ v.from
+  pub now : w.now ≡ v.now
   pub answers : AnswersWeb v.server.settings (state v.server.replica.archive)
       (state w.server.replica.archive) web made step later
   pub ended_so : ending ≡ web_ending step
@@ -145,16 +163,18 @@ pub record AnswersBrowser {A C L : Type 0} (state : A → Store) (v : World A C 
 abbrev pub TurnsAway : {A C L : Type 0} → World A C L → (made : List ℕ)
     → Option ConversationEnding → World A C L → OtherEnd → Type 0
 TurnsAway v made ending w new =
-    (made ≡ []) × (ending ≡ Some (Ok ended.Stranger)) × (w ≡ v) × (new ≡ Over)
+    (made ≡ []) × (ending ≡ Some (Ok ended.Stranger)) × (w ≡ v)
+    × (new ≡ Over none_moved)
 
 -- what stood first was answered over a world, if it was whole; a stranger is turned away, and where
 -- nobody is known nothing is answered
-abbrev pub AnswersFirst : {A C L : Type 0} → (A → Store) → (C → List ℤ → C → Type 0) → World A C L
-    → OtherEnd → (made : List ℕ) → Option ConversationEnding → World A C L → OtherEnd → Type 0
-AnswersFirst state gave v other made ending w new = elim other [
-  | Client link ↦ AnswersClient state gave v link made ending w new
+abbrev pub AnswersFirst : {A C L : Type 0} → (A → Store) → (C → List ℤ → C → Type 0) → Telling L
+    → Stay → World A C L → OtherEnd → (made : List ℕ) → Option ConversationEnding → World A C L
+    → OtherEnd → Type 0
+AnswersFirst state gave told stay v other made ending w new = elim other [
+  | Client link ↦ AnswersClient state gave told stay v link made ending w new
   | Peer peer ↦ MeetsPeer state gave v peer made ending w new
-  | Browser web ↦ AnswersBrowser state v web made ending w new
+  | Browser web ↦ AnswersBrowser state told stay v web made ending w new
   | Stranger ↦ TurnsAway v made ending w new
   | same ↦ (made ≡ []) × (ending ≡ None) × (w ≡ v) × (new ≡ same)
 ]

@@ -1,9 +1,9 @@
--- What is told of connections: how each ended, that one failed before it could be used, and that a
--- turn of one took long.
+-- What is told of connections: how each ended, and that a turn of one took long.
 use Rattle.std.specs.Prelude.{◌≡◌, ℕ, nat_le, Bool, true, false, List, Option, None, Some, Result, Ok, Err, slice_get}
 use Rattle.std.specs.Option.{option_map_or}
 use Rattle.multiplex.specs.declared.handler.SlotEnd.{SlotEnd}
 use Rattle.multiplex.specs.declared.handler.SlotEnd.TheVariants.{Finished, EndOfInput, ReadFailed, WriteFailed, IdleTimeout, Displaced}
+use Rattle.multiplex.specs.declared.stay.Stay.{Stay}
 use Rattle.multiplex.specs.declared.stay.Party.{Party}
 use Rattle.multiplex.specs.declared.stay.Party.TheVariants.{Accepted, Called}
 use Rattle.exchange.specs.declared.fault.ExchangeFault.TheVariants.{Frame}
@@ -13,21 +13,15 @@ use Rattle.ua_peers.specs.declared.peers.PeerEnded.{PeerEnded}
 use Rattle.ua_peers.specs.declared.peers.PeerEnded.TheVariants as parted
 use Rattle.ua_peers.specs.declared.calling.SyncFault.{SyncFault}
 use Rattle.ua_peers.specs.declared.calling.SyncFault.TheVariants.{Connection, Exchange, Peer}
+use Rattle.ua_peers.specs.declared.calling.Synced.{Synced}
 use Rattle.ua_settings.specs.declared.peers.PeerCall.{PeerCall}
 use Rattle.ua_settings.specs.Settings.{SettingsValues}
 use Rattle.conversation.specs.declared.ended.Ended.TheVariants as ended
 use Rattle.conversation.specs.declared.other_end.OtherEnd.{OtherEnd}
 use Rattle.conversation.specs.declared.world.World.{World}
-use Rattle.conversation.specs.OtherEnds.{ConversationEnding}
-
--- what the calls of a log do: it was told that a connection ended by this fault; that one failed at
--- this time before it could be used; how a call of a peer ended, of this number and address; and
--- how many milliseconds the longest turn so far took
-pub record LogCalls (L : Type 0) : Type 1 where
-  pub told : L → ServeFault → L → Type 0
-  pub told_failed : L → (now : ℕ) → L → Type 0
-  pub told_call : L → (callee : ℕ) → (address : List ℕ) → Result (Unit {0}) SyncFault → L → Type 0
-  pub told_turn : L → (longest : ℕ) → L → Type 0
+use Rattle.conversation.specs.declared.log.Parting.{Parting}
+use Rattle.conversation.specs.OtherEnds.{ConversationEnding, moved_by}
+use Rattle.conversation.specs.Events.{Telling, Logs, CallEnded, Parted, TurnTook}
 
 -- the fault by which a connection ended, if it did; one that was silent for too long, or made place
 -- for another, ended as by a read that failed
@@ -59,58 +53,53 @@ call_outcome EndOfInput = Err (Exchange Frame)
 call_outcome WriteFailed = Err (Connection Write)
 call_outcome other = Err (Connection Read)
 
--- the log alone changed, and so
-abbrev pub ChangesLog : {A C L : Type 0} → (L → L → Type 0) → World A C L → World A C L → Type 0
-ChangesLog so v w = (w ≡ record v { log = w.log }) × so v.log w.log
-
 -- it was told how a call of a peer ended, of this number, if there is one
-abbrev pub TellsCallOf : {A C L : Type 0} → LogCalls L → World A C L → (callee : ℕ)
-    → Result (Unit {0}) SyncFault → World A C L → Option PeerCall → Type 0
-TellsCallOf calls v callee outcome w None = w ≡ v
-TellsCallOf calls v callee outcome w (Some peer) =
-    ChangesLog (λ old new. calls.told_call old callee peer.address outcome new) v w
+abbrev pub TellsCallOf : {A C L : Type 0} → Telling L → World A C L → (callee : ℕ)
+    → Result (Unit {0}) SyncFault → Synced → World A C L → Option PeerCall → Type 0
+TellsCallOf told v callee outcome moved w None = w ≡ v
+TellsCallOf told v callee outcome moved w (Some peer) =
+    Logs told (CallEnded callee peer.address outcome moved) v w
 
 -- it was told how a call of the peer of this number in the settings ended, if there is one
-abbrev pub TellsCall : {A C L : Type 0} → LogCalls L → World A C L → (callee : ℕ)
-    → Result (Unit {0}) SyncFault → World A C L → Type 0
-TellsCall calls v callee outcome w =
-    TellsCallOf calls v callee outcome w (slice_get v.server.settings.peers callee)
+abbrev pub TellsCall : {A C L : Type 0} → Telling L → World A C L → (callee : ℕ)
+    → Result (Unit {0}) SyncFault → Synced → World A C L → Type 0
+TellsCall told v callee outcome moved w =
+    TellsCallOf told v callee outcome moved w (slice_get v.server.settings.peers callee)
 
--- it was told by which fault a connection ended, if it did
-abbrev pub TellsFaultOf : {A C L : Type 0} → LogCalls L → World A C L → World A C L
-    → Option ServeFault → Type 0
-TellsFaultOf calls v w None = w ≡ v
-TellsFaultOf calls v w (Some fault) = ChangesLog (λ old new. calls.told old fault new) v w
+-- how a connection that was accepted, of which this is known, ended at this time
+abbrev pub parting_of : Stay → (at : ℕ) → SlotEnd ConversationEnding → Synced → Parting
+parting_of stay at ending moved =
+    record { stay = stay; at = at; ending = ending; moved = moved }
 
--- the number of the peer that was called, if the connection is a call
-abbrev pub callee_of : Party → Option ℕ
-callee_of party = elim party [ Called callee ↦ Some callee | Accepted origin ↦ None ]
+-- it was told how a connection of this party ended, and of a call how that ended
+abbrev pub TellsEndOf : {A C L : Type 0} → Telling L → Stay → World A C L → OtherEnd
+    → SlotEnd ConversationEnding → World A C L → Party → Type 0
+TellsEndOf told stay v other ending w (Called callee) =
+    TellsCall told v callee (call_outcome ending) (moved_by other) w
+TellsEndOf told stay v other ending w (Accepted origin) =
+    Logs told (Parted (parting_of stay v.now ending (moved_by other))) v w
 
--- it was told how a connection that was accepted ended, if it ended by a fault: of a peer's dialog
--- nothing, since the peer was told; of a call it was told how that ended
-abbrev pub TellsEnd : {A C L : Type 0} → LogCalls L → (callee : Option ℕ) → World A C L → OtherEnd
+-- the same of a connection of which this is known
+abbrev pub TellsEnd : {A C L : Type 0} → Telling L → Stay → World A C L → OtherEnd
     → SlotEnd ConversationEnding → World A C L → Type 0
-TellsEnd calls (Some callee) v other ending w = TellsCall calls v callee (call_outcome ending) w
-TellsEnd calls None v other ending w = TellsFaultOf calls v w (connection_fault ending)
+TellsEnd told stay v other ending w = TellsEndOf told stay v other ending w stay.party
 
--- it was told that a connection failed before it could be used
-abbrev pub TellsFailed : {A C L : Type 0} → LogCalls L → World A C L → (now : ℕ) → World A C L
-    → Type 0
-TellsFailed calls v now w = ChangesLog (λ old new. calls.told_failed old now new) v w
+-- it is this time for all connections
+abbrev pub at_time : {A C L : Type 0} → World A C L → (now : ℕ) → World A C L
+at_time v now = record v { now = now }
 
 -- a turn of so many milliseconds is told by these settings: it takes as many as they say, or more
 abbrev pub is_slow : SettingsValues → (turn : ℕ) → Bool
 is_slow settings turn = option_map_or (λ least. nat_le least turn) settings.slow false
 
 -- how long the longest turn so far took was told, where it is slow
-abbrev pub TellsTurnOf : {A C L : Type 0} → LogCalls L → World A C L → (longest : ℕ)
+abbrev pub TellsTurnOf : {A C L : Type 0} → Telling L → World A C L → (longest : ℕ)
     → World A C L → (slow : Bool) → Type 0
-TellsTurnOf calls v longest w true =
-    ChangesLog (λ old new. calls.told_turn old longest new) v w
-TellsTurnOf calls v longest w false = w ≡ v
+TellsTurnOf told v longest w true = Logs told (TurnTook longest) v w
+TellsTurnOf told v longest w false = w ≡ v
 
 -- the same, where the settings want a turn told that took so long
-abbrev pub TellsTurn : {A C L : Type 0} → LogCalls L → World A C L → (longest : ℕ) → World A C L
+abbrev pub TellsTurn : {A C L : Type 0} → Telling L → World A C L → (longest : ℕ) → World A C L
     → Type 0
-TellsTurn calls v longest w =
-    TellsTurnOf calls v longest w (is_slow v.server.settings longest)
+TellsTurn told v longest w =
+    TellsTurnOf told v longest w (is_slow v.server.settings longest)

@@ -1,5 +1,5 @@
 -- What is said on a connection, as the loop over many of them knows it.
-use Rattle.std.specs.Prelude.{◌≡◌, ◌&&◌, ℤ, List, [], Bool, Option, if◌then◌else◌}
+use Rattle.std.specs.Prelude.{◌≡◌, ◌&&◌, ℤ, List, [], Bool, Option, None, if◌then◌else◌}
 use Rattle.archive.specs.Store.{Store}
 use Rattle.multiplex.specs.Behavior.{Behavior}
 use Rattle.multiplex.specs.declared.stay.Origin.{Origin}
@@ -13,7 +13,10 @@ use Rattle.conversation.specs.Doors.{door_of_listener, is_stranger}
 use Rattle.conversation.specs.OtherEnds.{ConversationEnding, is_established}
 use Rattle.conversation.specs.Receiving.{TakesBytes}
 use Rattle.conversation.specs.Answering.{IsIncomplete, AnswersFirst}
-use Rattle.conversation.specs.Closing.{LogCalls, callee_of, TellsEnd, TellsFailed, TellsTurn}
+use Rattle.conversation.specs.Closing.{TellsEnd, TellsTurn, at_time}
+use Rattle.conversation.specs.Events.{Telling, Logs, Connected, AcceptFailed}
+use Rattle.conversation.specs.Logins.{delay_of, no_logins}
+use Rattle.historian.specs.declared.server.Server.{Server}
 use Rattle.conversation.specs.Starting.{StartsCall}
 use Rattle.conversation.specs.Moves.{Moves}
 
@@ -25,28 +28,39 @@ first_end from origin =
       | door ↦ Unknown door []
     ]
 
+-- what connections share that haven't begun: peers are taken from everywhere, and no refused login
+-- is kept
+abbrev pub new_world : {A C L : Type 0} → Server A → C → L → World A C L
+new_world server clock log = record {
+  server = server;
+  clock = clock;
+  log = log;
+  from = None;
+  now = 0;
+  logins = no_logins 0;
+}
+
 -- the store is broken, and the settings say that nobody is served then
 abbrev pub serves_nobody : {A C L : Type 0} → (A → Store) → World A C L → Bool
 serves_nobody state w =
     w.server.settings.ends_broken && (state w.server.replica.archive).broken
 
 -- a connection begins with a stranger, with a browser, or with nobody known at its other end, at
--- the
--- door of its listener, or is a call of a peer; no answer waits, and nothing hangs on the time but
--- that a long
--- turn is told
+-- the door of its listener, which is told, or is a call of a peer; answers to logins may wait; what
+-- time it is is kept, and a long turn is told
 abbrev pub behavior_over : {A C L : Type 0} → (A → Store) → (C → List ℤ → C → Type 0)
-    → LogCalls L → Behavior OtherEnd (World A C L) ConversationEnding
-behavior_over state gave log = record {
-  passes = λ v now longest_turn w. TellsTurn log v longest_turn w;
+    → Telling L → Behavior OtherEnd (World A C L) ConversationEnding
+behavior_over state gave told = record {
+  passes = λ v now longest_turn w. TellsTurn told (at_time v now) longest_turn w;
   is_over = serves_nobody state;
-  begins = λ origin v other w. (other ≡ first_end v.from origin) × (w ≡ v);
-  calls = StartsCall state log;
+  begins = λ origin v other w.
+      (other ≡ first_end v.from origin) × Logs told (Connected origin) v w;
+  calls = StartsCall state told;
   receives = TakesBytes;
-  answers = λ stay. AnswersFirst state gave;
-  delay = λ stay v other. 0;
-  closes = λ stay. TellsEnd log (callee_of stay.party);
-  fails_accept = TellsFailed log;
+  answers = AnswersFirst state gave told;
+  delay = λ stay v other. delay_of v.logins;
+  closes = TellsEnd told;
+  fails_accept = λ v now w. Logs told (AcceptFailed now) v w;
   needs_more = IsIncomplete;
   is_established = is_established;
   moves = Moves state;

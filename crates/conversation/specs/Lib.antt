@@ -1,6 +1,8 @@
 pub mod Networks
 pub mod Doors
 pub mod OtherEnds
+pub mod Events
+pub mod Logins
 pub mod Receiving
 pub mod Admitting
 pub mod Answering

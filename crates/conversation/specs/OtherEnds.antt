@@ -6,6 +6,7 @@ use Rattle.ua_session.specs.Sessions.{has_user}
 use Rattle.ua_connection.specs.Client.{new_client}
 use Rattle.ua_peers.specs.Peers.{responding}
 use Rattle.ua_peers.specs.Talking.{IsReady}
+use Rattle.ua_peers.specs.declared.calling.Synced.{Synced}
 use Rattle.conversation.specs.declared.ended.Ended.{Ended}
 use Rattle.conversation.specs.declared.door.Door.{Door}
 use Rattle.conversation.specs.declared.other_end.PeerDialog.{PeerDialog}
@@ -44,12 +45,24 @@ with_bytes other bytes = elim other [
   })
   | Browser web ↦ Browser (with_input web bytes)
   | Stranger ↦ Stranger
-  | Over ↦ Over
+  | Over moved ↦ Over moved
+]
+
+-- no record
+abbrev pub none_moved : Synced
+none_moved = record { learned = 0; sent = 0 }
+
+-- how many records were moved by its dialog; none where it is no peer
+abbrev pub moved_by : OtherEnd → Synced
+moved_by other = elim other [
+  | Peer peer ↦ record { learned = peer.dialog.learned; sent = peer.dialog.sent }
+  | Over moved ↦ moved
+  | _ ↦ none_moved
 ]
 
 -- the other end behind an answer, which may have ended the connection
 abbrev pub unless_over : Option ConversationEnding → OtherEnd → OtherEnd
-unless_over ending other = elim ending [ None ↦ other | Some end ↦ Over ]
+unless_over ending other = elim ending [ None ↦ other | Some end ↦ Over (moved_by other) ]
 
 -- a session of it was activated, or a whole frame of it came
 abbrev pub is_established : OtherEnd → Bool

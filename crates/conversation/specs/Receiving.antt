@@ -11,7 +11,7 @@ use Rattle.conversation.specs.declared.ended.Ended.{Ended}
 use Rattle.conversation.specs.declared.ended.Ended.TheVariants as ended
 use Rattle.conversation.specs.declared.other_end.OtherEnd.{OtherEnd}
 use Rattle.conversation.specs.declared.other_end.OtherEnd.TheVariants.{Peer, Over}
-use Rattle.conversation.specs.OtherEnds.{ConversationEnding, with_bytes}
+use Rattle.conversation.specs.OtherEnds.{ConversationEnding, moved_by, with_bytes}
 
 -- it is known to be a peer
 abbrev pub is_peer : OtherEnd → Bool
@@ -36,4 +36,5 @@ TellsStarved other made (Err fault) = (made ≡ []) × (fault ≡ OutOfMemory)
 abbrev pub TakesBytes : OtherEnd → List ℕ → (made : List ℕ) → Option ConversationEnding
     → OtherEnd → Type 0
 TakesBytes old bytes made None new = (made ≡ []) × (new ≡ with_bytes old bytes)
-TakesBytes old bytes made (Some ending) new = TellsStarved old made ending × (new ≡ Over)
+TakesBytes old bytes made (Some ending) new =
+    TellsStarved old made ending × (new ≡ Over (moved_by old))

@@ -9,8 +9,9 @@ use Rattle.ua_peers.specs.Calling.{calling}
 use Rattle.conversation.specs.declared.other_end.OtherEnd.{OtherEnd}
 use Rattle.conversation.specs.declared.other_end.OtherEnd.TheVariants.{Peer}
 use Rattle.conversation.specs.declared.world.World.{World}
-use Rattle.conversation.specs.OtherEnds.{peer_at}
-use Rattle.conversation.specs.Closing.{LogCalls, TellsCall}
+use Rattle.conversation.specs.OtherEnds.{none_moved, peer_at}
+use Rattle.conversation.specs.Events.{Telling}
+use Rattle.conversation.specs.Closing.{TellsCall}
 
 -- the frame that asks was made, and is to be written; or a fault came, or memory to keep the frame
 -- was wanting, and nothing is
@@ -21,16 +22,16 @@ AsksPeer old new made result =
     × (result ≡ Err OutOfMemory))
 
 -- a dialog is begun; or that it can't be is told, as the end of the call
-abbrev pub BeginsBy : {A C L : Type 0} → LogCalls L → (callee : ℕ) → World A C L
+abbrev pub BeginsBy : {A C L : Type 0} → Telling L → (callee : ℕ) → World A C L
     → Option OtherEnd → World A C L → Result (Unit {0}) ExchangeFault → Type 0
-BeginsBy calls callee v other w (Ok done) =
+BeginsBy told callee v other w (Ok done) =
     (other ≡ Some (Peer (peer_at calling []))) × (w ≡ v)
-BeginsBy calls callee v other w (Err fault) =
-    (other ≡ None) × TellsCall calls v callee (Err (Exchange fault)) w
+BeginsBy told callee v other w (Err fault) =
+    (other ≡ None) × TellsCall told v callee (Err (Exchange fault)) none_moved w
 
 -- a peer is called, as the initiator of a dialog, over an archive; where that can't be, it is told,
 -- as the end of the call; what the server is set to stays, and the time isn't asked for
-pub record StartsCall {A C L : Type 0} (state : A → Store) (calls : LogCalls L) (callee : ℕ)
+pub record StartsCall {A C L : Type 0} (state : A → Store) (told : Telling L) (callee : ℕ)
     (v : World A C L) (made : List ℕ) (other : Option OtherEnd) (w : World A C L) : Type 0 where
   pub between : World A C L
   pub result : Result (Unit {0}) ExchangeFault
@@ -38,6 +39,8 @@ pub record StartsCall {A C L : Type 0} (state : A → Store) (calls : LogCalls L
   pub clock : between.clock ≡ v.clock
   pub log : between.log ≡ v.log
   pub from : between.from ≡ v.from
+  pub now : between.now ≡ v.now
+  pub logins : between.logins ≡ v.logins
   pub asks : AsksPeer (state v.server.replica.archive) (state between.server.replica.archive) made
       result
-  pub begins : BeginsBy calls callee between other w result
+  pub begins : BeginsBy told callee between other w result

@@ -14,23 +14,29 @@ ghost use Rattle.exchange.specs.declared.message.State.{State as Standing};
 ghost use Rattle.ua_peers.specs.Peers.{ended_as, is_silent};
 ghost use Rattle.conversation.specs.Admitting.{IsAdmitted, Refuses};
 ghost use Rattle.conversation.specs.OtherEnds.{unless_over, is_established, IsUsable};
-ghost use Rattle.conversation.specs.Answering.{IsIncomplete, client_ending, peer_ending, web_ending, AnswersClient, MeetsPeer, AnswersBrowser, AnswersFirst};
+ghost use Rattle.conversation.specs.Answering.{IsIncomplete, client_ending, peer_ending, web_ending, AnswersClient, MeetsPeer, AnswersBrowser, LogsDenial, AnswersFirst};
+ghost use Rattle.conversation.specs.Events.{audited_by, LogsAudit};
+ghost use Rattle.std.specs.Option.{option_copied};
+ghost use Rattle.ua_session.specs.Sessions.{SessionsState};
 ghost use Rattle.conversation.specs.declared.other_end.OtherEnd.TheVariants.{Client, Peer, Browser};
 ghost use Rattle.web_connection.specs.Answers.{NeedsRequest};
 ghost use Rattle.web_connection.specs.declared.step.WebStep.TheVariants.{NeedsInput as NeedsBytesFirst};
 
 use crate::admitting::{admission_at, time_at};
 use crate::ended::Ended;
-use crate::other_end::{OtherEnd, PeerDialog};
+use crate::log::Log;
+use crate::logins::is_denied;
+use crate::other_end::{NONE_MOVED, OtherEnd, PeerDialog, moved_by};
 use crate::world::World;
 use archive::Archive;
 use counted_io::ServeFault;
 use exchange::{ExchangeFault, State, tell_fault};
 use historian::Server;
-use multiplex::Progress;
+use multiplex::{Progress, Stay};
 use std::alloc::{AllocError, Global};
 use ua_connection::{Clock, Connection, Step};
 use ua_peers::{PeerEnded, take_first};
+use ua_session::AuditEvent;
 use web_connection::{WebConnection, WebStep};
 
 /// What a step of a client's connection is to it.
@@ -47,19 +53,46 @@ fn client_progress(step: Result<Step, ServeFault>) -> Progress<Result<Ended, Ser
     }
 }
 
-/// Answers the chunk that stands first on a client's connection, if it is whole.
-fn answer_client<A: Archive, C: Clock, L>(
+/// What was done in the sessions of a client since a log was told of so many things, if something was.
+fn audited_by(connection: &Connection, before: u64) -> Option<&AuditEvent>
+    ensures { (old : SessionsState) → old.audits ≡ before
+        → option_copied result ≡ audited_by old connection.now.client.sessions }
+{
+    if connection.audits() == before {
+        None
+    } else {
+        connection.last_audit()
+    }
+}
+
+/// Tells what was done in a session, if something was.
+fn tell_audit<L: Log>(log: &mut L, stay: Stay, event: Option<&AuditEvent>)
+    ensures { LogsAudit L.told stay (option_copied event.entry) log.old log.new }
+{
+    if let Some(event) = event {
+        log.tell_audit(stay, event);
+    }
+}
+
+/// Answers the chunk that stands first on a client's connection, if it is whole. What was done in a session is told.
+fn answer_client<A: Archive, C: Clock, L: Log>(
+    stay: Stay,
     world: &mut World<A, C, L>,
     connection: &mut Connection,
     out: &mut Vec<u8>,
 ) -> Progress<Result<Ended, ServeFault>>
     ensures answers { (made : List ℕ) × (out.new.items ≡ out.old.items ++ made)
-        × AnswersClient A.state C.gave world.old connection.old made (end_in result) world.new
-        (unless_over (end_in result) (Client connection.new)) }
+        × AnswersClient A.state C.gave L.told stay world.old connection.old made (end_in result)
+        world.new (unless_over (end_in result) (Client connection.new)) }
     ensures lacks { result ≡ Lacks
         → (out.new.items ≡ out.old.items) × NeedsBytes connection.new }
 {
+    let before = connection.audits();
     let step = connection.advance(&mut world.server, &mut world.clock, out);
+    let event = audited_by(connection, before);
+    let limit = world.server.settings.logins();
+    world.logins.note_audit(limit, stay, world.now, event);
+    tell_audit(&mut world.log, stay, event);
     client_progress(step)
 }
 
@@ -202,6 +235,7 @@ fn answer_peer<A: Archive, C: Clock, L>(
     ensures lacks { result ≡ Lacks
         → (out.new.items ≡ out.old.items) × (frame_header peer.new.frames.waiting ≡ Ok None) }
 {
+    world.logins.release();
     let time = time_at(&world.server.settings, &mut world.clock);
     let mut said = Vec::new(world.server.alloc);
     let progress = answer_frame(&mut world.server, time, peer, &mut said);
@@ -220,24 +254,37 @@ fn web_progress(step: Result<WebStep, AllocError>) -> Progress<Result<Ended, Ser
     match step {
         Ok(WebStep::NeedsInput) => Progress::NeedsMore,
         Ok(WebStep::Continues) => Progress::Answered,
-        Ok(WebStep::Ended) => Progress::Ended(Ok(Ended::Browser)),
+        Ok(WebStep::Ended | WebStep::Denied) => Progress::Ended(Ok(Ended::Browser)),
         Err(_) => Progress::Ended(Err(ServeFault::OutOfMemory)),
     }
 }
 
-/// Answers what stands first on a browser's connection, if it is whole.
-fn answer_browser<A: Archive, C, L>(
+/// Tells that a browser was denied what it asked for, if it was.
+fn tell_denial<L: Log>(log: &mut L, stay: Stay, denied: bool)
+    ensures { LogsDenial L.told stay denied log.old log.new }
+{
+    if denied {
+        log.tell_denied(stay);
+    }
+}
+
+/// Answers what stands first on a browser's connection, if it is whole. That it was denied what it asked for is told.
+fn answer_browser<A: Archive, C, L: Log>(
+    stay: Stay,
     world: &mut World<A, C, L>,
     web: &mut WebConnection,
     out: &mut Vec<u8>,
 ) -> Progress<Result<Ended, ServeFault>>
     ensures answers { (made : List ℕ) × (out.new.items ≡ out.old.items ++ made)
-        × AnswersBrowser A.state world.old web.old made (end_in result) world.new
+        × AnswersBrowser A.state L.told stay world.old web.old made (end_in result) world.new
         (unless_over (end_in result) (Browser web.new)) }
     ensures lacks { result ≡ Lacks → (out.new.items ≡ out.old.items) × NeedsRequest web.new }
 {
     let server = &mut world.server;
     let step = web.answer(&server.settings, &mut server.replica.archive, out);
+    let limit = server.settings.logins();
+    world.logins.note_step(limit, stay, world.now, step);
+    tell_denial(&mut world.log, stay, is_denied(step));
     web_progress(step)
 }
 
@@ -250,7 +297,7 @@ fn leave_at_end(
     ensures left { other.new ≡ unless_over (end_in progress) other.old }
 {
     match progress {
-        Progress::Ended(_) => *other = OtherEnd::Over,
+        Progress::Ended(_) => *other = OtherEnd::Over(moved_by(other)),
         Progress::NeedsMore => {}
         Progress::Answered => {}
     }
@@ -258,20 +305,22 @@ fn leave_at_end(
 }
 
 /// Answers what stands first in what the other end brought, if it is whole.
-pub(crate) fn answer_first<A: Archive, C: Clock, L>(
+pub(crate) fn answer_first<A: Archive, C: Clock, L: Log>(
+    stay: Stay,
     world: &mut World<A, C, L>,
     other: &mut OtherEnd,
     out: &mut Vec<u8>,
 ) -> Progress<Result<Ended, ServeFault>>
     requires { IsUsable other.old }
     ensures answers { (made : List ℕ) × (out.new.items ≡ out.old.items ++ made)
-        × AnswersFirst A.state C.gave world.old other.old made (end_in result) world.new other.new }
+        × AnswersFirst A.state C.gave L.told stay world.old other.old made (end_in result) world.new
+        other.new }
     ensures sound { IsUsable other.new }
     ensures lacks { result ≡ Lacks → (out.new.items ≡ out.old.items) × IsIncomplete other.new }
 {
     match other {
         OtherEnd::Client(connection) => {
-            let progress = answer_client(world, connection, out);
+            let progress = answer_client(stay, world, connection, out);
             leave_at_end(other, progress)
         }
         OtherEnd::Peer(peer) => {
@@ -279,14 +328,14 @@ pub(crate) fn answer_first<A: Archive, C: Clock, L>(
             leave_at_end(other, progress)
         }
         OtherEnd::Browser(web) => {
-            let progress = answer_browser(world, web, out);
+            let progress = answer_browser(stay, world, web, out);
             leave_at_end(other, progress)
         }
         OtherEnd::Stranger => {
-            *other = OtherEnd::Over;
+            *other = OtherEnd::Over(NONE_MOVED);
             Progress::Ended(Ok(Ended::Stranger))
         }
-        OtherEnd::Unknown { .. } | OtherEnd::Over => Progress::NeedsMore,
+        OtherEnd::Unknown { .. } | OtherEnd::Over(_) => Progress::NeedsMore,
     }
 }
 
@@ -297,7 +346,7 @@ pub(crate) fn is_established(other: &OtherEnd) -> bool
     match other {
         OtherEnd::Client(connection) => connection.has_user(),
         OtherEnd::Peer(peer) => peer.is_heard,
-        OtherEnd::Unknown { .. } | OtherEnd::Browser(_) | OtherEnd::Stranger | OtherEnd::Over =>
+        OtherEnd::Unknown { .. } | OtherEnd::Browser(_) | OtherEnd::Stranger | OtherEnd::Over(_) =>
             false,
     }
 }

@@ -21,6 +21,8 @@ pub(crate) fn start_call<A: Archive, C, L>(
     ensures clock { world.new.clock ≡ world.old.clock }
     ensures log { world.new.log ≡ world.old.log }
     ensures from { world.new.from ≡ world.old.from }
+    ensures now { world.new.now ≡ world.old.now }
+    ensures logins { world.new.logins ≡ world.old.logins }
     ensures asks { (made : List ℕ) × (out.new.items ≡ out.old.items ++ made)
         × AsksPeer (A.state world.old.server.replica.archive)
         (A.state world.new.server.replica.archive) made

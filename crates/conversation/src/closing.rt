@@ -1,8 +1,7 @@
 //! What is told of a connection that ended.
 
 ghost use Rattle.std.specs.Prelude.{◌≡◌};
-ghost use Rattle.conversation.specs.declared.other_end.OtherEnd.{OtherEnd};
-ghost use Rattle.conversation.specs.Closing.{connection_fault, call_outcome, parted_outcome, TellsCall, TellsEnd, TellsTurn, is_slow};
+ghost use Rattle.conversation.specs.Closing.{connection_fault, call_outcome, parted_outcome, TellsCall, TellsTurn, is_slow};
 
 use crate::ended::Ended;
 use crate::log::Log;
@@ -10,11 +9,12 @@ use crate::world::World;
 use counted_io::ServeFault;
 use exchange::ExchangeFault;
 use multiplex::SlotEnd;
-use ua_peers::{PeerEnded, SyncFault};
+use ua_peers::{PeerEnded, SyncFault, Synced};
 use ua_settings::Settings;
 
-/// The fault by which a connection ended, if it did.
-fn connection_fault(ending: SlotEnd<Result<Ended, ServeFault>>) -> Option<ServeFault>
+/// The fault by which a connection ended, if it did: one that was silent for too long, or made place for another, ended as by
+/// a read that failed.
+pub fn connection_fault(ending: SlotEnd<Result<Ended, ServeFault>>) -> Option<ServeFault>
     ensures { result ≡ connection_fault ending }
 {
     match ending {
@@ -58,23 +58,14 @@ pub(crate) fn tell_call<A, C, L: Log>(
     world: &mut World<A, C, L>,
     callee: usize,
     outcome: Result<(), SyncFault>,
+    moved: Synced,
 )
-    ensures { TellsCall L.calls world.old callee outcome world.new }
+    ensures { TellsCall L.told world.old callee outcome moved world.new }
 {
     if let Some(peer) = world.server.settings.peers().as_slice().get(callee) {
-        world.log.tell_call(callee, peer.address.as_str(), outcome);
-    }
-}
-
-/// Tells by which fault a connection that was accepted ended, if it did.
-pub(crate) fn tell_end<A, C, L: Log>(
-    world: &mut World<A, C, L>,
-    ending: SlotEnd<Result<Ended, ServeFault>>,
-)
-    ensures { (other : OtherEnd) → TellsEnd L.calls None world.old other ending world.new }
-{
-    if let Some(fault) = connection_fault(ending) {
-        world.log.tell(fault);
+        world
+            .log
+            .tell_call(callee, peer.address.as_str(), outcome, moved);
     }
 }
 
@@ -91,7 +82,7 @@ fn is_slow(settings: &Settings, turn: u64) -> bool
 /// Tells how long the longest turn so far took, in milliseconds, where the settings want a turn told that takes so long; else the
 /// world stays as it is. What was told before the log knows.
 pub fn tell_turn<A, C, L: Log>(world: &mut World<A, C, L>, longest: u64)
-    ensures { TellsTurn L.calls world.old longest world.new }
+    ensures { TellsTurn L.told world.old longest world.new }
 {
     if is_slow(&world.server.settings, longest) {
         world.log.tell_turn(longest);

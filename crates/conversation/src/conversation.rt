@@ -2,10 +2,10 @@
 
 use crate::answering::{answer_first, is_established};
 use crate::calling::start_call;
-use crate::closing::{call_outcome, tell_call, tell_end, tell_turn};
+use crate::closing::{call_outcome, tell_call, tell_turn};
 use crate::ended::Ended;
-use crate::log::Log;
-use crate::other_end::{OtherEnd, PeerDialog, first_end};
+use crate::log::{Log, Parting};
+use crate::other_end::{NONE_MOVED, OtherEnd, PeerDialog, first_end, moved_by};
 use crate::receiving::{take_bytes, tell_starved};
 use crate::world::World;
 use archive::Archive;
@@ -42,18 +42,19 @@ impl<A, C, L> Model for Conversation<A, C, L> {
 impl<A: Archive, C: Clock, L: Log> Handler for Conversation<A, C, L> {
     ghost use Rattle.conversation.specs.Conversing.{behavior_over};
     ghost use Rattle.conversation.specs.Adding.{moves_over};
-    ghost use Rattle.conversation.specs.Closing.{callee_of, TellsEnd};
+    ghost use Rattle.conversation.specs.Closing.{TellsEnd};
 
     type World = World<A, C, L>;
 
     type End = Result<Ended, ServeFault>;
 
-    ghost behavior = { behavior_over A.state C.gave L.calls };
+    ghost behavior = { behavior_over A.state C.gave L.told };
 
-    ghost moves_add_up = { moves_over A.state C.gave L.calls };
+    ghost moves_add_up = { moves_over A.state C.gave L.told };
 
-    /// Tells how long the longest turn so far took, where the settings want it told. Nothing else hangs on the time.
+    /// Keeps the time, and tells how long the longest turn so far took, where the settings want it told.
     fn pass(world: &mut World<A, C, L>, now: u64, longest_turn: u64) {
+        world.now = now;
         tell_turn(world, longest_turn);
     }
 
@@ -62,8 +63,10 @@ impl<A: Archive, C: Clock, L: Log> Handler for Conversation<A, C, L> {
         world.server.settings.ends_broken() && world.server.replica.archive.is_broken()
     }
 
-    /// Nothing came yet, and nobody is known, but for strangers at the door of peers, and for browsers. It takes no memory.
+    /// Nothing came yet, and nobody is known, but for strangers at the door of peers, and for browsers. That it came is told. It
+    /// takes no memory.
     fn begin(alloc: Global, origin: Origin, world: &mut World<A, C, L>) -> Self {
+        world.log.tell_connected(origin);
         Conversation {
             other: first_end(alloc, &world.from, origin),
             alloc,
@@ -90,7 +93,7 @@ impl<A: Archive, C: Clock, L: Log> Handler for Conversation<A, C, L> {
                 world: PhantomData,
             }),
             Err(fault) => {
-                tell_call(world, callee, Err(SyncFault::Exchange(fault)));
+                tell_call(world, callee, Err(SyncFault::Exchange(fault)), NONE_MOVED);
                 None
             }
         }
@@ -103,7 +106,7 @@ impl<A: Archive, C: Clock, L: Log> Handler for Conversation<A, C, L> {
             return None;
         }
         let end = tell_starved(&self.other, out);
-        self.other = OtherEnd::Over;
+        self.other = OtherEnd::Over(moved_by(&self.other));
         Some(end)
     }
 
@@ -114,12 +117,12 @@ impl<A: Archive, C: Clock, L: Log> Handler for Conversation<A, C, L> {
         world: &mut World<A, C, L>,
         out: &mut Vec<u8>,
     ) -> Progress<Result<Ended, ServeFault>> {
-        answer_first(world, &mut self.other, out)
+        answer_first(stay, world, &mut self.other, out)
     }
 
-    /// No answer waits.
+    /// An answer to a login waits a second where as many were refused before it as the settings allow; no other waits.
     fn delay(&self, stay: Stay, world: &World<A, C, L>) -> u64 {
-        0
+        world.logins.delay()
     }
 
     /// Whether its other end is a client with a session that was activated, or a peer of whom a whole frame came.
@@ -127,18 +130,24 @@ impl<A: Archive, C: Clock, L: Log> Handler for Conversation<A, C, L> {
         is_established(&self.other)
     }
 
-    /// Tells how a call ended, and of a connection that was accepted the fault by which it did, if it is one.
+    /// Tells how a connection ended.
     fn close(
         self,
         stay: Stay,
         world: &mut World<A, C, L>,
         ending: SlotEnd<Result<Ended, ServeFault>>,
     )
-        ensures { TellsEnd L.calls (callee_of stay.party) world.old self ending world.new }
+        ensures { TellsEnd L.told stay world.old self ending world.new }
     {
+        let moved = moved_by(&self.other);
         match stay.party {
-            Party::Called(callee) => tell_call(world, callee, call_outcome(ending)),
-            Party::Accepted(_) => tell_end(world, ending),
+            Party::Called(callee) => tell_call(world, callee, call_outcome(ending), moved),
+            Party::Accepted(_) => world.log.tell_parted(Parting {
+                stay,
+                at: world.now,
+                ending,
+                moved,
+            }),
         }
     }
 

@@ -22,7 +22,7 @@ pub fn a_client_alone_is_answered<
     C: Clock,
     L: Log,
 >()
-    ensures { ClientAloneIsAnswered R.input W.output A.state C.gave L.calls }
+    ensures { ClientAloneIsAnswered R.input W.output A.state C.gave L.told }
 {}
 
 /// At the door of clients nobody is a peer: neither who comes there, whatever bytes are brought, nor who is answered. So no
@@ -30,12 +30,12 @@ pub fn a_client_alone_is_answered<
 pub fn a_clients_door_takes_no_peer<A: Archive, C: Clock, L: Log>()
     ensures begins { IsAtClientsDoor (Unknown Clients []) }
     ensures receives { NoPeerComes }
-    ensures answers { NoPeerIsAnswered A.state C.gave L.calls }
+    ensures answers { NoPeerIsAnswered A.state C.gave L.told }
 {}
 
 /// Who comes to the door of peers from where none is taken is turned away at the first turn: nothing of it is read, nothing is
 /// said, and nothing changes.
 pub fn a_stranger_is_not_heard<A: Archive, C: Clock, L: Log>()
-    ensures turned_away { StrangersAreTurnedAway A.state C.gave L.calls }
-    ensures unread { StrangersAreUnread A.state C.gave L.calls }
+    ensures turned_away { StrangersAreTurnedAway A.state C.gave L.told }
+    ensures unread { StrangersAreUnread A.state C.gave L.told }
 {}

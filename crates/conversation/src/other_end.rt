@@ -2,6 +2,7 @@
 
 ghost use Rattle.std.specs.Prelude.{◌≡◌};
 ghost use Rattle.conversation.specs.Conversing.{first_end};
+ghost use Rattle.conversation.specs.OtherEnds.{moved_by};
 
 use crate::door::{Door, is_stranger};
 use crate::networks::Network;
@@ -11,7 +12,14 @@ use std::alloc::Global;
 use std::marker::Model;
 use ua_binary::Listing;
 use ua_connection::Connection;
+use ua_peers::Synced;
 use web_connection::WebConnection;
+
+/// No record.
+pub(crate) const NONE_MOVED: Synced = Synced {
+    learned: 0,
+    sent: 0,
+};
 
 /// The first letters of a connection.
 #[derive(Drop)]
@@ -82,8 +90,25 @@ pub(crate) enum OtherEnd {
     Browser(WebConnection),
     /// Somebody who came to the door of peers from where none is taken.
     Stranger,
-    /// The connection is over.
-    Over,
+    /// The connection is over; so many records were moved by its dialog.
+    Over(Synced),
+}
+
+/// How many records were moved by its dialog; none where it is no peer.
+pub(crate) fn moved_by(other: &OtherEnd) -> Synced
+    ensures { result ≡ moved_by other.now }
+{
+    match other {
+        OtherEnd::Peer(peer) => Synced {
+            learned: peer.dialog.learned(),
+            sent: peer.dialog.sent(),
+        },
+        OtherEnd::Over(moved) => *moved,
+        OtherEnd::Unknown { .. }
+        | OtherEnd::Client(_)
+        | OtherEnd::Browser(_)
+        | OtherEnd::Stranger => NONE_MOVED,
+    }
 }
 
 /// Who is at the other end of a connection that came from there, before its first byte. It takes no memory.

@@ -3,7 +3,7 @@
 ghost use Rattle.std.specs.Prelude.{◌≡◌, ◌++◌, List, ℕ, true, false, IfSome};
 ghost use Rattle.ua_connection.specs.Client.{new_client};
 ghost use Rattle.ua_peers.specs.Peers.{responding};
-ghost use Rattle.conversation.specs.OtherEnds.{peer_at, known_by, with_bytes};
+ghost use Rattle.conversation.specs.OtherEnds.{peer_at, known_by, moved_by, with_bytes};
 ghost use Rattle.conversation.specs.Receiving.{is_peer, TellsStarved};
 ghost use Rattle.conversation.specs.declared.other_end.PeerDialog.{PeerDialog};
 ghost use Rattle.conversation.specs.declared.other_end.OtherEnd.{OtherEnd};
@@ -87,7 +87,8 @@ fn known_behind(alloc: Global, door: Door, letters: &mut Letters, bytes: &[u8]) 
 /// Takes bytes that came. Whether memory for them was there.
 pub(crate) fn take_bytes(alloc: Global, other: &mut OtherEnd, bytes: &[u8]) -> bool
     ensures taken { result ≡ true → other.new ≡ with_bytes other.old bytes.now }
-    ensures starved { result ≡ false → is_peer other.new ≡ is_peer other.old }
+    ensures starved { result ≡ false → (is_peer other.new ≡ is_peer other.old)
+        × (moved_by other.new ≡ moved_by other.old) }
 {
     match other {
         OtherEnd::Unknown { door, letters } => match known_behind(alloc, *door, letters, bytes) {
@@ -109,7 +110,7 @@ pub(crate) fn take_bytes(alloc: Global, other: &mut OtherEnd, bytes: &[u8]) -> b
             Ok(()) => true,
             Err(_) => false,
         },
-        OtherEnd::Stranger | OtherEnd::Over => true,
+        OtherEnd::Stranger | OtherEnd::Over(_) => true,
     }
 }
 
@@ -144,7 +145,7 @@ pub(crate) fn tell_starved(other: &OtherEnd, out: &mut Vec<u8>) -> Result<Ended,
     match other {
         OtherEnd::Peer(_) => tell_starved_peer(out),
         OtherEnd::Browser(_) => Err(ServeFault::OutOfMemory),
-        OtherEnd::Unknown { .. } | OtherEnd::Client(_) | OtherEnd::Stranger | OtherEnd::Over =>
+        OtherEnd::Unknown { .. } | OtherEnd::Client(_) | OtherEnd::Stranger | OtherEnd::Over(_) =>
             tell_starved_client(out),
     }
 }

@@ -1,10 +1,13 @@
 //! What answers are made over.
 
+ghost use Rattle.std.specs.Prelude.{◌≡◌};
+
+use crate::logins::Logins;
 use crate::networks::Network;
 use historian::Server;
 use ua_binary::Listing;
 
-/// A server, its clock and its log, which its connections share.
+/// A server, its clock, its log, and what is known of its connections, which share them.
 #[derive(Drop)]
 pub struct World<A, C, L> {
     /// What it is set to, and what it holds.
@@ -15,4 +18,28 @@ pub struct World<A, C, L> {
     pub log: L,
     /// From where peers are taken at an address of their own; none: from everywhere.
     pub from: Option<Listing<Network>>,
+    /// What time it is for connections, in milliseconds.
+    pub now: u64,
+    /// Which logins were refused of late.
+    pub logins: Logins,
+}
+
+impl<A, C, L> World<A, C, L> {
+    ghost use Rattle.conversation.specs.Conversing.{new_world};
+
+    /// What connections share that haven't begun: peers are taken from everywhere, and no login was refused, nor is any kept.
+    /// It takes no memory.
+    pub fn new(server: Server<A>, clock: C, log: L) -> World<A, C, L>
+        ensures { result ≡ new_world server clock log }
+    {
+        let alloc = server.alloc;
+        World {
+            server,
+            clock,
+            log,
+            from: None,
+            now: 0,
+            logins: Logins::none(alloc),
+        }
+    }
 }

@@ -25,14 +25,13 @@ const GOES_ON: &str =
 fn over_around(alloc: Global, text: &str, failure: Failure) -> Result<(bool, bool), Fail> {
     let settings = Settings::read(alloc, text)?;
     let archive = ScriptedArchive::new(alloc, settings.archive(), settings.replica(), 1, failure);
-    let mut world = World {
-        server: Server::new(alloc, settings, archive),
-        clock: clock(),
-        log: Faults {
+    let mut world = World::new(
+        Server::new(alloc, settings, archive),
+        clock(),
+        Faults {
             told: Vec::new(alloc),
         },
-        from: None,
-    };
+    );
     let before = Talk::is_over(&world);
     let _ = world.server.replica.archive.top();
     Ok((before, Talk::is_over(&world)))

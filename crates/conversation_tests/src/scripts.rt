@@ -178,14 +178,14 @@ pub fn heard_by(
     from: Option<Listing<Network>>,
 ) -> Result<Vec<(usize, Vec<u8>)>, Fail> {
     let archive = archive_of(alloc, &settings);
-    let mut world = World {
-        server: Server::new(alloc, settings, archive),
-        clock: clock(),
-        log: Faults {
+    let mut world = World::new(
+        Server::new(alloc, settings, archive),
+        clock(),
+        Faults {
             told: Vec::new(alloc),
         },
-        from,
-    };
+    );
+    world.from = from;
     let mut source = Script {
         alloc,
         callers,

@@ -6,10 +6,10 @@ use Rattle.std.specs.Prelude.{Option}
 use Rattle.exchange.specs.Dialogs.{party_of}
 use Rattle.multiplex.specs.Progress.{end_in}
 use Rattle.conversation.specs.Admitting.{IsAdmitted, Refuses}
-use Rattle.conversation.specs.declared.other_end.OtherEnd.TheVariants.{Peer}
+use Rattle.conversation.specs.declared.other_end.OtherEnd.TheVariants.{Peer, Over}
 use Rattle.conversation.specs.declared.other_end.PeerDialog.{PeerDialog}
 use Rattle.conversation.specs.Answering.{peer_ending}
-use Rattle.conversation.specs.OtherEnds.{ConversationEnding, IsUsable, peer_at, unless_over}
+use Rattle.conversation.specs.OtherEnds.{ConversationEnding, IsUsable, moved_by, peer_at, unless_over}
 use Rattle.conversation.proofs.answering.answer_peer.Goals as goal
 
 -- the dialog that goes on is told by how it stands and by what waits
@@ -44,7 +44,9 @@ returns-then-append-clause-answers g c =
           clock = gave;
           timed = timed;
           log = refl;
+          logins = c.release.ensures;
           from = refl;
+          now = refl;
           admitted = subst (λ (t : ℤ).
               IsAdmitted server.settings t party c.args.peer.now.frames.waiting) same taken.0;
           talks = taken.1;
@@ -61,7 +63,9 @@ returns-then-append-clause-answers g c =
           clock = gave;
           timed = timed;
           log = refl;
+          logins = c.release.ensures;
           from = refl;
+          now = refl;
           refuses = subst (λ (t : ℤ). Refuses server.settings t party
               c.args.peer.now.frames.waiting answered.new.said.items ends) same refused.0;
           tells = inl (refl, is);
@@ -94,7 +98,9 @@ returns-else-append-clause-answers g c =
           clock = gave;
           timed = timed;
           log = refl;
+          logins = c.release.ensures;
           from = refl;
+          now = refl;
           admitted = subst (λ (t : ℤ).
               IsAdmitted server.settings t party c.args.peer.now.frames.waiting) same taken.0;
           talks = taken.1;
@@ -111,11 +117,13 @@ returns-else-append-clause-answers g c =
           clock = gave;
           timed = timed;
           log = refl;
+          logins = c.release.ensures;
           from = refl;
+          now = refl;
           refuses = subst (λ (t : ℤ). Refuses server.settings t party
               c.args.peer.now.frames.waiting answered.new.said.items ends) same refused.0;
           tells = inr (refl, refl);
-          leaves = refl;
+          leaves = ap (λ (p : PeerDialog). Over (moved_by (Peer p))) refused.2;
         })
       ],
     )

@@ -9,4 +9,4 @@ pub returns-clause-receives : goal.returns-clause-receives
 returns-clause-receives g c = bytes-at-door
 
 pub returns-clause-answers : goal.returns-clause-answers
-returns-clause-answers g c = answer-at-door g.A.Archive.state g.C.Clock.gave
+returns-clause-answers g c = answer-at-door g.A.Archive.state g.C.Clock.gave g.L.Log.told

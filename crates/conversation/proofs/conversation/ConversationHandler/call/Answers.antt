@@ -15,6 +15,8 @@ returns-in-Ok g c =
         clock = begun.clock;
         log = begun.log;
         from = begun.from;
+        now = begun.now;
+        logins = begun.logins;
         asks = asks;
         begins = (
           λ i. Some (Peer (record {
