@@ -18,7 +18,11 @@ use Rattle.conversation.specs.declared.world.World.{World}
 use Rattle.historian.specs.declared.server.Server.{Server}
 use Rattle.conversation.specs.OtherEnds.{ConversationEnding}
 use Rattle.conversation.specs.Answering.{AnswersClient, AnswersPeer, RefusesPeer, Tells}
-use Rattle.conversation.specs.Closing.{LogCalls, TellsCallOf}
+use Rattle.conversation.specs.Closing.{TellsCallOf}
+use Rattle.conversation.specs.Events.{Telling}
+use Rattle.conversation.specs.OtherEnds.{none_moved}
+use Rattle.multiplex.specs.declared.stay.Stay.{Stay}
+use Rattle.ua_peers.specs.declared.calling.Synced.{Synced}
 use Rattle.conversation.specs.Starting.{AsksPeer, BeginsBy, StartsCall}
 use Rattle.headline.specs.Machines.{RestartsAs, IsMachine}
 use Rattle.headline.specs.Plants.{AreUnforged, BeginsCall, Plant, plant_after, IsClientTurn, IsPeerTurn, IsCallTurn, IsRefusalTurn}
@@ -40,14 +44,14 @@ begun_by a b made result (inr (frame, greets, none, starved)) =
     (frame, Ok tt, greets, (frame, ap (λ (l : List ℕ). l ++ frame) (sym none)))
 
 module _ {A C L : Type 0} (state : A → Store) where
-  pub client_turns : (gave : C → List ℤ → C → Type 0) (v w : World A C L) (link : ConnectionState)
-      (made : List ℕ) (ending : Option ConversationEnding) (next : OtherEnd) (old : Plant A)
-      (place : ℕ) (later : A) → AnswersClient state gave v link made ending w next
+  pub client_turns : (gave : C → List ℤ → C → Type 0) (told : Telling L) (stay : Stay)
+      (v w : World A C L) (link : ConnectionState) (made : List ℕ) (ending : Option ConversationEnding) (next : OtherEnd) (old : Plant A)
+      (place : ℕ) (later : A) → AnswersClient state gave told stay v link made ending w next
       → IsMachine state old.machines place v.server.replica.archive
       → (state w.server.replica.archive).honest
       → RestartsAs (state w.server.replica.archive) (state later)
       → IsClientTurn state old (plant_after old place later [])
-  client_turns gave v w link made ending next old place later answers there honest goes = record {
+  client_turns gave told stay v w link made ending next old place later answers there honest goes = record {
     place = place;
     before = v.server.replica.archive;
     later = later;
@@ -141,32 +145,32 @@ module _ {A C L : Type 0} (state : A → Store) where
       }
 
   -- how a call ended was told, and the archive stays
-  told_same : (calls : LogCalls L) (callee : ℕ) (v w : World A C L)
-      (outcome : Result (Unit {0}) SyncFault) (peer : Option PeerCall)
-      → TellsCallOf calls v callee outcome w peer
+  told_same : (told : Telling L) (callee : ℕ) (v w : World A C L)
+      (outcome : Result (Unit {0}) SyncFault) (moved : Synced) (peer : Option PeerCall)
+      → TellsCallOf told v callee outcome moved w peer
       → w.server.replica.archive ≡ v.server.replica.archive
-  told_same calls callee v w outcome None e =
+  told_same told callee v w outcome moved None e =
       ap (λ (u : World A C L). u.server.replica.archive) e
-  told_same calls callee v w outcome (Some peer) changed =
+  told_same told callee v w outcome moved (Some peer) changed =
       ap (λ (u : World A C L). u.server.replica.archive) changed.0
 
-  begun_same : (calls : LogCalls L) (callee : ℕ) (v w : World A C L) (other : Option OtherEnd)
-      (result : Result (Unit {0}) ExchangeFault) → BeginsBy calls callee v other w result
+  begun_same : (told : Telling L) (callee : ℕ) (v w : World A C L) (other : Option OtherEnd)
+      (result : Result (Unit {0}) ExchangeFault) → BeginsBy told callee v other w result
       → w.server.replica.archive ≡ v.server.replica.archive
-  begun_same calls callee v w other (Ok done) so =
+  begun_same told callee v w other (Ok done) so =
       ap (λ (u : World A C L). u.server.replica.archive) so.1
-  begun_same calls callee v w other (Err fault) so =
-      told_same calls callee v w (Err (Exchange fault)) _ so.1
+  begun_same told callee v w other (Err fault) so =
+      told_same told callee v w (Err (Exchange fault)) none_moved _ so.1
 
-  pub call_turns : (calls : LogCalls L) (callee : ℕ) (v w : World A C L) (made : List ℕ)
+  pub call_turns : (told : Telling L) (callee : ℕ) (v w : World A C L) (made : List ℕ)
       (other : Option OtherEnd) (old : Plant A) (place : ℕ) (later : A)
-      → StartsCall state calls callee v made other w
+      → StartsCall state told callee v made other w
       → IsMachine state old.machines place v.server.replica.archive
       → (state w.server.replica.archive).honest
       → RestartsAs (state w.server.replica.archive) (state later)
       → IsCallTurn state old (plant_after old place later made)
-  call_turns calls callee v w made other old place later starts there honest goes =
-      let same = begun_same calls callee starts.between w other starts.result starts.begins in
+  call_turns told callee v w made other old place later starts there honest goes =
+      let same = begun_same told callee starts.between w other starts.result starts.begins in
       record {
         place = place;
         before = v.server.replica.archive;

@@ -29,7 +29,7 @@ use Rattle.historian.specs.UserSpaces.{UserSpace, space_for}
 use Rattle.historian.specs.Updating.{node_asked, type_granted, asked_for, update_of, update_item, update_history}
 use Rattle.historian.proofs.UpdatingParts.{update_by, updated_unless}
 use Rattle.historian.specs.Requests as request
-use Rattle.historian.specs.Services.{ServerConfig, answered, answered_request, in_session}
+use Rattle.historian.specs.Services.{ServerConfig, answered, answered_request, updates_of}
 use Rattle.headline.specs.Told.{operations_of, IsHeldFor, AddsFrom, AddsAll}
 
 within_on : (R S T : Content) → IsWithin R S → IsWithin S T → IsWithin R T
@@ -434,14 +434,10 @@ session_held : (may : Bool) (config : ServerConfig) (now : Ticks) (token : NodeI
     (sessions : SessionsState) (R : Content) (marks : List StepResult)
     (results : List HistoryUpdateResult) (user : Result (List ℕ) SessionFault)
     → user_at sessions token ≡ user
-    → (in_session sessions user (λ user.
-    update_history config.own (space_for config.settings user) user now ds R)
-    R marks).0.0.0 ≡ Ok (answer.Updated results)
+    → (updates_of config now ds sessions user R marks).0.0.0 ≡ Ok (answer.Updated results)
     → MayStandBehindBreak may marks
     → AllHeld may config now token ds sessions R results
-    (in_session sessions user (λ user.
-    update_history config.own (space_for config.settings user) user now ds R) R
-    marks).0.1
+    (updates_of config now ds sessions user R marks).0.1
 session_held may config now token ds sessions R marks results (Err fault) e f allowed = absurd (cc)
 session_held may config now token ds sessions R marks results (Ok user) e f allowed = (
   user,

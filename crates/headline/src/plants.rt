@@ -26,6 +26,7 @@ ghost use Rattle.ua_peers.specs.Peers.{Taken, Side, side_of, side_after, AreAnsw
 ghost use Rattle.conversation.specs.declared.other_end.OtherEnd.{OtherEnd};
 ghost use Rattle.conversation.specs.declared.other_end.PeerDialog.{PeerDialog};
 ghost use Rattle.conversation.specs.declared.world.World.{World as Shared};
+ghost use Rattle.multiplex.specs.declared.stay.Stay.{Stay};
 ghost use Rattle.conversation.specs.OtherEnds.{ConversationEnding};
 ghost use Rattle.conversation.specs.Answering.{AnswersClient, AnswersPeer, RefusesPeer};
 ghost use Rattle.conversation.specs.Starting.{StartsCall};
@@ -121,9 +122,9 @@ pub fn plants_simulate_an_execution<A: Archive>()
 /// What is answered on one connection of many (`conversation`) is a turn of a machine of any plant: a client's message, frames of a peer, as
 /// long as they aren't forged, records of a peer that aren't taken, and the beginning of a call. So what a loop over many connections makes of a machine's archive is turns of a plant.
 pub fn conversations_take_turns<A: Archive, C: Clock, L: Log>()
-    ensures client { (v w : Shared A C L) (link : ConnectionState) (made : List ℕ)
+    ensures client { (stay : Stay) (v w : Shared A C L) (link : ConnectionState) (made : List ℕ)
         (ending : Option ConversationEnding) (next : OtherEnd) (old : Plant A) (place : ℕ)
-        (later : A) → AnswersClient A.state C.gave v link made ending w next
+        (later : A) → AnswersClient A.state C.gave L.told stay v link made ending w next
         → IsMachine A.state old.machines place v.server.replica.archive
         → (A.state w.server.replica.archive).honest
         → RestartsAs (A.state w.server.replica.archive) (A.state later)
@@ -146,7 +147,7 @@ pub fn conversations_take_turns<A: Archive, C: Clock, L: Log>()
         → IsRefusalTurn A.state old (plant_after old place later made) }
     ensures call { (callee : ℕ) (v w : Shared A C L) (made : List ℕ)
         (other : Option OtherEnd) (old : Plant A) (place : ℕ) (later : A)
-        → StartsCall A.state L.calls callee v made other w
+        → StartsCall A.state L.told callee v made other w
         → IsMachine A.state old.machines place v.server.replica.archive
         → (A.state w.server.replica.archive).honest
         → RestartsAs (A.state w.server.replica.archive) (A.state later)

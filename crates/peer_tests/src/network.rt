@@ -30,14 +30,13 @@ fn is_served(
 ) -> Result<bool, Fail> {
     let settings = plant(alloc)?;
     let archive = archive_of(alloc, &settings);
-    let mut world = World {
-        server: Server::new(alloc, settings, archive),
-        clock: clock(),
-        log: Faults {
+    let mut world = World::new(
+        Server::new(alloc, settings, archive),
+        clock(),
+        Faults {
             told: Vec::new(alloc),
         },
-        from: None,
-    };
+    );
     let mut source = Clients::new(alloc, clients);
     let mut slots = Vec::new(alloc);
     for _ in 0..SLOTS {

@@ -1,13 +1,16 @@
 //! Connections in memory: the clients that come, and what each of them is written.
 
 use crate::ends::{Narrow, Slow};
+use conversation::{Parting, connection_fault};
 use counted_io::ServeFault;
 use multiplex::{
-    Arrival, Call, NonBlockingRead, NonBlockingWrite, Origin, ReadAttempt, Source, WriteAttempt,
+    Arrival, Call, NonBlockingRead, NonBlockingWrite, Origin, ReadAttempt, Source, Stay,
+    WriteAttempt,
 };
 use std::alloc::Global;
 use std::io::{Read, Write};
-use ua_server::{Log, SyncFault};
+use ua_server::{Log, SyncFault, Synced};
+use ua_session::AuditEvent;
 
 /// A client: what it writes, whether its connection breaks behind that, and how many bytes it takes.
 #[derive(Clone, Copy)]
@@ -165,22 +168,31 @@ pub struct Faults {
 }
 
 impl Log for Faults {
-    ghost calls = { record {
-      told = λ old fault new. Unit {0};
-      told_failed = λ old now new. Unit {0};
-      told_call = λ old callee address outcome new. Unit {0};
-      told_turn = λ old longest new. Unit {0};
-    } };
+    ghost told = { λ old event new. Unit {0} };
 
-    fn tell(&mut self, fault: ServeFault) {
-        let _ = self.told.push(fault);
+    fn tell_connected(&mut self, _origin: Origin) {}
+
+    fn tell_audit(&mut self, _stay: Stay, _event: &AuditEvent) {}
+
+    fn tell_denied(&mut self, _stay: Stay) {}
+
+    fn tell_parted(&mut self, parting: Parting) {
+        if let Some(fault) = connection_fault(parting.ending) {
+            let _ = self.told.push(fault);
+        }
     }
 
     fn tell_failed(&mut self, _now: u64) {
         let _ = self.told.push(ServeFault::Read);
     }
 
-    fn tell_call(&mut self, _callee: usize, _address: &str, _outcome: Result<(), SyncFault>) {}
+    fn tell_call(
+        &mut self,
+        _callee: usize,
+        _address: &str,
+        _outcome: Result<(), SyncFault>,
+        _moved: Synced,
+    ) {}
 
     fn tell_turn(&mut self, _longest: u64) {}
 }

@@ -16,3 +16,4 @@ pub mod FromWhere
 pub mod Passwords
 pub mod ExposedFiles
 pub mod CheckingParts
+pub mod Logged

@@ -41,10 +41,10 @@ use Rattle.archive.specs.Store.{Store}
 use Rattle.ua_server.specs.Exposing.{IsTaken, JudgesStrict}
 use Rattle.ua_server.specs.Host.{Machine, KnownMachine}
 use Rattle.conversation.specs.declared.door.Door.TheVariants.{Both, Clients, Peers, Browsers}
-use Rattle.ua_server.specs.Network.{Readings, Serving}
+use Rattle.ua_server.specs.Network.{Serving}
 use Rattle.ua_server.specs.Program.{SettingsAt, FindsNoPlace, OpensBy, CallsPeer, Calling, Scene, PrintsSynced, Shows, Findings, IsMistaken, DoesCommand, DoesLine, Runs, OpensUnless, line_refusal, settings_path, store_use}
 use Rattle.ua_server.specs.declared.program.StoreUse.{StoreUse}
-use Rattle.ua_server.specs.Telling.{Known, dump_fault, fault_of, report_fault}
+use Rattle.ua_server.specs.Telling.{Known, dump_fault, fault_of, report_fault, Readings}
 use Rattle.ua_server.proofs.ProgramParts.{IsUnbegun}
 
 -- no file is judged as a line

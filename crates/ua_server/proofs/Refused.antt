@@ -11,9 +11,9 @@ use Rattle.ua_server.specs.declared.program.ProgramFault.{ProgramFault}
 use Rattle.ua_server.specs.declared.program.ProgramFault.TheVariants as program
 use Rattle.ua_server.specs.Host.{KnownMachine}
 use Rattle.ua_server.specs.Listening.{IsListening, HasNoAddress, door_fault}
-use Rattle.ua_server.specs.Network.{Serving, Readings, IsServingFault}
+use Rattle.ua_server.specs.Network.{Serving, IsServingFault}
 use Rattle.ua_server.specs.Program.{IsRefusedPlace, Listens}
-use Rattle.ua_server.specs.Telling.{Known}
+use Rattle.ua_server.specs.Telling.{Known, Readings}
 
 -- why nothing is listened at: memory was wanting, or an address is none, and nothing was asked for;
 -- or one can't be listened at

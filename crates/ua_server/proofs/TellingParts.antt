@@ -165,14 +165,14 @@ denied true P iff e p = absurd cc
 denied false P iff e p = let so = iff.1 p in cc
 
 -- how a call ended, where the last one ended otherwise
-pub call-logged : {E : Type 0} (contents : Known E) (old new : ErrorLog E) (callee : ℕ)
+pub call-logged : {E C : Type 0} (contents : Known E) (old new : ErrorLog E C) (callee : ℕ)
     (address : List ℕ) (outcome : Result (Unit {0}) SyncFault) (fault : Option SyncFault)
     → fault ≡ result_err outcome → (slice_get old.calls callee ≢ Some fault)
     → new ≡ record old { errors = new.errors; calls = new.calls }
     → KeepsLast old.calls new.calls callee fault
     → LogsLine contents old.errors new.errors (call_lines address (outcome_text fault))
     → LogsCall contents old callee address outcome new
-call-logged {E} contents old new callee address outcome fault e differs set keeps line =
+call-logged {E} {C} contents old new callee address outcome fault e differs set keeps line =
     let P : Option SyncFault → Type 0 = λ f.
     ((slice_get old.calls callee ≡ Some f) × (new ≡ old))
     ⊎ ((slice_get old.calls callee ≢ Some f)

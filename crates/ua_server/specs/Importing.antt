@@ -14,7 +14,7 @@ use Rattle.history_import.specs.declared.fault.ImportFault.TheVariants.{Header, 
 use Rattle.command_line.specs.declared.line.ImportWords.{ImportWords}
 use Rattle.command_line.specs.declared.line.PerformWord.{PerformWord}
 use Rattle.command_line.specs.declared.line.PerformWord.TheVariants as word
-use Rattle.ua_server.specs.Network.{Readings}
+use Rattle.ua_server.specs.Telling.{Readings}
 use Rattle.ua_server.specs.declared.program.ProgramFault.{ProgramFault}
 use Rattle.ua_server.specs.declared.program.ProgramFault.TheVariants.{BadUser, NoStore, NoHeader, UnreadRows, RowsRefused, Connection}
 

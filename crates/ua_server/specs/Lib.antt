@@ -7,6 +7,7 @@ pub mod Checking
 pub mod Single
 pub mod Listening
 pub mod Host
+pub mod Logging
 pub mod Network
 pub mod Dumping
 pub mod Passwords

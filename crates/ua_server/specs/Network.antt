@@ -1,5 +1,5 @@
 -- Connections over a network, many at once.
-use Rattle.std.specs.Prelude.{◌≡◌, ℕ, ◌*◌, ◌^◌, ◌-◌, ℤ, List, Some, Bool}
+use Rattle.std.specs.Prelude.{◌≡◌, ℕ, ◌*◌, ◌^◌, ◌-◌, Option, None, Some, Bool}
 use Rattle.archive.specs.Store.{Store}
 use Rattle.ua_settings.specs.Settings.{SettingsValues}
 use Rattle.counted_io.specs.declared.fault.ServeFault.{ServeFault}
@@ -19,11 +19,9 @@ use Rattle.ua_server.specs.declared.program.ProgramFault.{ProgramFault}
 use Rattle.ua_server.specs.declared.program.ProgramFault.TheVariants.{Address, DoorAddress, DoorNetwork, PeerAddress, WebAddress, StoreBroken, Connection}
 use Rattle.ua_server.specs.Host.{KnownMachine}
 use Rattle.ua_server.specs.Listening.{IsFrom, networks_at}
-use Rattle.ua_server.specs.Telling.{Known, fresh_log, logs_to}
-
--- how a clock goes from one state to another and gives readings
-abbrev pub Readings : Type 0 → Type 1
-Readings C = C → List ℤ → C → Type 0
+use Rattle.ua_server.specs.Telling.{Known, Readings, fresh_log}
+use Rattle.ua_server.specs.Logging.{logs_to}
+use Rattle.conversation.specs.Logins.{no_logins}
 
 -- this was done with a connection, and its failed calls were counted: of each kind 1 where the
 -- connection ended by that fault, and else 0
@@ -39,7 +37,7 @@ abbrev pub Serving : (H A C E : Type 0) → Type 0
 Serving H A C E = record { host : H; archive : A; clock : C; errors : Tally E }
 
 -- what a machine and the world that connections share are for them
-abbrev pub serving_of : {H A C E : Type 0} → H → World A C (ErrorLog E) → Serving H A C E
+abbrev pub serving_of : {H A C E : Type 0} → H → World A C (ErrorLog E C) → Serving H A C E
 serving_of host world = record {
   host = host;
   archive = world.server.replica.archive;
@@ -56,17 +54,22 @@ limits_of settings count = record {
   rounds = 2 ^ 64 - 1;
 }
 
+-- of so many refused logins is known at most: of a thousand, where they are limited
+abbrev pub refusals_kept : (limit : Option ℕ) → ℕ
+refusals_kept None = 0
+refusals_kept (Some most) = 1000
+
 -- what is said on connections over an archive, and told of them on standard error
 abbrev pub conversations : {A C E : Type 0} → (A → Store) → Readings C → Known E
-    → Behavior OtherEnd (World A C (ErrorLog E)) ConversationEnding
+    → Behavior OtherEnd (World A C (ErrorLog E C)) ConversationEnding
 conversations held gave told =
-    behavior_over held gave (logs_to told)
+    behavior_over held gave (logs_to told gave)
 
 -- the loop that serves connections over an archive of a machine
 abbrev pub ServingLoop : KnownMachine → (C E : Type 0) → Type 0
 ServingLoop known C E =
     Loop known.Source OtherEnd known.ClientReader known.ClientWriter
-    (World known.Archive C (ErrorLog E)) ConversationEnding
+    (World known.Archive C (ErrorLog E C)) ConversationEnding
 
 -- it serves over this archive, this clock and standard error
 pub record IsAround {C E : Type 0} (known : KnownMachine)
@@ -83,15 +86,17 @@ pub record ServesMany {C E : Type 0} (known : KnownMachine) (gave : Readings C) 
     (old new : Serving known.Host known.Archive C E) : Type 0 where
   pub first : ServingLoop known C E
   pub last : ServingLoop known C E
-  pub behind : World known.Archive C (ErrorLog E)
+  pub behind : World known.Archive C (ErrorLog E C)
   pub done : Bool
   pub longest : ℕ
   pub begins : IsAround known old first
-  pub tells : TellsTurn (logs_to told) last.world longest behind
+  pub tells : TellsTurn (logs_to told gave) last.world longest behind
   pub ends : IsAround known new (record last { world = behind })
   pub settings_are : first.world.server.settings ≡ settings
   pub from : first.source ≡ source
-  pub fresh : first.world.log ≡ fresh_log old.errors
+  pub fresh : first.world.log
+      ≡ fresh_log first.world.server.alloc settings.events old.clock old.errors
+  pub logins : first.world.logins ≡ no_logins (refusals_kept settings.logins)
   pub peers_from : IsFrom (networks_at settings) first.world.from
   pub free : AreAllFree first.slots
   pub served : HasServed known.effects known.input known.output (conversations known.held gave told)

@@ -30,12 +30,12 @@ use Rattle.ua_connection.specs.Environments.{Environment}
 use Rattle.ua_server.specs.Single.{AnswersAt}
 use Rattle.ua_server.specs.Dumping.{Dumps}
 use Rattle.ua_peers.specs.Calling.{Syncs}
-use Rattle.ua_server.specs.Telling.{Known, synced_line, fault_of, dump_fault, sync_fault}
+use Rattle.ua_server.specs.Telling.{Known, synced_line, fault_of, dump_fault, sync_fault, Readings}
 use Rattle.ua_peers.specs.declared.calling.Synced.{Synced}
 use Rattle.ua_peers.specs.declared.calling.SyncFault.{SyncFault}
 use Rattle.ua_peers.specs.declared.calling.SyncFault.TheVariants as sync
 use Rattle.std.specs.Net.Grammar.{IsSocketText}
-use Rattle.ua_server.specs.Network.{Counts, Serving, ServesMany, Readings}
+use Rattle.ua_server.specs.Network.{Counts, Serving, ServesMany}
 use Rattle.conversation.specs.declared.door.Door.{Door}
 use Rattle.ua_server.specs.declared.listening.Listening.{Listening}
 use Rattle.ua_server.specs.Listening.{IsListening, HasNoAddress, door_fault}

@@ -1,7 +1,8 @@
 -- What a run of the program tells on standard error, its exit status, and the line of a call of a
 -- peer.
-use Rattle.std.specs.Prelude.{◌≡◌, ◌≢◌, ◌<◌, ◌≤◌, slice_get, slice_set, replicate, ℕ, ◌-◌, ◌==◌, nat_lt, Bool, true, false, List, [], ◌∷◌, ◌++◌, Option, None, Some, Result, Ok, Err, ◌⊎◌, codes, if◌then◌else◌}
+use Rattle.std.specs.Prelude.{◌≡◌, ◌≢◌, ◌<◌, ◌≤◌, slice_get, slice_set, replicate, ℕ, ◌-◌, ◌==◌, nat_lt, pos, Bool, true, false, ℤ, List, [], ◌∷◌, ◌++◌, Option, None, Some, Result, Ok, Err, ◌⊎◌, codes, if◌then◌else◌}
 use Rattle.std.specs.Fmt.{decimal}
+use Rattle.std.specs.Global.{Global}
 use Rattle.std.specs.Option.{option_map_or}
 use Rattle.std.specs.Result.{result_err}
 use Rattle.std.specs.Io.KnownBytes.{Appends}
@@ -20,8 +21,8 @@ use Rattle.ua_server.specs.declared.dumps.DumpFault.{DumpFault}
 use Rattle.ua_peers.specs.declared.calling.SyncFault.{SyncFault}
 use Rattle.counted_io.specs.declared.fault.ServeFault.{ServeFault}
 use Rattle.counted_io.specs.declared.fault.ServeFault.TheVariants.{Write, OutOfMemory}
-use Rattle.conversation.specs.Closing.{LogCalls}
 use Rattle.ua_server.specs.declared.log.ErrorLog.{ErrorLog}
+use Rattle.ua_server.specs.declared.recent.Recent.{Recent}
 use Rattle.ua_server.specs.declared.hexed.HexFault.TheVariants as hexed
 use Rattle.ua_server.specs.declared.dumps.DumpFault.TheVariants as dump
 use Rattle.ua_server.specs.declared.histories.OptionFault.{OptionFault}
@@ -130,19 +131,37 @@ LogsLine contents old new line =
 abbrev pub Known : Type 0 → Type 0
 Known E = E → Option (List ℕ)
 
--- standard error, of which nothing was told yet of connections
-abbrev pub fresh_log : {E : Type 0} → Tally E → ErrorLog E
-fresh_log errors =
-    record { errors = errors; told_at = None; missed = 0; calls = replicate 64 None; longest = 0 }
+-- how a clock goes from one state to another and gives readings
+abbrev pub Readings : Type 0 → Type 1
+Readings C = C → List ℤ → C → Type 0
+
+-- none of what anybody may bring about was told yet
+abbrev pub none_recent : Recent
+none_recent = record { since = pos 0; lines = 0; left_out = 0 }
+
+-- standard error, of which nothing was told yet of connections, with a clock for the lines of
+-- events, where these are told
+abbrev pub fresh_log : {E C : Type 0} → Global → (events : Bool) → C → Tally E → ErrorLog E C
+fresh_log alloc events clock errors = record {
+  errors = errors;
+  told_at = None;
+  missed = 0;
+  calls = replicate 64 None;
+  longest = 0;
+  alloc = alloc;
+  events = events;
+  clock = clock;
+  recent = none_recent;
+}
 
 -- it was told by its lines that a connection ended by this fault
-abbrev pub LogsFault : {E : Type 0} → Known E → ErrorLog E → ServeFault → ErrorLog E → Type 0
+abbrev pub LogsFault : {E C : Type 0} → Known E → ErrorLog E C → ServeFault → ErrorLog E C → Type 0
 LogsFault contents old fault new =
     (new ≡ record old { errors = new.errors })
     × LogsLine contents old.errors new.errors (error_lines (Connection fault))
 
 -- it was told less than a second ago that a connection failed before it could be used
-abbrev pub is_quiet : {E : Type 0} → ErrorLog E → (now : ℕ) → Bool
+abbrev pub is_quiet : {E C : Type 0} → ErrorLog E C → (now : ℕ) → Bool
 is_quiet log now = option_map_or (λ told_at. nat_lt (now - told_at) 1000) log.told_at false
 
 -- what tells that a connection failed, and so many before it of which nothing was told
@@ -157,7 +176,7 @@ failed_lines missed =
 
 -- a connection failed before it could be used: it was counted, where that was told less than a
 -- second ago of another, and else told, with how many were counted
-abbrev pub LogsFailed : {E : Type 0} → Known E → ErrorLog E → (now : ℕ) → ErrorLog E → Type 0
+abbrev pub LogsFailed : {E C : Type 0} → Known E → ErrorLog E C → (now : ℕ) → ErrorLog E C → Type 0
 LogsFailed contents old now new =
     ((is_quiet old now ≡ true) × (new ≡ record old { missed = counted old.missed }))
     ⊎ ((is_quiet old now ≡ false)
@@ -199,8 +218,8 @@ KeepsLast old new callee fault =
 
 -- how a call of a peer ended: as the last one, and nothing is told; or otherwise, which is told and
 -- kept; of the peers behind the 64th it is told each time
-abbrev pub LogsCall : {E : Type 0} → Known E → ErrorLog E → (callee : ℕ) → (address : List ℕ)
-    → Result (Unit {0}) SyncFault → ErrorLog E → Type 0
+abbrev pub LogsCall : {E C : Type 0} → Known E → ErrorLog E C → (callee : ℕ) → (address : List ℕ)
+    → Result (Unit {0}) SyncFault → ErrorLog E C → Type 0
 LogsCall contents old callee address outcome new = let fault = result_err outcome in
     ((slice_get old.calls callee ≡ Some fault) × (new ≡ old))
     ⊎ ((slice_get old.calls callee ≢ Some fault)
@@ -214,20 +233,11 @@ turn_text milliseconds = codes "a turn took " ++ (decimal milliseconds ++ codes 
 
 -- how long the longest turn so far took: no longer than the last that was to be told, and nothing
 -- is; or longer, which is told, if it can be written, and kept
-abbrev pub LogsTurn : {E : Type 0} → Known E → ErrorLog E → (longest : ℕ) → ErrorLog E → Type 0
+abbrev pub LogsTurn : {E C : Type 0} → Known E → ErrorLog E C → (longest : ℕ) → ErrorLog E C → Type 0
 LogsTurn contents old longest new =
     ((longest ≤ old.longest) × (new ≡ old))
     ⊎ ((old.longest < longest) × (new ≡ record old { errors = new.errors; longest = longest })
     × LogsLine contents old.errors new.errors (told_line (turn_text longest)))
-
--- what is told of connections on standard error
-abbrev pub logs_to : {E : Type 0} → Known E → LogCalls (ErrorLog E)
-logs_to contents = record {
-  told = LogsFault contents;
-  told_failed = LogsFailed contents;
-  told_call = LogsCall contents;
-  told_turn = LogsTurn contents;
-}
 
 -- the second line of a fault, if it has one
 abbrev pub place_line : Option (List ℕ) → List ℕ

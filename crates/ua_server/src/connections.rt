@@ -5,7 +5,8 @@ ghost use Rattle.conversation.specs.declared.door.Door.{Door as Kind};
 ghost use Rattle.counted_io.specs.declared.fault.ServeFault.TheVariants.{OutOfMemory};
 ghost use Rattle.multiplex.specs.Serving.{AreAllFree};
 ghost use Rattle.ua_server.specs.Telling.{fresh_log};
-ghost use Rattle.ua_server.specs.Network.{limits_of, serving_of, IsServingFault};
+ghost use Rattle.ua_server.specs.Network.{limits_of, refusals_kept, serving_of, IsServingFault};
+ghost use Rattle.conversation.specs.Logins.{no_logins};
 ghost use Rattle.ua_server.specs.Host.{known_machine};
 ghost use Rattle.ua_server.specs.Program.{Listens};
 ghost use Rattle.ua_server.specs.Listening.{IsListening, HasNoAddress, door_fault};
@@ -16,7 +17,7 @@ use crate::host::Host;
 use crate::listening::listening_of;
 use crate::log::ErrorLog;
 use crate::program::ProgramFault;
-use conversation::{Conversation, Door, Network, World, tell_turn};
+use conversation::{Conversation, Door, Logins, Network, World, tell_turn};
 use counted_io::ServeFault;
 use multiplex::{Limits, serve};
 use std::alloc::{AllocError, Global};
@@ -24,6 +25,9 @@ use std::io::Write;
 use ua_binary::Listing;
 use ua_connection::Clock;
 use ua_settings::Settings;
+
+/// So many refused logins are known at most.
+const MOST_REFUSALS: usize = 1_000;
 
 /// How many bytes a MiB has.
 const MIB: usize = 1_048_576;
@@ -88,14 +92,25 @@ fn listen_at<H: Host>(
     }
 }
 
+/// What is known of refused logins, where the settings limit them; nothing was refused yet.
+fn logins_of(alloc: Global, settings: &Settings) -> Result<Logins, AllocError>
+    ensures { IfOk result (λ logins. logins ≡ no_logins (refusals_kept settings.now.logins)) }
+{
+    match settings.logins() {
+        None => Ok(Logins::none(alloc)),
+        Some(_) => Logins::new(alloc, MOST_REFUSALS),
+    }
+}
+
 /// Serves so many connections at the address of a server's settings, many at once, and calls the peers of these settings when
 /// they are due, till all connections have ended; or, where the settings say so, till the store is broken, which is a fault.
 pub(crate) fn serve_at<H: Host, C: Clock, E: Write>(
-    world: &mut World<H::Archive, C, ErrorLog<E>>,
+    world: &mut World<H::Archive, C, ErrorLog<E, C>>,
     connections: u32,
     host: &mut H,
 ) -> Result<(), ProgramFault>
-    requires { world.old.log ≡ fresh_log world.old.log.errors }
+    requires { world.old.log ≡ fresh_log world.old.server.alloc world.old.server.settings.events
+        world.old.clock world.old.log.errors }
     ensures listens { Listens
         (known_machine H.means H.Archive.state H.Source.effects H.Source.Reader.input
         H.Source.Writer.output H.Reader.remaining H.Writer.contents)
@@ -109,9 +124,13 @@ pub(crate) fn serve_at<H: Host, C: Clock, E: Write>(
     let Ok(mut slots) = free_slots(alloc, limits.accept_slots.saturating_add(callees)) else {
         return Err(ProgramFault::Connection(ServeFault::OutOfMemory));
     };
+    let Ok(logins) = logins_of(alloc, &world.server.settings) else {
+        return Err(ProgramFault::Connection(ServeFault::OutOfMemory));
+    };
     let (mut source, from) = listen_at(alloc, &world.server.settings, host)?;
     world.from = from;
-    let report = serve::<H::Source, Conversation<H::Archive, C, ErrorLog<E>>>(
+    world.logins = logins;
+    let report = serve::<H::Source, Conversation<H::Archive, C, ErrorLog<E, C>>>(
         alloc,
         &mut source,
         world,

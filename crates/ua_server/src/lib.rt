@@ -5,6 +5,7 @@ mod checks;
 mod connections;
 mod dumps;
 mod either;
+mod events;
 mod exposing;
 mod files;
 mod hexed;
@@ -15,6 +16,7 @@ mod laws;
 mod listening;
 mod log;
 mod program;
+mod recent;
 mod single;
 
 pub use command_line::{Asked, HistoryWords, ImportWords, Line, LineFault, PerformWord, read_line};

@@ -7,12 +7,17 @@ ghost use Rattle.counted_io.specs.Bytes.{counted, AppendsPart};
 ghost use Rattle.ua_server.specs.Telling.{failed_lines, failed_text, turn_text, fault_text, sync_fault, outcome_text, behind_peer, behind_name, call_lines};
 
 use crate::program::{ProgramFault, numbered, report, tell};
-use conversation::Log;
+use crate::recent::Recent;
+use conversation::{Log, Parting, connection_fault};
 use counted_io::{Counted, ServeFault};
 use itoa::Buffer;
+use multiplex::{Origin, Stay};
+use std::alloc::Global;
 use std::fmt::InlineText;
 use std::io::Write;
-use ua_peers::SyncFault;
+use ua_connection::Clock;
+use ua_peers::{SyncFault, Synced};
+use ua_session::AuditEvent;
 
 /// So long, in milliseconds, connections that failed before they could be used are counted, and not told one by one.
 const QUIET: u64 = 1_000;
@@ -20,9 +25,9 @@ const QUIET: u64 = 1_000;
 /// Of how many peers the end of the last call is kept: as many as one replica can have.
 pub(crate) const MOST_CALLED: usize = 64;
 
-/// Standard error, how many connections failed since that was told last, and how calls ended last.
+/// Standard error, what was told of late of connections, and how calls ended last.
 #[derive(Drop)]
-pub(crate) struct ErrorLog<E> {
+pub(crate) struct ErrorLog<E, C> {
     pub errors: Counted<E>,
     /// When it was told last that one failed; none: it never was.
     pub told_at: Option<u64>,
@@ -32,15 +37,23 @@ pub(crate) struct ErrorLog<E> {
     pub calls: [Option<SyncFault>; MOST_CALLED],
     /// How many milliseconds the longest turn of a connection took that was told.
     pub longest: u64,
+    /// Where lines are made.
+    pub alloc: Global,
+    /// Whether what happens is told, a line each.
+    pub events: bool,
+    /// What gives the time of such a line.
+    pub clock: C,
+    /// How many were told of late of what anybody may bring about.
+    pub recent: Recent,
 }
 
-impl<E> ErrorLog<E> {
+impl<E, C> ErrorLog<E, C> {
     ghost use Rattle.std.specs.Prelude.{◌≡◌, ◌↔◌, None, Some, IsTrue, slice_get};
     ghost use Rattle.ua_server.specs.Telling.{fresh_log, is_quiet};
 
     /// Nothing was told yet.
-    pub fn new(errors: Counted<E>) -> ErrorLog<E>
-        ensures { result ≡ fresh_log errors }
+    pub fn new(alloc: Global, events: bool, clock: C, errors: Counted<E>) -> ErrorLog<E, C>
+        ensures { result ≡ fresh_log alloc events clock errors }
     {
         ErrorLog {
             errors,
@@ -48,6 +61,10 @@ impl<E> ErrorLog<E> {
             missed: 0,
             calls: [None; MOST_CALLED],
             longest: 0,
+            alloc,
+            events,
+            clock,
+            recent: Recent::none(),
         }
     }
 
@@ -72,14 +89,67 @@ impl<E> ErrorLog<E> {
     }
 }
 
-impl<E: Write> Log for ErrorLog<E> {
-    ghost use Rattle.ua_server.specs.Telling.{logs_to};
+impl<E: Write, C: Clock> ErrorLog<E, C> {
+    ghost use Rattle.std.specs.Prelude.{◌≡◌};
+    ghost use Rattle.ua_server.specs.Telling.{LogsCall};
+    ghost use Rattle.ua_server.specs.Logging.{LogsFaultOf};
 
-    ghost calls = { logs_to E.contents };
+    /// Tells by a line the fault by which a connection ended, if it did.
+    fn log_fault(&mut self, fault: Option<ServeFault>)
+        ensures { LogsFaultOf E.contents fault self.old self.new }
+    {
+        if let Some(fault) = fault {
+            let _ = report(Err(ProgramFault::Connection(fault)), &mut self.errors);
+        }
+    }
 
-    /// Tells by a line that a connection ended by a fault.
-    fn tell(&mut self, fault: ServeFault) {
-        let _ = report(Err(ProgramFault::Connection(fault)), &mut self.errors);
+    /// Tells by a line how a call of a peer ended, where the last one ended otherwise.
+    fn log_outcome(&mut self, callee: usize, address: &str, outcome: Result<(), SyncFault>)
+        ensures { LogsCall E.contents self.old callee address.now outcome self.new }
+    {
+        let fault = outcome.err();
+        if self.is_told(callee, fault) {
+            return;
+        }
+        let _ = tell_outcome(address, fault, &mut self.errors);
+        if callee < MOST_CALLED {
+            self.calls[callee] = fault;
+        }
+    }
+}
+
+impl<E: Write, C: Clock> Log for ErrorLog<E, C> {
+    ghost use Rattle.ua_server.specs.Logging.{logs_to};
+
+    ghost told = { logs_to E.contents C.gave };
+
+    /// Tells that a connection came, where events are told.
+    fn tell_connected(&mut self, origin: Origin) {
+        if self.events {
+            self.log_connected(origin);
+        }
+    }
+
+    /// Tells what was done in a session, where events are told.
+    fn tell_audit(&mut self, stay: Stay, event: &AuditEvent) {
+        if self.events {
+            self.log_audit(stay, event);
+        }
+    }
+
+    /// Tells that a browser gave credentials that are no user's, where events are told.
+    fn tell_denied(&mut self, stay: Stay) {
+        if self.events {
+            self.log_denied(stay);
+        }
+    }
+
+    /// Tells by a line the fault by which a connection ended, if it did; and where events are told, why it ended.
+    fn tell_parted(&mut self, parting: Parting) {
+        self.log_fault(connection_fault(parting.ending));
+        if self.events {
+            self.log_end(parting);
+        }
     }
 
     /// Tells by a line that a connection failed, and how many did since the last such line, at most once a second.
@@ -93,15 +163,18 @@ impl<E: Write> Log for ErrorLog<E> {
         }
     }
 
-    /// Tells by a line how a call of a peer ended, where the last one ended otherwise.
-    fn tell_call(&mut self, callee: usize, address: &str, outcome: Result<(), SyncFault>) {
-        let fault = outcome.err();
-        if self.is_told(callee, fault) {
-            return;
-        }
-        let _ = tell_outcome(address, fault, &mut self.errors);
-        if callee < MOST_CALLED {
-            self.calls[callee] = fault;
+    /// Tells by a line how a call of a peer ended, where the last one ended otherwise; and where events are told, what it
+    /// moved.
+    fn tell_call(
+        &mut self,
+        callee: usize,
+        address: &str,
+        outcome: Result<(), SyncFault>,
+        moved: Synced,
+    ) {
+        self.log_outcome(callee, address, outcome);
+        if self.events {
+            self.log_call(address, outcome, moved);
         }
     }
 
@@ -155,7 +228,7 @@ fn turn_text(milliseconds: u64) -> InlineText<100>
 }
 
 /// What tells the fault by which a call ended.
-fn fault_text(fault: SyncFault) -> InlineText<100>
+pub(crate) fn fault_text(fault: SyncFault) -> InlineText<100>
     ensures { inline_text result ≡ fault_text (sync_fault fault) }
 {
     match fault {

@@ -477,13 +477,14 @@ pub struct Ran<C, E> {
 
 /// Does what a line says over the server of its settings.
 fn do_command<H: Host, C: Clock, R: Read, W: Write, E: Write>(
-    world: &mut World<H::Archive, C, ErrorLog<E>>,
+    world: &mut World<H::Archive, C, ErrorLog<E, C>>,
     line: Line<'_>,
     host: &mut H,
     input: &mut Counted<R>,
     output: &mut Counted<W>,
 ) -> Result<(), ProgramFault>
-    requires log { world.old.log ≡ fresh_log world.old.log.errors }
+    requires log { world.old.log ≡ fresh_log world.old.server.alloc world.old.server.settings.events
+        world.old.clock world.old.log.errors }
     requires user { HasUserName line }
     ensures read { IsErrOf result (ProgramFault.Connection ServeFault.Read)
         → input.new.faults ≡ counted input.old.faults }
@@ -515,14 +516,15 @@ fn do_command<H: Host, C: Clock, R: Read, W: Write, E: Write>(
 }
 
 /// Does what a line says over the server of its settings, whose archive is closed then.
-fn do_over<H: Host, C: Clock, R: Read, W: Write, E: Write>(
-    mut world: World<H::Archive, C, ErrorLog<E>>,
+fn do_over<H: Host, C: Clock + Copy, R: Read, W: Write, E: Write>(
+    mut world: World<H::Archive, C, ErrorLog<E, C>>,
     line: Line<'_>,
     host: &mut H,
     input: &mut Counted<R>,
     output: &mut Counted<W>,
 ) -> Ran<C, E>
-    requires log { world.log ≡ fresh_log world.log.errors }
+    requires log { world.log ≡ fresh_log world.server.alloc world.server.settings.events world.clock
+        world.log.errors }
     requires user { HasUserName line }
     ensures read { IsErrOf result.ending (ProgramFault.Connection ServeFault.Read)
         → input.new.faults ≡ counted input.old.faults }
@@ -553,7 +555,7 @@ fn do_over<H: Host, C: Clock, R: Read, W: Write, E: Write>(
 }
 
 /// Does what a line says: over the archive of its settings, which is closed then.
-fn do_line<H: Host, C: Clock, R: Read, W: Write, E: Write>(
+fn do_line<H: Host, C: Clock + Copy, R: Read, W: Write, E: Write>(
     alloc: Global,
     line: Line<'_>,
     host: &mut H,
@@ -576,13 +578,9 @@ fn do_line<H: Host, C: Clock, R: Read, W: Write, E: Write>(
 {
     match open_server(alloc, &line, host) {
         Ok(server) => {
-            let log = ErrorLog::new(errors);
-            let world = World {
-                server,
-                clock,
-                log,
-                from: None,
-            };
+            let events = server.settings.tells_events();
+            let log = ErrorLog::new(server.alloc, events, clock, errors);
+            let world = World::new(server, clock, log);
             do_over(world, line, host, input, output)
         }
         Err(fault) => Ran {
@@ -620,7 +618,7 @@ fn print_text<W: Write>(text: &[u8], output: &mut Counted<W>) -> Result<(), Prog
 /// `BadUser` where its user isn't one who may write, `NoStore` where the settings name no store, `NoHeader` where its rows don't begin by their header, `UnreadRows` where
 /// they can't be read, and `RowsRefused` where some were refused. What went out before it stands, and what was learned or written.
 #[tactic(auto, using(crate::proofs::Printing::lines))]
-pub fn run<S: AsStr, H: Host, C: Clock, R: Read, W: Write, E: Write>(
+pub fn run<S: AsStr, H: Host, C: Clock + Copy, R: Read, W: Write, E: Write>(
     alloc: Global,
     words: &[S],
     host: &mut H,

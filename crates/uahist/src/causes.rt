@@ -8,7 +8,7 @@ use ua_server::ProgramFault;
 use ua_settings::SettingsFault;
 
 /// What keys of the settings hold, for those whose value may be wrong.
-static WANTED: [(&str, &str); 21] = [
+static WANTED: [(&str, &str); 23] = [
     (
         "[archive] id",
         "want a UUID, as 3f2c8a10-5b1e-4c7d-9a60-2d8f4b6e7c90",
@@ -25,6 +25,7 @@ static WANTED: [(&str, &str); 21] = [
     ("anonymous_access", "want \"read\" or \"write\""),
     ("access", "want \"read\" or \"write\""),
     ("connections", "want a whole number from 1 to 1000"),
+    ("logins", "want a whole number from 1 to 1000"),
     ("waiting", "want a whole number of MiB from 1 to 65536"),
     (
         "name",
@@ -45,17 +46,18 @@ static WANTED: [(&str, &str); 21] = [
     ("replicas", "want an array of whole numbers from 1 to 64"),
     ("ahead", "want a whole number of seconds from 1 to 31536000"),
     ("every", "want a whole number of seconds from 1 to 86400"),
+    ("events", "want true or false"),
 ];
 
 /// What is said of a key that its table may not have, by the heading that stands before it.
-static KEYS: [(&str, &str); 7] = [
+static KEYS: [(&str, &str); 9] = [
     (
         "[archive] ",
         "there is no such key: want id, replica, store or broken",
     ),
     (
         "[server] ",
-        "there is no such key: want listen, url, application, namespace, anonymous, anonymous_access, connections, waiting, strict or slow",
+        "there is no such key: want listen, url, application, namespace, anonymous, anonymous_access, connections, waiting, strict, slow or logins",
     ),
     (
         "[[user]] ",
@@ -71,6 +73,8 @@ static KEYS: [(&str, &str); 7] = [
         "[door] ",
         "there is no such key: want listen, from, replicas or ahead",
     ),
+    ("[web] ", "there is no such key: want listen or connections"),
+    ("[log] ", "there is no such key: want events"),
 ];
 
 /// What is said of the key at a place of the settings that its table may not have.
@@ -78,7 +82,7 @@ fn unknown(place: &str) -> &'static str {
     match KEYS.iter().find(|(heading, _)| place.starts_with(*heading)) {
         Some((_, words)) => words,
         None => {
-            "there is no such table: want [archive], [server], [[user]], [[folder]], [[variable]], [[peer]] or [door]"
+            "there is no such table: want [archive], [server], [[user]], [[folder]], [[variable]], [[peer]], [door], [web] or [log]"
         }
     }
 }

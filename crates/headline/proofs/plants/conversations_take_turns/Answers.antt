@@ -2,7 +2,7 @@ use Rattle.headline.proofs.Conversations.{client_turns, peer_turns, refusal_turn
 use Rattle.headline.proofs.plants.conversations_take_turns.Goals as goal
 
 pub returns-clause-client : goal.returns-clause-client
-returns-clause-client g c = client_turns g.A.Archive.state g.C.Clock.gave
+returns-clause-client g c = client_turns g.A.Archive.state g.C.Clock.gave g.L.Log.told
 
 pub returns-clause-peer : goal.returns-clause-peer
 returns-clause-peer g c = peer_turns g.A.Archive.state g.C.Clock.gave
@@ -12,4 +12,4 @@ returns-clause-refusal g c = refusal_turns g.A.Archive.state g.C.Clock.gave
 
 pub returns-clause-call : goal.returns-clause-call
 returns-clause-call g c =
-    call_turns g.A.Archive.state g.L.Log.calls
+    call_turns g.A.Archive.state g.L.Log.told

@@ -16,7 +16,10 @@ pub returns-clause-listens : goal.returns-clause-listens
 returns-clause-listens g c =
     let (listening, is, listens, from) = c.in_ok-source.ensures.ok in
     let (last, served) = c.serve-report.ensures 0 in
-    let world = record c.args.world.now { from = c.in_ok-source.from } in
+    let world = record c.args.world.now {
+      from = c.in_ok-source.from;
+      logins = c.in-Ok-logins_of.logins;
+    } in
     let begun = state c.in_ok-source.source c.as_mut_slice.result.now world 0 in
     let ended = state c.serve-report.new.source c.serve-report.new.slots c.serve-report.new.world last in (
       listening,
@@ -36,6 +39,7 @@ returns-clause-listens g c =
           settings_are = refl;
           from = refl;
           fresh = c.requires;
+          logins = c.in-Ok-logins_of.ensures;
           peers_from = subst (IsFrom (networks_at c.args.world.now.server.settings)) (sym from)
               is.from;
           free = subst AreAllFree (sym c.as_mut_slice.ensures.value) c.in-Ok.ensures.0;
@@ -53,7 +57,10 @@ pub returns-then-report-clause-listens : goal.returns-then-report-clause-listens
 returns-then-report-clause-listens g c =
     let (listening, is, listens, from) = c.in_ok-source.ensures.ok in
     let (last, served) = c.serve-report.ensures 0 in
-    let world = record c.args.world.now { from = c.in_ok-source.from } in
+    let world = record c.args.world.now {
+      from = c.in_ok-source.from;
+      logins = c.in-Ok-logins_of.logins;
+    } in
     let begun = state c.in_ok-source.source c.as_mut_slice.result.now world 0 in
     let ended = state c.serve-report.new.source c.serve-report.new.slots c.serve-report.new.world last in (
       listening,
@@ -73,6 +80,7 @@ returns-then-report-clause-listens g c =
           settings_are = refl;
           from = refl;
           fresh = c.requires;
+          logins = c.in-Ok-logins_of.ensures;
           peers_from = subst (IsFrom (networks_at c.args.world.now.server.settings)) (sym from)
               is.from;
           free = subst AreAllFree (sym c.as_mut_slice.ensures.value) c.in-Ok.ensures.0;

@@ -14,5 +14,5 @@ returns-in-Ok-clause-does g c = (
   Ok (c.in-Ok.server.settings, c.in-Ok.server.replica.archive),
   c.open_server.new.host,
   c.in-Ok.ensures.opens,
-  rw c.new-log.ensures at c.do_over.ensures.does,
+  rw c.new-log.ensures at (rw c.new-world.ensures at c.do_over.ensures.does),
 )
