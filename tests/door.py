@@ -533,7 +533,7 @@ def addresses():
 
 
 def settings():
-    """What `[door]`, `access` and `anonymous_access` may hold."""
+    """What `[door]`, `access`, `anonymous_access`, `logins` and `events` may hold."""
     text = open(Server(door=False).settings).read()
     user, anonymous = 'password = "pw"\n', "anonymous = true\n"
     cases = [("[door] lacks listen", text + "\n[door]\n", 2, "[door] listen"),
@@ -551,10 +551,13 @@ def settings():
              ("door is an array of tables", text + "\n[[door]]\nlisten = '127.0.0.1:1'\n", 3, "door"),
              ("access is another word", text.replace(user, user + "access = 'all'\n"), 3, "[[user]] 1, access"),
              ("access is in capitals", text.replace(user, user + "access = 'READ'\n"), 3, "[[user]] 1, access"),
-             ("anonymous_access is true", text.replace(anonymous, anonymous + "anonymous_access = true\n"), 3, "[server] anonymous_access")]
+             ("anonymous_access is true", text.replace(anonymous, anonymous + "anonymous_access = true\n"), 3, "[server] anonymous_access"),
+             ("logins is 0", text.replace(anonymous, anonymous + "logins = 0\n"), 3, "[server] logins"),
+             ("logins is above 1000", text.replace(anonymous, anonymous + "logins = 1001\n"), 3, "[server] logins"),
+             ("events is a number", text + "\n[log]\nevents = 1\n", 3, "[log] events")]
     right = {"from": 'want an array of texts, as ["10.1.0.0/16"]', "replicas": "want an array of whole numbers from 1 to 64",
              "ahead": "want a whole number of seconds from 1 to 31536000", "access": 'want "read" or "write"',
-             "anonymous_access": 'want "read" or "write"'}
+             "anonymous_access": 'want "read" or "write"', "logins": "want a whole number from 1 to 1000", "events": "want true or false"}
     for what, changed, number, place in cases:
         told = ended(changed, ["dump"])
         why = {2: "this key has to be there", 4: "there is no such key: want listen, from, replicas or ahead"}.get(number) or right.get(place.split()[-1], "want a text, or a table of this name")
