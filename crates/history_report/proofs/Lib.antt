@@ -8,4 +8,3 @@ pub mod PortionLemmas
 pub mod PrintingLemmas
 pub mod ReadingLemmas
 pub mod WalkLemmas
-mod WholeLemmas
