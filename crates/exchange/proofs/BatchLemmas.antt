@@ -33,13 +33,13 @@ records_next (x ∷ xs) zero d lt = omega arith
 records_next (x ∷ xs) (suc i) d lt = let more = records_next xs i d (omega (arith, lt)) in
     omega (arith, more)
 
-records_more : (xs : List Record) (i : ℕ) (d : Record) → i < length xs
+pub records_more : (xs : List Record) (i : ℕ) (d : Record) → i < length xs
     → records_length (take (i + 1) xs)
     ≡ records_length (take i xs) + (4 + length (record_form.canon (get_or xs i d)))
 records_more xs i d lt = let one : i + 1 ≡ suc i = omega arith in
     ap (λ n. records_length (take n xs)) one ∙ records_next xs i d lt
 
-records_grow : (xs : List Record) (j k : ℕ) → j ≤ k
+pub records_grow : (xs : List Record) (j k : ℕ) → j ≤ k
     → records_length (take j xs) ≤ records_length (take k xs)
 records_grow xs zero k h = omega arith
 records_grow [] (suc j) zero h = omega (arith, h)
