@@ -14,7 +14,7 @@ use Rattle.historian.specs.declared.answer.Answer.{Answer as Made}
 use Rattle.historian.specs.Answers.{Answer, Response}
 use Rattle.hist_update.specs.Codes.{list_refusal}
 use Rattle.historian.specs.Reading.{Served, answer_items}
-use Rattle.historian.specs.Telling.{service_answer, ReportsAnswer, Comes}
+use Rattle.historian.specs.Telling.{service_answer, ReportsAnswer}
 
 -- ---- a list of them
 
@@ -65,13 +65,6 @@ acts-refused s service status refuses = (
       (acts-give s (Err status)),
 )
 
-pub comes-refused : (s : Store) (service : Content → Served) (status : Status)
-    (result : Result Made Status) → ((R : Content) (marks : List StepResult)
-    → service R marks ≡ give (Err status, R) marks) → result ≡ Err status → Comes s s service result
-comes-refused s service status result refuses is =
-    let acts = acts-refused s service status refuses in
-    (acts.0, Err status, acts.1, subst (ReportsAnswer (Err status)) (sym is) (inl refl))
-
 -- memory for the answers is wanting
 pub acts-wanting : {X Y : Type 0} (s : Store) (service : Content → Served)
     (answer : List Y → Answer) (item : X → Content → Fallible (Y × Content)) (xs : List X)
@@ -84,15 +77,6 @@ acts-wanting s service answer item xs is = (
       Yields (service R) marks ((Err BAD_OUT_OF_MEMORY, S)))
       (λ R. record { does = λ later. is R (NoMemory ∷ later) }),
 )
-
-pub comes-starved : {X Y : Type 0} (s : Store) (service : Content → Served)
-    (answer : List Y → Answer) (item : X → Content → Fallible (Y × Content)) (xs : List X)
-    → ((R : Content) (marks : List StepResult)
-    → service R marks ≡ answer_items answer item xs R marks)
-    → Comes s s service (Err BAD_OUT_OF_MEMORY)
-comes-starved s service answer item xs is =
-    let acts = acts-wanting s service answer item xs is in
-    (acts.0, Err BAD_OUT_OF_MEMORY, acts.1, inl refl)
 
 -- all items were answered
 pub acts-items : {X Y : Type 0} (a b : Store) (service : Content → Served)
@@ -112,17 +96,6 @@ acts-items {X} {Y} a b service answer item xs ys is all = (
             × List StepResult = ((Ok (answer r.0.0), r.0.1), r.1) in z) (d.does later);
       }) all.1,
 )
-
-pub comes-items : {X Y : Type 0} (a b : Store) (service : Content → Served)
-    (answer : List Y → Answer) (item : X → Content → Fallible (Y × Content)) (xs : List X)
-    (ys : List Y) (made : Made)
-    → ((R : Content) (marks : List StepResult)
-    → service R marks ≡ answer_items answer item xs R marks)
-    → ((used : List StepResult) × Refines a b used (each item xs) ys)
-    → answer ys ≡ service_answer made → Comes a b service (Ok made)
-comes-items a b service answer item xs ys made is all told =
-    let acts = acts-items a b service answer item xs ys is all in
-    (acts.0, Ok (answer ys), acts.1, ap Ok told)
 
 -- ---- how many there are
 

@@ -10,3 +10,4 @@ pub mod EndpointsParts
 pub mod ReadingParts
 pub mod ServicesParts
 pub mod UpdatingParts
+pub mod Streaming

@@ -23,7 +23,7 @@ use Rattle.historian.specs.Requests.{Call, ActivateSession, HistoryUpdate, call_
 use Rattle.historian.specs.declared.service.Service.TheVariants as services
 use Rattle.historian.specs.Services.{ServerConfig, MessageOutcome, activated, called, in_session, noting_activation, served, update_for, updates_of, answered_call, answered_request}
 use Rattle.historian.specs.Auditing.{activation_event, noting, updates_audited}
-use Rattle.historian.specs.Telling.{Asks, service_answer, response_made, ReportsAnswer, Comes, ComesTo, Performs, PerformsHere, Written, Responds}
+use Rattle.historian.specs.Telling.{Asks, service_answer, response_made, ReportsAnswer, ComesTo, Performs, PerformsHere, Written, Responds}
 
 -- a call that was read is served
 pub does-read : (config : ServerConfig) (now : Ticks) (token : NodeId) (o : Option Call)
@@ -312,30 +312,6 @@ does-in sessions user g R S used told does =
           (does.does later);
     }
 
--- a service that asks no archive, in a session of this user
-pub performs-inside : (config : ServerConfig) (now : Ticks) (token : NodeId)
-    (sessions : SessionsState) (asked : Service) (call : Call) (bytes : List ℕ) (user : List ℕ)
-    (f : Content → List ℕ → Fallible (Response × Content)) (used : List StepResult)
-    (told : Response)
-    (result : Result Made Status)
-    → call_in asked bytes ≡ Some call → ((R : Content) (marks : List StepResult)
-    → served config now token call sessions R marks
-    ≡ in_session sessions (user_at sessions token) (f R) R marks) → user_at sessions token ≡ Ok user
-    → faults_of used ≡ [] → ((R : Content) → Yields (f R user) used (told, R))
-    → ReportsAnswer told result → PerformsHere (answered_call config now token
-    (call_in asked bytes) sessions) sessions result
-performs-inside config now token sessions asked call bytes user f used told result is same in_use
-    faultless does tells =
-    performs-read config now token sessions sessions asked call bytes used told result is faultless
-    (λ R. record {
-      does = λ later.
-          same R (used ++ later)
-          ∙ ap (λ (u : Result (List ℕ) SessionFault). in_session sessions u (f R) R (used ++ later))
-          in_use
-          ∙ (does-in sessions user (f R) R R used told (does R)).does later;
-    })
-    tells
-
 -- one that asks it, where something holds of what it tells
 pub performs-with : (T : Response → Type 0) (a b : Store) (config : ServerConfig) (now : Ticks)
     (token : NodeId) (sessions : SessionsState) (asked : Service) (call : Call) (bytes : List ℕ)
@@ -367,34 +343,6 @@ performs-with T a b config now token sessions asked call bytes user f is same in
           })) acts,
       tells,
     )
-
-pub performs-over : (a b : Store) (config : ServerConfig) (now : Ticks) (token : NodeId)
-    (sessions : SessionsState) (asked : Service) (call : Call) (bytes : List ℕ) (user : List ℕ)
-    (f : Content → List ℕ → Fallible (Response × Content)) (used : List StepResult)
-    (told : Response) (result : Result Made Status)
-    → call_in asked bytes ≡ Some call → ((R : Content) (marks : List StepResult)
-    → served config now token call sessions R marks
-    ≡ in_session sessions (user_at sessions token) (f R) R marks) → user_at sessions token ≡ Ok user
-    → Refines a b used (λ R. f R user) told → ReportsAnswer told result
-    → Performs a b (answered_call config now token (call_in asked bytes) sessions) sessions result
-performs-over a b config now token sessions asked call bytes user f used told result is same in_use
-    acts tells =
-    performs-with (λ told. ReportsAnswer told result) a b config now token sessions asked call bytes
-    user f is same in_use (used, told, acts, tells)
-
--- what it comes to is told
-pub performs-comes : (a b : Store) (config : ServerConfig) (now : Ticks) (token : NodeId)
-    (sessions : SessionsState) (asked : Service) (call : Call) (bytes : List ℕ) (user : List ℕ)
-    (f : Content → List ℕ → Fallible (Response × Content)) (result : Result Made Status)
-    → call_in asked bytes ≡ Some call → ((R : Content) (marks : List StepResult)
-    → served config now token call sessions R marks
-    ≡ in_session sessions (user_at sessions token) (f R) R marks) → user_at sessions token ≡ Ok user
-    → Comes a b (λ R. f R user) result
-    → Performs a b (answered_call config now token (call_in asked bytes) sessions) sessions result
-performs-comes a b config now token sessions asked call bytes user f result is same in_use
-    (used, told, acts, tells) =
-    performs-over a b config now token sessions asked call bytes user f used told result is same
-    in_use acts tells
 
 -- ---- updates, which are kept for a log
 
@@ -471,6 +419,12 @@ pub responds-finished : (a b : Store) (service : Content → Fallible MessageOut
 responds-finished a b service sessions now handle answer result bytes
     (used, told, acts, tells) finished = (used, told, acts, finished told tells)
 
+-- why there is none is told
+unwritten : (now : Ticks) (handle : ℕ) (told : Response) (status : Status) (bytes : List ℕ)
+    → ReportsAnswer told (Err status) → Written now handle told (Err status) bytes
+unwritten now handle told status bytes (inl refused) = inl refused
+unwritten now handle told status bytes (inr starved) = inr (inl starved)
+
 -- a service that is refused, or for which memory was wanting, writes none
 pub responds-refused : (a b : Store) (service : Content → Fallible MessageOutcome)
     (sessions : SessionsState) (now : Ticks) (handle : ℕ) (status : Status)
@@ -479,4 +433,4 @@ pub responds-refused : (a b : Store) (service : Content → Fallible MessageOutc
     → result ≡ Err status → Responds a b service sessions now handle result bytes
 responds-refused a b service sessions now handle status result bytes (used, told, acts, tells) is =
     subst (λ (r : Result (Unit {0}) Status). Responds a b service sessions now handle r bytes)
-    (sym is) (used, told, acts, tells)
+    (sym is) (used, told, acts, unwritten now handle told status bytes tells)

@@ -1,7 +1,7 @@
 -- What the services answer, and the responses that tell it (Part 4, 7.34 and 7.35).
-use Rattle.std.specs.Prelude.{ℕ, List, [], ◌++◌, map, Result, Ok, Err}
+use Rattle.std.specs.Prelude.{◌≡◌, ◌<◌, ◌⊎◌, ℕ, List, [], ◌++◌, map, length, Result, Ok, Err, IfOk}
 use Rattle.ua_binary.specs.declared.codes.Status.{Status}
-use Rattle.ua_binary.specs.declared.codes.TheConstants.Status.{GOOD}
+use Rattle.ua_binary.specs.declared.codes.TheConstants.Status.{GOOD, BAD_RESPONSE_TOO_LARGE}
 use Rattle.ua_binary.specs.declared.values.NodeId.TheVariants.{Numeric}
 use Rattle.ua_binary.specs.declared.values.Ticks.{Ticks}
 use Rattle.ua_binary.specs.Binary.{node_id}
@@ -83,3 +83,14 @@ response now handle v =
       | Ok answer ↦ head (type_of answer) now handle GOOD ++ response_body_of answer
       | Err status ↦ service_fault now handle status
     ]
+
+-- it is longer than any response that is sent
+abbrev pub IsTooLarge : Ticks → ℕ → Response → Type 0
+IsTooLarge now handle told = 16777216 < length (response now handle told)
+
+-- what answers a message of this handle: its response, which has a spelling; or where that is too
+-- large, a ServiceFault that says so
+abbrev pub TellsResponse : Ticks → ℕ → Response → List ℕ → Type 0
+TellsResponse now handle told bytes =
+    ((bytes ≡ response now handle told) × IfOk told HasEncoding)
+    ⊎ (IsTooLarge now handle told × (bytes ≡ service_fault now handle BAD_RESPONSE_TOO_LARGE))

@@ -1,12 +1,11 @@
 -- How the services' functions tell what they came to.
-use Rattle.std.specs.Prelude.{◌≡◌, ◌⊎◌, ℕ, List, [], map, Option, Some, None, Result, Ok, Err, IfOk}
+use Rattle.std.specs.Prelude.{◌≡◌, ◌<◌, ◌≤◌, ◌⊎◌, ◌++◌, ℕ, List, [], map, length, Option, Some, None, Result, Ok, Err, IfOk}
+use Rattle.std.specs.List.{AllByRecursion, flat_map}
 use Rattle.ua_binary.specs.declared.codes.Status.{Status}
-use Rattle.ua_binary.specs.declared.codes.TheConstants.Status.{BAD_OUT_OF_MEMORY, BAD_DECODING_ERROR, BAD_SERVICE_UNSUPPORTED}
+use Rattle.ua_binary.specs.declared.codes.TheConstants.Status.{BAD_OUT_OF_MEMORY, BAD_DECODING_ERROR, BAD_SERVICE_UNSUPPORTED, BAD_RESPONSE_TOO_LARGE}
 use Rattle.ua_services.specs.Endpoints.{endpoint_fields, AreShortEndpoints}
 use Rattle.ua_services.specs.Sessions.{session_made, IsShortSession}
-use Rattle.ua_services.specs.Browsing.{AreShortBrowsed}
 use Rattle.ua_services.specs.Updates.{AreShortUpdates}
-use Rattle.ua_services.specs.History.{AreShortHistoryReads}
 use Rattle.ua_session.specs.Sessions.{SessionsState}
 use Rattle.ua_binary.specs.declared.values.NodeId.{NodeId}
 use Rattle.records.specs.Contents.{Content}
@@ -15,11 +14,12 @@ use Rattle.archive.specs.Steps.{Fallible, Yields, Refines}
 use Rattle.ua_binary.specs.declared.values.NodeIdRef.{NodeIdRef}
 use Rattle.ua_binary.specs.declared.values.Ticks.{Ticks}
 use Rattle.ua_binary.specs.Binary.{node_of}
+use Rattle.ua_binary.specs.Format.{Format}
 use Rattle.historian.specs.declared.service.Service.{Service}
 use Rattle.historian.specs.declared.service.ServiceRequest.{ServiceRequest as Opened}
 use Rattle.historian.specs.declared.answer.Answer.{Answer as Made}
 use Rattle.historian.specs.declared.answer.Answer.TheVariants as made
-use Rattle.historian.specs.Answers.{Answer, Endpoints, Created, Activated, Closed, Browsed, Updated, Histories, Response, HasEncoding, response}
+use Rattle.historian.specs.Answers.{Answer, Endpoints, Created, Activated, Closed, Updated, Response, HasEncoding, IsTooLarge, response}
 use Rattle.historian.specs.Requests.{Call, call_in, Request}
 use Rattle.historian.specs.Reading.{Served}
 use Rattle.historian.specs.Services.{MessageOutcome}
@@ -52,9 +52,7 @@ service_answer (made.Endpoints endpoints) = Endpoints (map endpoint_fields endpo
 service_answer (made.Created session) = Created (session_made session)
 service_answer made.Activated = Activated
 service_answer made.Closed = Closed
-service_answer (made.Browsed results) = Browsed results.items
 service_answer (made.Updated results) = Updated results.items
-service_answer (made.Histories results) = Histories results.items
 
 -- it can be written
 abbrev pub IsEncodable : Made → Type 0
@@ -62,20 +60,12 @@ IsEncodable (made.Endpoints endpoints) = AreShortEndpoints endpoints.items
 IsEncodable (made.Created session) = IsShortSession session
 IsEncodable made.Activated = Unit {0}
 IsEncodable made.Closed = Unit {0}
-IsEncodable (made.Browsed results) = AreShortBrowsed results.items
 IsEncodable (made.Updated results) = AreShortUpdates results.items
-IsEncodable (made.Histories results) = AreShortHistoryReads results.items
 
 -- the answer was made; or it is told why there is none, or that memory was wanting
 abbrev pub ReportsAnswer : Response → Result Made Status → Type 0
 ReportsAnswer told (Ok answer) = told ≡ Ok (service_answer answer)
 ReportsAnswer told (Err status) = (told ≡ Err status) ⊎ (status ≡ BAD_OUT_OF_MEMORY)
-
--- what a service of an archive comes to over what is held is told
-abbrev pub Comes : Store → Store → (Content → Served) → Result Made Status → Type 0
-Comes old new service result =
-    (used : List StepResult) × (told : Response) × Refines old new used service told
-    × ReportsAnswer told result
 
 -- what is told by an answer of the code, or by the code that refuses
 abbrev pub response_made : Result Made Status → Response
@@ -101,11 +91,24 @@ PerformsHere service sessions result =
     (used : List StepResult) × (told : Response) × (faults_of used ≡ [])
     × ((R : Content) → Yields (service R) used ((told, sessions), R)) × ReportsAnswer told result
 
--- the response is written, and has a spelling; or it is told why there is none, or that memory was
--- wanting
+-- the response is written, and has a spelling; or it is told why there is none, that memory was
+-- wanting, or that the response is too large to be sent
 abbrev pub Written : Ticks → ℕ → Response → Result (Unit {0}) Status → List ℕ → Type 0
 Written now handle told (Ok _) bytes = (bytes ≡ response now handle told) × IfOk told HasEncoding
-Written now handle told (Err status) bytes = (told ≡ Err status) ⊎ (status ≡ BAD_OUT_OF_MEMORY)
+Written now handle told (Err status) bytes =
+    (told ≡ Err status) ⊎ (status ≡ BAD_OUT_OF_MEMORY)
+    ⊎ ((status ≡ BAD_RESPONSE_TOO_LARGE) × IsTooLarge now handle told)
+
+-- of these bytes so many were written that they are seen to be too many for a response
+abbrev pub IsCutShort : List ℕ → List ℕ → Type 0
+IsCutShort whole written = (16777216 < length written) × (length written ≤ length whole)
+
+-- these values, which have spellings, were appended in this format; or enough of them to see that
+-- they are too many for a response
+abbrev pub Appends : {E A : Type 0} → Format E A → List A → List ℕ → List ℕ → Type 0
+Appends format values old new =
+    ((new ≡ old ++ flat_map format.canon values) × AllByRecursion format.Fits values)
+    ⊎ IsCutShort (old ++ flat_map format.canon values) new
 
 -- the same of what a service of an archive comes to over what is held
 abbrev pub ComesWritten : Store → Store → (Content → Served) → Ticks → ℕ → Result (Unit {0}) Status

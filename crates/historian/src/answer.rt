@@ -1,4 +1,4 @@
-//! What the services answer, and the responses that tell it (Part 4, 7.34).
+//! What services answer that don't write their responses themselves, and those responses (Part 4, 7.34).
 
 ghost use Rattle.std.specs.Prelude.{◌≡◌, ◌++◌, Ok, OnOk, IfOk, IfErr};
 ghost use Rattle.historian.specs.Answers.{type_of, response_body_of, HasEncoding, response};
@@ -7,10 +7,8 @@ ghost use Rattle.historian.specs.Telling.{service_answer, IsEncodable};
 use crate::responses::put_head;
 use ua_binary::{BinaryFault, Status, Ticks};
 use ua_services::{
-    BrowseResult, CreateSessionResponse, EndpointDescription, HistoryReadResult,
-    HistoryUpdateResult, put_activate_session_response, put_browse_response,
-    put_create_session_response, put_get_endpoints_response, put_history_read_response,
-    put_history_update_response,
+    CreateSessionResponse, EndpointDescription, HistoryUpdateResult, put_activate_session_response,
+    put_create_session_response, put_get_endpoints_response, put_history_update_response,
 };
 
 /// What a service answers.
@@ -20,9 +18,7 @@ pub(crate) enum Answer {
     Created(CreateSessionResponse),
     Activated,
     Closed,
-    Browsed(Vec<BrowseResult>),
     Updated(Vec<HistoryUpdateResult>),
-    Histories(Vec<HistoryReadResult>),
 }
 
 impl Answer {
@@ -35,14 +31,12 @@ impl Answer {
             Answer::Created(..) => 464,
             Answer::Activated => 470,
             Answer::Closed => 476,
-            Answer::Browsed(_) => 530,
             Answer::Updated(_) => 703,
-            Answer::Histories(_) => 667,
         }
     }
 
     /// Appends what the response has behind its header, which has a spelling. The one error is `OutOfMemory`.
-    #[tactic(auto, unfolding(ua_services::specs::Endpoints::get_endpoints_response, ua_services::specs::Sessions::create_session_response, ua_services::specs::Sessions::activate_session_response, ua_services::specs::Browsing::browse_response, ua_services::specs::Updates::history_update_response, ua_services::specs::History::history_read_response))]
+    #[tactic(auto, unfolding(ua_services::specs::Endpoints::get_endpoints_response, ua_services::specs::Sessions::create_session_response, ua_services::specs::Sessions::activate_session_response, ua_services::specs::Updates::history_update_response))]
     fn put_body(&self, out: &mut Vec<u8>) -> Result<(), BinaryFault>
         requires { IsEncodable self.now }
         ensures ok { OnOk result
@@ -55,9 +49,7 @@ impl Answer {
             Answer::Created(session) => put_create_session_response(out, session),
             Answer::Activated => put_activate_session_response(out),
             Answer::Closed => Ok(()),
-            Answer::Browsed(results) => put_browse_response(out, results),
             Answer::Updated(results) => put_history_update_response(out, results),
-            Answer::Histories(results) => put_history_read_response(out, results),
         }
     }
 

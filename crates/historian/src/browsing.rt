@@ -1,24 +1,29 @@
 //! Browse (Part 4, 5.9.2), and lists of what a service is asked.
 
-ghost use Rattle.std.specs.Prelude.{◌≡◌, All, map, IfOk, IfErr, Ok};
+ghost use Rattle.std.specs.Prelude.{◌≡◌, [], map, IfOk, IfErr, OnOk, Ok};
 ghost use Rattle.ua_binary.specs.Binary.{node_of};
 ghost use Rattle.ua_binary.specs.Format.{IsOrStarved};
 ghost use Rattle.hist_update.specs.Codes.{list_refusal};
-ghost use Rattle.ua_services.specs.Browsing.{browse_fields, IsShortBrowsed};
+ghost use Rattle.ua_services.specs.Browsing.{browse_fields, browsed_fields, browse_result, IsShortBrowsed};
 ghost use Rattle.historian.specs.declared.service.Service.TheVariants as service;
 ghost use Rattle.historian.specs.Browsing.{browse_node, browse};
 ghost use Rattle.historian.specs.Requests.{call_in};
-ghost use Rattle.historian.specs.Services.{ServerConfig, answered_call};
-ghost use Rattle.historian.specs.Telling.{IsEncodable, ReportsAnswer, PerformsHere};
+ghost use Rattle.historian.specs.Services.{site_of, answered_call};
+ghost use Rattle.historian.specs.Telling.{Appends, Written, Responds};
 
-use crate::answer::Answer;
 use crate::requests::browse_request;
+use crate::responses::{LONGEST_RESPONSE, put_head};
+use crate::server::Server;
+use crate::service::ServiceRequest;
+use archive::Archive;
 use std::alloc::Global;
-use ua_binary::{Cursor, Listing, NodeIdRef, Status};
+use ua_binary::{BinaryFault, Encode, Listing, Status, Ticks, put_count, put_i32};
 use ua_services::{BrowseDescription, BrowseResult};
 use ua_session::Sessions;
-use ua_settings::Settings;
 use ua_space::Space;
+
+/// The type id of a BrowseResponse.
+const BROWSE_RESPONSE: u32 = 530;
 
 /// The most nodes of a Browse.
 const MOST_BROWSED: usize = 1000;
@@ -59,56 +64,75 @@ fn browse_node(
     }
 }
 
-/// Browses nodes, in order. The one error is `BAD_OUT_OF_MEMORY`.
-fn browse_nodes(
+/// Appends what is told of nodes, in order, until these are too many bytes for a response. The one error is `OutOfMemory`.
+fn put_browsed(
     alloc: Global,
     space: &Space,
     nodes: &[BrowseDescription<'_>],
-) -> Result<Vec<BrowseResult>, Status>
-    ensures told { IfOk result
-        (λ v. v.items ≡ map (browse_node space.now) (map browse_fields nodes.now)) }
-    ensures short { IfOk result (λ v. All IsShortBrowsed v.items) }
-    ensures starved { IfErr result (λ status. status ≡ Status.BAD_OUT_OF_MEMORY) }
+    out: &mut Vec<u8>,
+) -> Result<(), BinaryFault>
+    ensures told { OnOk result (Appends browse_result
+        (map browsed_fields (map (browse_node space.now) (map browse_fields nodes.now)))
+        out.old.items out.new.items) }
+    ensures err { IfErr result (λ fault. fault ≡ BinaryFault.OutOfMemory) }
 {
-    let mut results = Vec::with_capacity(alloc, nodes.len())?;
     for description in nodes {
-        results.push(browse_node(alloc, space, description)?)?;
+        if out.len() <= LONGEST_RESPONSE {
+            match browse_node(alloc, space, description) {
+                Ok(browsed) => browsed.put(out)?,
+                Err(_) => return Err(BinaryFault::OutOfMemory),
+            }
+        }
     }
-    Ok(results)
+    Ok(())
 }
 
-/// What a Browse of these nodes is answered.
-fn browse_all(
-    alloc: Global,
-    space: &Space,
+/// Writes the response of a Browse of these nodes; or tells why it is refused as a whole, that memory was wanting, or that
+/// the response is too large.
+fn put_browse<A>(
+    server: &Server<A>,
     nodes: &[BrowseDescription<'_>],
-) -> Result<Answer, Status>
-    ensures told { ReportsAnswer (browse space.now (map browse_fields nodes.now)) result }
-    ensures short { IfOk result IsEncodable }
+    now: Ticks,
+    handle: u32,
+    body: &mut Vec<u8>,
+) -> Result<(), Status>
+    requires { body.old.items ≡ [] }
+    ensures { Written now handle (browse server.now.settings.space (map browse_fields nodes.now))
+        result body.new.items }
 {
     if let Some(status) = list_refusal(MOST_BROWSED, nodes.len()) {
         return Err(status);
     }
-    Ok(Answer::Browsed(browse_nodes(alloc, space, nodes)?))
+    put_head(body, BROWSE_RESPONSE, now, handle, Status::GOOD)?;
+    put_count(body, nodes.len())?;
+    put_browsed(server.alloc, server.settings.space(), nodes, body)?;
+    if body.len() > LONGEST_RESPONSE {
+        return Err(Status::BAD_RESPONSE_TOO_LARGE);
+    }
+    put_i32(body, -1)?;
+    Ok(())
 }
 
 /// Browse (Part 4, 5.9.2), in a session that was activated: of 1 to 1,000 nodes all references at once. The view and
 /// the number of references that the client asks for aren't looked at. `BAD_NOTHING_TO_DO` for no node,
-/// `BAD_TOO_MANY_OPERATIONS` for more; each node has a status of its own.
-pub(crate) fn browse(
-    alloc: Global,
-    settings: &Settings,
+/// `BAD_TOO_MANY_OPERATIONS` for more; each node has a status of its own. What is told of each node is written into the
+/// response at once, until that is too large to be sent: `BAD_RESPONSE_TOO_LARGE`.
+pub(crate) fn browse<A: Archive>(
+    server: &Server<A>,
     sessions: &Sessions,
-    token: NodeIdRef<'_>,
-    request: Cursor<'_>,
-) -> Result<Answer, Status>
-    ensures performs { (config : ServerConfig) (now : _) → config.settings ≡ settings.now
-        → PerformsHere
-        (answered_call config now (node_of token.entry)
-        (call_in service.Browse request.entry) sessions.now) sessions.now result }
-    ensures short { IfOk result IsEncodable }
+    now: Ticks,
+    handle: u32,
+    request: ServiceRequest<'_>,
+    body: &mut Vec<u8>,
+) -> Result<(), Status>
+    requires { body.old.items ≡ [] }
+    ensures { Responds (A.state server.now.replica.archive)
+        (A.state server.now.replica.archive)
+        (answered_call (site_of server.now.settings (A.state server.now.replica.archive)) now
+        (node_of request.entry.token) (call_in service.Browse request.entry.body) sessions.now)
+        sessions.now now handle result body.new.items }
 {
-    let asked = browse_request(alloc, request)?;
-    sessions.user_of(token)?;
-    browse_all(alloc, settings.space(), &asked.nodes)
+    let asked = browse_request(server.alloc, request.body)?;
+    sessions.user_of(request.token)?;
+    put_browse(server, &asked.nodes, now, handle, body)
 }

@@ -1,10 +1,12 @@
 //! HistoryRead (Part 4, 5.11.3).
 
-ghost use Rattle.std.specs.Prelude.{◌≡◌, ◌≤◌, ◌∷◌, [], List, map, length, is_some, All, IfOk, vec_capacity};
+ghost use Rattle.std.specs.Prelude.{◌≡◌, ◌∷◌, [], List, map, length, is_some, IfOk, IfErr, OnOk};
 ghost use Rattle.std.specs.Option.{option_copied};
 ghost use Rattle.ua_binary.specs.Binary.{node_of, qualified_of, IsShortNode};
+ghost use Rattle.ua_binary.specs.Format.{Puts};
 ghost use Rattle.ua_binary.specs.Rules.{checked};
-ghost use Rattle.ua_services.specs.History.{HistoryAsked, history_read_fields, history_asked, IsShortHistoryRead};
+ghost use Rattle.ua_services.specs.History.{HistoryAsked, history_read_fields, history_asked, history_fields, history_read_result, IsShortHistoryRead};
+ghost use Rattle.ua_services.specs.declared.history.HistoryReadResult.{HistoryReadResult as Told};
 ghost use Rattle.archive.specs.Store.{StepResult};
 ghost use Rattle.archive.specs.Steps.{Refines, each};
 ghost use Rattle.hist_read.specs.Node.{refused_read};
@@ -12,26 +14,38 @@ ghost use Rattle.historian.specs.declared.service.Service.TheVariants as service
 ghost use Rattle.historian.specs.Reading.{history_rules, released, read_history_of, query_of, read_history};
 ghost use Rattle.historian.specs.Requests.{call_in};
 ghost use Rattle.historian.specs.Services.{site_of, answered_call};
-ghost use Rattle.historian.specs.Telling.{IsEncodable, Comes, Performs};
+ghost use Rattle.historian.specs.Telling.{Appends, ComesWritten, Responds};
 
-use crate::answer::Answer;
 use crate::browsing::list_refusal;
 use crate::reading::judge_value;
 use crate::requests::history_read_request;
+use crate::responses::{LONGEST_RESPONSE, put_head};
 use crate::server::Server;
 use crate::service::ServiceRequest;
 use archive::Archive;
 use hist_read::{Query, read_node};
 use std::alloc::Global;
-use ua_binary::{Status, Ticks};
+use ua_binary::{BinaryFault, Status, Ticks, put_count, put_i32};
 use ua_services::{
-    HistoryData, HistoryReadDetails, HistoryReadResult, HistoryReadValueId, TimestampsToReturn,
+    HistoryData, HistoryReadDetails, HistoryReadRequest, HistoryReadResult, HistoryReadValueId,
+    TimestampsToReturn, put_history_read_result,
 };
 use ua_session::Sessions;
 use ua_space::Space;
 
+/// The type id of a HistoryReadResponse.
+const HISTORY_READ_RESPONSE: u32 = 667;
+
 /// The most nodes of a HistoryRead.
 const MOST_HISTORIES: usize = 100;
+
+/// On which terms histories are read: what is asked of each, and whether its continuation point is only given back.
+#[derive(Clone, Copy)]
+struct HistoryTerms {
+    alloc: Global,
+    query: Query,
+    release: bool,
+}
 
 /// A read of a node that is refused, or shows nothing.
 fn nothing(status: Status) -> HistoryReadResult
@@ -74,52 +88,80 @@ fn released(release: bool, read: HistoryReadResult) -> HistoryReadResult
 
 /// Reads the history of a node.
 fn read_history_of<A: Archive>(
-    alloc: Global,
     space: &Space,
     archive: &mut A,
-    query: &Query,
-    release: bool,
+    terms: HistoryTerms,
     item: HistoryReadValueId<'_>,
 ) -> HistoryReadResult
     ensures acts { (used : List StepResult)
         × Refines (A.state archive.old) (A.state archive.new) used
-        (read_history_of (A.state archive.old).id space.now query.now release
+        (read_history_of (A.state archive.old).id space.now terms.query terms.release
         (history_read_fields item.entry)) result }
     ensures short { IsShortHistoryRead result }
 {
     if let Err(status) = judge_history(space, item) {
         return nothing(status);
     }
-    let Ok(node) = item.node_id.to_owned(alloc) else {
+    let Ok(node) = item.node_id.to_owned(terms.alloc) else {
         return nothing(Status::BAD_OUT_OF_MEMORY);
     };
-    let read = read_node(alloc, archive, &node, query, item.continuation_point);
-    released(release, read)
+    let read = read_node(
+        terms.alloc,
+        archive,
+        &node,
+        &terms.query,
+        item.continuation_point,
+    );
+    released(terms.release, read)
 }
 
-/// Reads the histories of nodes, in order.
-fn read_histories<A: Archive>(
-    alloc: Global,
+/// Appends what is told of the history of a node.
+#[tactic(auto, unfolding(ua_services::specs::History::history_read_result))]
+fn put_history<A: Archive>(
     space: &Space,
     archive: &mut A,
-    query: &Query,
-    release: bool,
-    items: &[HistoryReadValueId<'_>],
-    results: &mut Vec<HistoryReadResult>,
-)
-    requires empty { results.old.items ≡ [] }
-    requires room { length items.now ≤ vec_capacity results.old }
-    ensures acts { (used : List StepResult)
+    terms: HistoryTerms,
+    item: HistoryReadValueId<'_>,
+    out: &mut Vec<u8>,
+) -> Result<(), BinaryFault>
+    ensures { (used : List StepResult) × (value : Told)
         × Refines (A.state archive.old) (A.state archive.new) used
-        (each (read_history_of (A.state archive.old).id space.now query.now release)
-        (map history_read_fields items.now)) results.new.items }
-    ensures count { length results.new.items ≡ length items.now }
-    ensures short { All IsShortHistoryRead results.new.items }
+        (read_history_of (A.state archive.old).id space.now terms.query terms.release
+        (history_read_fields item.entry)) value
+        × Puts BinaryFault.OutOfMemory result out.old.items out.new.items
+        (history_read_result.canon (history_fields value))
+        × IfOk result (λ _. history_read_result.Fits (history_fields value)) }
 {
+    let read = read_history_of(space, archive, terms, item);
+    put_history_read_result(out, &read)
+}
+
+/// Appends what is told of the histories of nodes, in order, until these are too many bytes for a response. All of them are
+/// read until then, also where memory for the bytes runs out.
+fn put_histories<A: Archive>(
+    space: &Space,
+    archive: &mut A,
+    terms: HistoryTerms,
+    items: &[HistoryReadValueId<'_>],
+    out: &mut Vec<u8>,
+) -> Result<(), BinaryFault>
+    ensures told { (used : List StepResult) × (values : List Told)
+        × (length values ≡ length items.now)
+        × Refines (A.state archive.old) (A.state archive.new) used
+        (each (read_history_of (A.state archive.old).id space.now terms.query terms.release)
+        (map history_read_fields items.now)) values
+        × OnOk result (Appends history_read_result (map history_fields values)
+        out.old.items out.new.items) }
+    ensures err { IfErr result (λ fault. fault ≡ BinaryFault.OutOfMemory) }
+{
+    let mut put = Ok(());
     for item in items {
-        let result = read_history_of(alloc, space, archive, query, release, *item);
-        results.push(result).unwrap();
+        if out.len() <= LONGEST_RESPONSE {
+            let one = put_history(space, archive, terms, *item, out);
+            put = put.and(one);
+        }
     }
+    put
 }
 
 /// What is read of each node: `BAD_TIMESTAMPS_TO_RETURN_INVALID` where neither of the moments is wanted, or the number
@@ -142,41 +184,45 @@ fn query_of(
     }
 }
 
-/// What a HistoryRead of these nodes is answered.
-fn read_all<A: Archive>(
+/// Writes the response of a HistoryRead; or tells why it is refused as a whole, that memory was wanting, or that the response
+/// is too large.
+fn put_read_history<A: Archive>(
     server: &mut Server<A>,
-    details: HistoryReadDetails,
-    timestamps: Option<TimestampsToReturn>,
-    release: bool,
-    nodes: &[HistoryReadValueId<'_>],
-) -> Result<Answer, Status>
-    ensures comes { Comes (A.state server.old.replica.archive)
+    now: Ticks,
+    handle: u32,
+    asked: &HistoryReadRequest<'_>,
+    body: &mut Vec<u8>,
+) -> Result<(), Status>
+    requires { body.old.items ≡ [] }
+    ensures comes { ComesWritten (A.state server.old.replica.archive)
         (A.state server.new.replica.archive)
         (read_history (A.state server.old.replica.archive).id server.old.settings.space
-        (details, (timestamps, (release, map history_read_fields nodes.now)))) result }
+        (history_asked asked.now)) now handle result body.new.items }
     ensures settings { server.new.settings ≡ server.old.settings }
-    ensures short { IfOk result IsEncodable }
 {
-    if let Some(status) = list_refusal(MOST_HISTORIES, nodes.len()) {
+    if let Some(status) = list_refusal(MOST_HISTORIES, asked.nodes.len()) {
         return Err(status);
     }
-    let query = match query_of(details, timestamps) {
-        Ok(query) => query,
-        Err(status) => return Err(status),
+    let query = query_of(asked.details, asked.timestamps)?;
+    put_head(body, HISTORY_READ_RESPONSE, now, handle, Status::GOOD)?;
+    put_count(body, asked.nodes.len())?;
+    let terms = HistoryTerms {
+        alloc: server.alloc,
+        query,
+        release: asked.release_continuation_points,
     };
-    let Ok(mut results) = Vec::with_capacity(server.alloc, nodes.len()) else {
-        return Err(Status::BAD_OUT_OF_MEMORY);
-    };
-    read_histories(
-        server.alloc,
+    put_histories(
         server.settings.space(),
         &mut server.replica.archive,
-        &query,
-        release,
-        nodes,
-        &mut results,
-    );
-    Ok(Answer::Histories(results))
+        terms,
+        &asked.nodes,
+        body,
+    )?;
+    if body.len() > LONGEST_RESPONSE {
+        return Err(Status::BAD_RESPONSE_TOO_LARGE);
+    }
+    put_i32(body, -1)?;
+    Ok(())
 }
 
 /// HistoryRead (Part 4, 5.11.3), in a session that was activated: of 1 to 100 nodes. `BAD_NOTHING_TO_DO` for no node,
@@ -184,28 +230,25 @@ fn read_all<A: Archive>(
 /// `BAD_HISTORY_OPERATION_UNSUPPORTED` for details other than ReadRawModifiedDetails. Each node has a status of its own:
 /// `BAD_NODE_ID_UNKNOWN`, `BAD_HISTORY_OPERATION_UNSUPPORTED` where it isn't archived, `BAD_INDEX_RANGE_INVALID`,
 /// `BAD_DATA_ENCODING_UNSUPPORTED`, and then those of `read_node`. Where continuation points are only given back, a node
-/// is read as ever, and nothing of it is shown.
+/// is read as ever, and nothing of it is shown. Each history is written into the response as it is read, until the response
+/// is too large to be sent: `BAD_RESPONSE_TOO_LARGE`, and what is left isn't read.
 pub(crate) fn read_history<A: Archive>(
     server: &mut Server<A>,
     sessions: &Sessions,
     now: Ticks,
+    handle: u32,
     request: ServiceRequest<'_>,
-) -> Result<Answer, Status>
-    ensures performs { Performs (A.state server.old.replica.archive)
+    body: &mut Vec<u8>,
+) -> Result<(), Status>
+    requires { body.old.items ≡ [] }
+    ensures responds { Responds (A.state server.old.replica.archive)
         (A.state server.new.replica.archive)
         (answered_call (site_of server.old.settings (A.state server.old.replica.archive)) now
         (node_of request.entry.token) (call_in service.HistoryRead request.entry.body)
-        sessions.now) sessions.now result }
+        sessions.now) sessions.now now handle result body.new.items }
     ensures settings { server.new.settings ≡ server.old.settings }
-    ensures short { IfOk result IsEncodable }
 {
     let asked = history_read_request(server.alloc, request.body)?;
     sessions.user_of(request.token)?;
-    read_all(
-        server,
-        asked.details,
-        asked.timestamps,
-        asked.release_continuation_points,
-        &asked.nodes,
-    )
+    put_read_history(server, now, handle, &asked, body)
 }

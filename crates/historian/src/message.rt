@@ -4,7 +4,7 @@ ghost use Rattle.std.specs.Prelude.{◌≡◌, [], List, IfOk, OnOk};
 ghost use Rattle.ua_binary.specs.Binary.{node_of};
 ghost use Rattle.archive.specs.Store.{StepResult};
 ghost use Rattle.archive.specs.Steps.{Refines};
-ghost use Rattle.historian.specs.Answers.{Response, HasEncoding, response, service_fault};
+ghost use Rattle.historian.specs.Answers.{Response, TellsResponse, service_fault};
 ghost use Rattle.historian.specs.Requests.{call_in};
 ghost use Rattle.historian.specs.Services.{site_of, answered_call, answered_request};
 ghost use Rattle.historian.specs.Telling.{IsEncodable, ReportsAnswer, Written, Responds, asked_of};
@@ -65,15 +65,13 @@ fn serve<A: Archive>(
             activate_session(&server.settings, sessions, request.token, request.body)
         }
         Service::CloseSession => close_session(sessions, request.token, request.body),
-        Service::Browse => browse(
-            server.alloc,
-            &server.settings,
-            sessions,
-            request.token,
-            request.body,
-        ),
+        Service::Browse => {
+            return browse(server, sessions, now, handle, request, body);
+        }
         Service::Read => return read(server, sessions, now, handle, request, body),
-        Service::HistoryRead => read_history(server, sessions, now, request),
+        Service::HistoryRead => {
+            return read_history(server, sessions, now, handle, request, body);
+        }
         Service::HistoryUpdate => update_history(server, sessions, now, request),
     };
     write_response(answer, now, handle, body)
@@ -117,8 +115,8 @@ fn refuse(body: &mut Vec<u8>, now: Ticks, handle: u32, status: Status) -> Result
 ///
 /// Where the type id can't be read, the service isn't served, or the header or the body can't be read, where the session
 /// isn't there or wasn't activated, and where the service refuses the request as a whole, the response is a ServiceFault
-/// that says so. What is written has a spelling, so it is read again. The one error is want of memory for the response; what
-/// the service did stands then.
+/// that says so, and so it is where the response is longer than any that is sent. What is written has a spelling, so it is
+/// read again. The one error is want of memory for the response; what the service did stands then.
 pub fn answer_message<A: Archive>(
     server: &mut Server<A>,
     sessions: &mut Sessions,
@@ -131,8 +129,7 @@ pub fn answer_message<A: Archive>(
         × Refines (A.state server.old.replica.archive) (A.state server.new.replica.archive) used
         (answered_request (site_of server.old.settings (A.state server.old.replica.archive)) now
         (asked_of message.entry.request) sessions.old) (told, sessions.new)
-        × OnOk result
-        ((body.new.items ≡ response now message.entry.handle told) × IfOk told HasEncoding) }
+        × OnOk result (TellsResponse now message.entry.handle told body.new.items) }
     ensures settings { server.new.settings ≡ server.old.settings }
 {
     let handle = message.handle();

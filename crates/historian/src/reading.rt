@@ -2,8 +2,7 @@
 
 ghost use Rattle.ua_binary.specs.declared.codes.TheConstants.Status.{BAD_WAITING_FOR_INITIAL_DATA};
 ghost use Rattle.hist_read.specs.Showing.{at_time};
-ghost use Rattle.std.specs.Prelude.{◌≡◌, ◌⊎◌, ◌++◌, ◌∷◌, [], List, map, take, length, Result, IfOk, IfErr, OnOk, Ok, Err};
-ghost use Rattle.std.specs.List.{AllByRecursion, flat_map};
+ghost use Rattle.std.specs.Prelude.{◌≡◌, ◌⊎◌, ◌∷◌, [], List, map, take, length, Result, IfOk, IfErr, OnOk, Ok, Err};
 ghost use Rattle.std.specs.Option.{option_copied};
 ghost use Rattle.ua_binary.specs.Binary.{node_of, qualified_of};
 ghost use Rattle.ua_binary.specs.Format.{Puts};
@@ -26,12 +25,12 @@ ghost use Rattle.historian.specs.declared.service.Service.TheVariants as service
 ghost use Rattle.historian.specs.Reading.{is_null_or_empty, is_default, value_rules, valued, latest, item_told, value_step, FindsItem, read_item, read};
 ghost use Rattle.historian.specs.Requests.{call_in};
 ghost use Rattle.historian.specs.Services.{ServerConfig, site_of, answered_call};
-ghost use Rattle.historian.specs.Telling.{ComesWritten, Responds};
+ghost use Rattle.historian.specs.Telling.{Appends, ComesWritten, Responds};
 ghost use Rattle.historian.specs.UserSpaces.{seen_by};
 
 use crate::browsing::list_refusal;
 use crate::requests::read_request;
-use crate::responses::put_head;
+use crate::responses::{LONGEST_RESPONSE, put_head};
 use crate::server::Server;
 use crate::service::ServiceRequest;
 use archive::{Archive, Direction, StepError, StoreFault};
@@ -317,7 +316,8 @@ fn put_item<A: Archive>(
     }
 }
 
-/// Appends what is told of items, in order. All of them are read, also where memory for the bytes runs out.
+/// Appends what is told of items, in order, until these are too many bytes for a response. All of them are read until then,
+/// also where memory for the bytes runs out.
 fn put_items<A: Archive>(
     alloc: Global,
     space: &Space,
@@ -332,20 +332,21 @@ fn put_items<A: Archive>(
         (each (read_item (seen_by space.now terms.access) terms.now terms.stamps)
         (map read_fields items.now)) values
         × OnOk result
-        ((out.new.items ≡ out.old.items ++ flat_map data_value.canon values)
-        × AllByRecursion IsDataValue values) }
+        (Appends data_value values out.old.items out.new.items) }
     ensures err { IfErr result (λ fault. fault ≡ BinaryFault.OutOfMemory) }
 {
     let mut put = Ok(());
     for item in items {
-        let one = put_item(alloc, space, archive, terms, item, out);
-        put = put.and(one);
+        if out.len() <= LONGEST_RESPONSE {
+            let one = put_item(alloc, space, archive, terms, item, out);
+            put = put.and(one);
+        }
     }
     put
 }
 
-/// Writes the response of a Read of these items for a user who may do this, or tells why it is refused as a whole, or that
-/// memory was wanting.
+/// Writes the response of a Read of these items for a user who may do this; or tells why it is refused as a whole, that
+/// memory was wanting, or that the response is too large.
 fn put_read<A: Archive>(
     server: &mut Server<A>,
     access: Access,
@@ -383,6 +384,9 @@ fn put_read<A: Archive>(
         nodes,
         body,
     )?;
+    if body.len() > LONGEST_RESPONSE {
+        return Err(Status::BAD_RESPONSE_TOO_LARGE);
+    }
     put_i32(body, -1)?;
     Ok(())
 }
@@ -391,7 +395,8 @@ fn put_read<A: Archive>(
 /// `BAD_TOO_MANY_OPERATIONS` for more, then `BAD_TIMESTAMPS_TO_RETURN_INVALID`. Each item has a status of its own: that of its
 /// node, attribute, index range and data encoding, in this order; `BAD_WAITING_FOR_INITIAL_DATA` where an archived
 /// variable has no value; those of memory and of the store. The moment of the server is that of the request, and so is the
-/// source time of a value that no archive keeps. Each value is written into the response as it is read.
+/// source time of a value that no archive keeps. Each value is written into the response as it is read, until the response is
+/// too large to be sent: `BAD_RESPONSE_TOO_LARGE`, and what is left isn't read.
 pub(crate) fn read<A: Archive>(
     server: &mut Server<A>,
     sessions: &Sessions,

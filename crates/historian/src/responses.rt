@@ -6,6 +6,9 @@ ghost use Rattle.historian.specs.Answers.{head, service_fault};
 use ua_binary::{BinaryFault, NodeId, Status, Ticks, put_node_id};
 use ua_channel::put_response_header;
 
+/// The most bytes of a response that is sent, whatever a client takes.
+pub(crate) const LONGEST_RESPONSE: usize = 16_777_216;
+
 /// The type id of a ServiceFault.
 const SERVICE_FAULT: u32 = 397;
 

@@ -1,9 +1,10 @@
 -- What the steps of answering one chunk do.
-use Rattle.std.proofs.Common.{◌≡◌, ℕ, ℤ, List, [], ◌∷◌, ◌++◌, Some, None, Ok, Err, refl, sym, ◌∙◌, ap, subst}
-use Rattle.std.specs.Prelude.{Option, Result}
+use Rattle.std.proofs.Common.{◌≡◌, ◌-◌, ◌*◌, ℕ, ℤ, Bool, true, false, nat_le, List, [], ◌∷◌, ◌++◌, length, Some, None, Ok, Err, refl, sym, ◌∙◌, ap, subst, inl, inr}
+use Rattle.std.specs.Prelude.{◌==◌, ◌&&◌, ◌||◌, if◌then◌else◌, Option, Result}
+use Rattle.std.proofs.lemmas.Bool.{lt-leb}
 use Rattle.std.proofs.lemmas.List.{append-nil}
 use Rattle.ua_binary.specs.declared.codes.Status.{Status}
-use Rattle.ua_binary.specs.declared.codes.TheConstants.Status.{BAD_OUT_OF_MEMORY, BAD_TCP_MESSAGE_TYPE_INVALID}
+use Rattle.ua_binary.specs.declared.codes.TheConstants.Status.{BAD_OUT_OF_MEMORY, BAD_RESPONSE_TOO_LARGE, BAD_TCP_MESSAGE_TYPE_INVALID}
 use Rattle.ua_binary.specs.declared.values.Ticks.{Ticks}
 use Rattle.uacp.specs.declared.types.UacpFault.{UacpFault}
 use Rattle.uacp.specs.declared.types.Kind.{Kind}
@@ -20,7 +21,7 @@ use Rattle.ua_channel.specs.declared.taken.OpenRequest.{OpenRequest}
 use Rattle.ua_channel.specs.declared.taken.Taken.{Taken}
 use Rattle.ua_channel.specs.Placed.{Placed}
 use Rattle.ua_channel.specs.Taking.{ChannelState, new_channel, heard_after, Refuses as RefusesChunk, Takes as TakesChunk}
-use Rattle.ua_channel.specs.Sending.{opened_chunk, number_after, message_bytes, chunk_count}
+use Rattle.ua_channel.specs.Sending.{opened_chunk, number_after, message_bytes, chunk_count, is_fitting}
 use Rattle.ua_session.specs.Sessions as session
 use Rattle.records.specs.Contents.{Content}
 use Rattle.archive.specs.Store.{Store, StepResult, Done, NoMemory, faults_of}
@@ -28,7 +29,7 @@ use Rattle.archive.specs.Steps.{Refines, Yields as DoesMarked, give, and_then}
 use Rattle.archive.proofs.Acting.{moves-none-by, moves-behind-quiet, moves-before-quiet}
 use Rattle.historian.specs.Services.{ServerConfig, MessageOutcome, answered as performed}
 use Rattle.historian.specs.Requests.{handle_of}
-use Rattle.historian.specs.Answers.{Response, response, service_fault}
+use Rattle.historian.specs.Answers.{Response, TellsResponse, response, service_fault}
 use Rattle.ua_connection.specs.declared.outcome.Served.TheVariants.{Closed}
 use Rattle.counted_io.specs.declared.fault.ServeFault.{ServeFault}
 use Rattle.counted_io.specs.declared.fault.ServeFault.TheVariants.{OutOfMemory}
@@ -400,13 +401,37 @@ tells a b config client next sessions state request message now ms vs answer old
       },
     )
 
+-- a response that is too large is sent as the ServiceFault that says so is
+fits-same : (state : ChannelState) (now : Ticks) (handle : ℕ) (told : Response) (body : List ℕ)
+    → TellsResponse now handle told body
+    → fitted state now handle body ≡ fitted state now handle (response now handle told)
+fits-same state now handle told body (inl whole) =
+    ap (λ (b : List ℕ). fitted state now handle b) whole.0
+fits-same state now handle told body (inr (large, is)) =
+    ap (λ (b : List ℕ). fitted state now handle b) is
+    ∙ (either (is_fitting state (length fault)) ∙ sym refused)
+  where
+    fault : List ℕ
+    fault = service_fault now handle BAD_RESPONSE_TOO_LARGE
+
+    either : (b : Bool) → (if b then fault else fault) ≡ fault
+    either true = refl
+    either false = refl
+
+    refused : fitted state now handle (response now handle told) ≡ fault
+    refused = let n = length (response now handle told) in
+        let within = (state.max_message == 0 || nat_le n state.max_message)
+        && (state.max_chunks == 0 || nat_le n (state.max_chunks * (state.limit - 24))) in
+        ap (λ (b : Bool). if b && within then response now handle told else fault)
+        (lt-leb n 16777216 large)
+
 -- a response was sent
 pub sends-response : (a b : Store) (config : ServerConfig) (client : Client)
     (sessions : session.SessionsState) (state new_state : ChannelState) (request : ℕ)
     (message : List ℕ) (now : Ticks) (handle : ℕ) (ms : List StepResult) (response_told : Response)
     (left : session.SessionsState)
     (old new body : List ℕ) → handle ≡ handle_of message
-    → body ≡ response now (handle_of message) response_told
+    → TellsResponse now (handle_of message) response_told body
     → Refines a b ms (performed config now message sessions) (response_told, left)
     → new ≡ old ++ message_bytes state request (fitted state now handle body)
     → new_state ≡ record state {
@@ -423,7 +448,7 @@ sends-response a b config client sessions state new_state request message now ha
     (response now (handle_of message) response_told) in
     let same : fitted state now handle body ≡ text =
     ap (λ (h : ℕ). fitted state now h body) is
-    ∙ ap (λ (b : List ℕ). fitted state now (handle_of message) b) made in
+    ∙ fits-same state now (handle_of message) response_told body made in
     tells a b config client (went client client.limit (Some new_state) left) sessions state request
     message now ms (Done ∷ []) (response_told, left) old new
     (message_bytes state request text) None refl acts

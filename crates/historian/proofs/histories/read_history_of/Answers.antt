@@ -13,9 +13,9 @@ pub returns-in-Err-clause-acts : goal.returns-in-Err-clause-acts
 returns-in-Err-clause-acts g c =
     let s = g.A.Archive.state c.args.archive.now in
     let item = history_read_fields c.args.item in
-    acts-none s (read_history_of s.id c.args.space.now c.args.query.now c.args.release item)
+    acts-none s (read_history_of s.id c.args.space.now c.args.terms.query c.args.terms.release item)
     c.nothing.result (λ R marks.
-    ap (λ r. history_by s.id c.args.query.now c.args.release item R r marks)
+    ap (λ r. history_by s.id c.args.terms.query c.args.terms.release item R r marks)
     (sym c.judge_history.ensures.told ∙ c.in-Err.is)
     ∙ ap (λ x. give (x, R) marks) (sym c.nothing.ensures.told))
 
@@ -23,9 +23,9 @@ pub returns-in_default-to_owned-clause-acts : goal.returns-in_default-to_owned-c
 returns-in_default-to_owned-clause-acts g c =
     let s = g.A.Archive.state c.args.archive.now in
     let item = history_read_fields c.args.item in
-    acts-starved s (read_history_of s.id c.args.space.now c.args.query.now c.args.release item)
+    acts-starved s (read_history_of s.id c.args.space.now c.args.terms.query c.args.terms.release item)
     c.nothing-in_default-to_owned.result (λ R later.
-    ap (λ r. history_by s.id c.args.query.now c.args.release item R r (NoMemory ∷ later))
+    ap (λ r. history_by s.id c.args.terms.query c.args.terms.release item R r (NoMemory ∷ later))
     (sym c.judge_history.ensures.told ∙ c.in_default.is)
     ∙ ap (λ x. give (x, R) later) (sym c.nothing-in_default-to_owned.ensures.told))
 
@@ -34,17 +34,17 @@ returns-clause-acts g c =
     let a = g.A.Archive.state c.args.archive.now in
     let b = g.A.Archive.state c.read_node-read.new.archive in
     let item = history_read_fields c.args.item in
-    let query = c.args.query.now in
+    let query = c.args.terms.query in
     let P : NodeId → Type 0 = λ id. (used : List StepResult)
     × Refines a b used (read_node a.id id query item.1.1.1) c.read_node-read.result in
     let read : P item.0 = subst P c.in-Ok.ensures c.read_node-read.ensures.acts in
     let told = acts-made a b (read_node a.id item.0 query item.1.1.1)
     (λ R. and_then (read_node a.id item.0 query item.1.1.1 R)
-    (λ p. give (released c.args.release p.0, p.1)))
-    (released c.args.release) c.read_node-read.result c.released.result read
+    (λ p. give (released c.args.terms.release p.0, p.1)))
+    (released c.args.terms.release) c.read_node-read.result c.released.result read
     (λ R marks. refl) c.released.ensures.told in
-    acts-past a b (read_history_of a.id c.args.space.now query c.args.release item)
+    acts-past a b (read_history_of a.id c.args.space.now query c.args.terms.release item)
     (λ R. and_then (read_node a.id item.0 query item.1.1.1 R)
-    (λ p. give (released c.args.release p.0, p.1))) c.released.result told (λ R marks.
-    ap (λ r. history_by a.id query c.args.release item R r (Done ∷ marks))
+    (λ p. give (released c.args.terms.release p.0, p.1))) c.released.result told (λ R marks.
+    ap (λ r. history_by a.id query c.args.terms.release item R r (Done ∷ marks))
     (sym c.judge_history.ensures.told ∙ c.in_default.is))

@@ -9,7 +9,7 @@ use Rattle.historian.specs.Services.{MessageOutcome, site_of, answered_call}
 use Rattle.historian.specs.Telling.{Performs}
 use Rattle.historian.proofs.Performing.{performs-here, responds-finished}
 use Rattle.historian.proofs.message.serve.Goals as goal
-use Rattle.historian.proofs.message.serve.Goals.{in-GetEndpoints, in-CreateSession, in-ActivateSession, in-CloseSession, in-Browse, in-HistoryRead, in-HistoryUpdate}
+use Rattle.historian.proofs.message.serve.Goals.{in-GetEndpoints, in-CreateSession, in-ActivateSession, in-CloseSession, in-HistoryUpdate}
 
 pub returns-clause-responds : goal.returns-clause-responds
 returns-clause-responds g c =
@@ -43,12 +43,6 @@ returns-clause-responds g c =
           (performs-here a (does service.CloseSession) w.close_session-answer.new.sessions
           w.close_session-answer.result
           (w.close_session-answer.ensures.performs config c.args.now)))
-      | in-Browse w ↦ subst P (sym w.in-Browse.is)
-          (rw (w.server-is, w.sessions-is, w.answer-is)
-          (performs-here a (does service.Browse) S w.browse-answer.result
-          (w.browse-answer.ensures.performs config c.args.now refl)))
-      | in-HistoryRead w ↦ subst P (sym w.in-HistoryRead.is)
-          (rw (w.server-is, w.sessions-is, w.answer-is) (w.read_history-answer.ensures.performs))
       | in-HistoryUpdate w ↦ subst P (sym w.in-HistoryUpdate.is)
           (rw (w.server-is, w.sessions-is, w.answer-is) (w.update_history-answer.ensures.performs))
     ] in

@@ -3,7 +3,7 @@ use Rattle.ua_binary.specs.declared.codes.Status.{Status}
 use Rattle.ua_binary.specs.declared.codes.TheConstants.Status.{BAD_OUT_OF_MEMORY}
 use Rattle.ua_channel.specs.Taking.{ChannelState}
 use Rattle.archive.specs.Steps.{Refines}
-use Rattle.historian.specs.Answers.{response, service_fault}
+use Rattle.historian.specs.Answers.{TellsResponse, service_fault}
 use Rattle.historian.specs.Requests.{Request, handle_of}
 use Rattle.historian.specs.Services.{site_of, answered_request}
 use Rattle.ua_connection.specs.Turns.{SendsTurn}
@@ -27,8 +27,9 @@ returns-in-Ok-send_fitting-clause-answered g c client =
     c.args.channel.now c.send_fitting.new.channel c.args.message.request_id
     c.args.message.bytes.now c.args.message.now c.handle-handle.result
     done.0 done.1 c.answer_message.new.sessions c.args.out.now.items c.send_fitting.new.out.items
-    c.answer_message.new.body.items handle (done.3.0
-    ∙ ap (λ (h : ℕ). response c.args.message.now h done.1) c.read-request.ensures.handle)
+    c.answer_message.new.body.items handle
+    (subst (λ (h : ℕ). TellsResponse c.args.message.now h done.1 c.answer_message.new.body.items)
+    c.read-request.ensures.handle done.3)
     (subst P c.read-request.ensures.request done.2) c.in-Ok-send_fitting.ensures.0
     c.in-Ok-send_fitting.ensures.1
 
