@@ -18,7 +18,7 @@ use std::fmt::Write as _;
 use std::io::Write;
 
 /// The records that an archive is asked for at once.
-const MOST: usize = 1000;
+const MOST: usize = 16;
 
 /// What ended a dump before its end.
 #[derive(Clone, Copy, Debug, PartialEq, Eq)]
@@ -87,7 +87,7 @@ fn put_lines(
 }
 
 /// Writes a line for each record of an archive, by origin and number: its origin, its number and its tick in decimal
-/// digits, and its bytes in upper-case hex digits, a blank between them. The archive stays as it is. A thousand records
+/// digits, and its bytes in upper-case hex digits, a blank between them. The archive stays as it is. Sixteen records
 /// are in memory at a time.
 ///
 /// Errors: `Store` where the archive met a fault of its store, `Write` where a write failed (the writer's `faults` rose),
@@ -99,7 +99,7 @@ pub fn dump<A: Archive, W: Write>(
 ) -> Result<(), DumpFault>
     ensures dumps { Dumps (A.state archive.old) (A.state archive.new) (W.contents output.old.inner)
         (W.contents output.new.inner) result }
-    ensures asked { IsAskedWithin 1000 (A.asked archive.old) (A.asked archive.new) }
+    ensures asked { IsAskedWithin 16 (A.asked archive.old) (A.asked archive.new) }
     ensures write { IsErrOf result DumpFault.Write → output.new.faults ≡ counted output.old.faults }
     ensures kept { (IsErrOf result DumpFault.Write → ⊥) → output.new.faults ≡ output.old.faults }
 {

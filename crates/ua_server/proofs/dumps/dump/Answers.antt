@@ -28,7 +28,7 @@ returns-in-Err-clause-dumps g c =
     (g.W.Write.contents c.args.output.now.inner) (g.W.Write.contents c.loop.output.inner)
     (g.W.Write.contents c.loop.output.inner) c.loop.invariant.so_far c.in-Err.fault
     (asked-none (state c.loop.archive) (state c.since.new.self) c.in-Err.fault
-    (λ v. v.items ≡ missing (state c.loop.archive).content (number_of c.loop.known) 1000)
+    (λ v. v.items ≡ missing (state c.loop.archive).content (number_of c.loop.known) 16)
     c.in-Err.ensures.asks)
 
 pub returns-then-is_empty-clause-dumps : goal.returns-then-is_empty-clause-dumps
@@ -37,9 +37,9 @@ returns-then-is_empty-clause-dumps g c =
     let known = c.loop.known in
     let now = g.W.Write.contents c.loop.output.inner in
     let q = asked (state c.loop.archive) (state c.since.new.self) (λ v. v.items)
-    (number_of known) 1000 c.in-Ok.records c.in-Ok.ensures.asks in
+    (number_of known) 16 c.in-Ok.records c.in-Ok.ensures.asks in
     ended (state c.args.archive.now) (state c.loop.archive) (state c.since.new.self) known
-    (g.W.Write.contents c.args.output.now.inner) now now c.loop.invariant.so_far 1000
+    (g.W.Write.contents c.args.output.now.inner) now now c.loop.invariant.so_far 16
     c.in-Ok.records.items q (omega arith) (sym c.as_slice-batch.ensures.value
     ∙ no-items c.as_slice-batch.result.now (sym c.if-is_empty.ensures))
 
@@ -49,9 +49,9 @@ returns-in-Err-put_lines-clause-dumps g c =
     let known = c.loop.known in
     let now = g.W.Write.contents c.loop.output.inner in
     let q = asked (state c.loop.archive) (state c.since.new.self) (λ v. v.items)
-    (number_of known) 1000 c.in-Ok.records c.in-Ok.ensures.asks in
+    (number_of known) 16 c.in-Ok.records c.in-Ok.ensures.asks in
     unwritten (state c.args.archive.now) (state c.loop.archive) (state c.since.new.self) known
-    (g.W.Write.contents c.args.output.now.inner) now now c.loop.invariant.so_far 1000
+    (g.W.Write.contents c.args.output.now.inner) now now c.loop.invariant.so_far 16
     c.in-Ok.records.items q c.in-Err-put_lines.fault
     (subst (λ (l : List Record). (c.in-Err-put_lines.fault ≡ dump.OutOfMemory)
     ⊎ ((c.in-Err-put_lines.fault ≡ dump.Store Refused) × (AllByRecursion IsRecord l → ⊥)))
@@ -64,13 +64,13 @@ returns-in-Err-send-clause-dumps g c =
     let now = g.W.Write.contents c.loop.output.inner in
     let after = g.W.Write.contents c.send.new.self.inner in
     let q = asked (state c.loop.archive) (state c.since.new.self) (λ v. v.items)
-    (number_of known) 1000 c.in-Ok.records c.in-Ok.ensures.asks in
+    (number_of known) 16 c.in-Ok.records c.in-Ok.ensures.asks in
     let text : c.as_bytes.result.now ≡ lines_of c.in-Ok.records.items =
     c.as_bytes.ensures.value ∙ (c.in-Ok-put_lines.ensures.lines
     ∙ (ap (λ (l : List ℕ). l ++ lines_of c.as_slice-batch.result.now) c.clear.ensures.bytes
     ∙ ap lines_of c.as_slice-batch.ensures.value)) in
     cut_off (state c.args.archive.now) (state c.loop.archive) (state c.since.new.self) known
-    (g.W.Write.contents c.args.output.now.inner) now after c.loop.invariant.so_far 1000
+    (g.W.Write.contents c.args.output.now.inner) now after c.loop.invariant.so_far 16
     c.in-Ok.records.items q (subst (AppendsPart now after) text c.in-Err-send.ensures.part)
 
 pub loop-preserved : goal.loop-preserved
@@ -80,7 +80,7 @@ loop-preserved g c =
     let now = g.W.Write.contents c.loop.output.inner in
     let after = g.W.Write.contents c.send.new.self.inner in
     let q = asked (state c.loop.archive) (state c.since.new.self) (λ v. v.items)
-    (number_of known) 1000 c.in-Ok.records c.in-Ok.ensures.asks in
+    (number_of known) 16 c.in-Ok.records c.in-Ok.ensures.asks in
     let text : c.as_bytes.result.now ≡ lines_of c.in-Ok.records.items =
     c.as_bytes.ensures.value ∙ (c.in-Ok-put_lines.ensures.lines
     ∙ (ap (λ (l : List ℕ). l ++ lines_of c.as_slice-batch.result.now) c.clear.ensures.bytes
@@ -88,7 +88,7 @@ loop-preserved g c =
     record {
       so_far = goes-on (state c.args.archive.now) (state c.loop.archive)
           (state c.since.new.self) known
-          (g.W.Write.contents c.args.output.now.inner) now after c.loop.invariant.so_far 1000
+          (g.W.Write.contents c.args.output.now.inner) now after c.loop.invariant.so_far 16
           c.in-Ok.records.items q c.put_lines.new.known
           (λ o. c.in-Ok-put_lines.ensures.known o
           ∙ ap (λ (l : List Record). max (number_of known o) (vec l o))

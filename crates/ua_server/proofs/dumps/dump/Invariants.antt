@@ -8,5 +8,5 @@ invariant-loop g l = record {
   so_far : Dumping (g.A.Archive.state l.fn.archive) (g.A.Archive.state l.archive) l.known
       (g.W.Write.contents l.fn.output.inner) (g.W.Write.contents l.output.inner);
   faults : l.output.faults ≡ l.fn.output.faults;
-  asked : IsAskedWithin 1000 (g.A.Archive.asked l.fn.archive) (g.A.Archive.asked l.archive);
+  asked : IsAskedWithin 16 (g.A.Archive.asked l.fn.archive) (g.A.Archive.asked l.archive);
 }
