@@ -124,23 +124,22 @@ many_tables value =
     filter_map as_table
     (elim (option_and_then as_array value) [ None ↦ [] | Some items ↦ items_in items ])
 
+-- the table that a value is, if it is one
+abbrev pub one_table : Option Data → List Members
+one_table value = option_to_list (option_and_then as_table value)
+
 -- the tables of a section
 abbrev pub tables : Members → Section → List Members
 tables document Document = document ∷ []
-tables document Archive =
-    option_to_list (option_and_then as_table (get_member (codes "archive") document))
-tables document Server =
-    option_to_list (option_and_then as_table (get_member (codes "server") document))
+tables document Archive = one_table (get_member (codes "archive") document)
+tables document Server = one_table (get_member (codes "server") document)
 tables document User = many_tables (get_member (codes "user") document)
 tables document Folder = many_tables (get_member (codes "folder") document)
 tables document Variable = many_tables (get_member (codes "variable") document)
 tables document Peer = many_tables (get_member (codes "peer") document)
-tables document Door =
-    option_to_list (option_and_then as_table (get_member (codes "door") document))
-tables document Web =
-    option_to_list (option_and_then as_table (get_member (codes "web") document))
-tables document Log =
-    option_to_list (option_and_then as_table (get_member (codes "log") document))
+tables document Door = one_table (get_member (codes "door") document)
+tables document Web = one_table (get_member (codes "web") document)
+tables document Log = one_table (get_member (codes "log") document)
 
 -- the text at a key, empty where there is none
 abbrev pub text_at : List ℕ → Members → List ℕ
