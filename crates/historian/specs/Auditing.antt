@@ -50,7 +50,7 @@ kind_numbered perform =
 abbrev pub kind_asked : Details → UpdateKind
 kind_asked details =
     elim details [
-      | UpdateData d ↦ kind_numbered d.1.0
+      | UpdateData (node, (perform, values)) ↦ kind_numbered perform
       | DeleteRawModified d ↦ kind.DeleteRange
       | DeleteAtTime d ↦ kind.DeleteAtTime
       | OtherDetails ↦ kind.Other
