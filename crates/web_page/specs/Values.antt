@@ -1,5 +1,6 @@
 -- How a live value and a type are shown in a few words.
-use Rattle.std.specs.Prelude.{◌≡◌, ◌⊎◌, ℕ, ◌-◌, ◌==◌, ◌||◌, ◌&&◌, nat_lt, nat_le, Bool, false, true, List, [], ◌∷◌, ◌++◌, codes, Option, Some, None, if◌then◌else◌}
+use Rattle.std.specs.Prelude.{◌≡◌, ◌⊎◌, ℕ, ◌-◌, ◌==◌, ◌||◌, ◌&&◌, nat_eq, nat_lt, nat_le, Bool, false, true, List, [], ◌∷◌, ◌++◌, codes, Option, Some, None, unwrap_or, if◌then◌else◌}
+use Rattle.std.specs.Map.{lookup}
 use Rattle.ua_variant.specs.Scalar.{scalar_number}
 use Rattle.ua_variant.specs.Values.{array_number}
 use Rattle.ua_variant.specs.declared.value.ValueType.{ValueType}
@@ -11,29 +12,18 @@ use Rattle.history_csv.specs.Rows.{IsVariantText, IsTextless, code_text, time_of
 
 -- ---- types
 
--- the name of the type of this number (Part 6, 5.1.2)
+-- the names of the types that a value may have, each behind its number (Part 6, 5.1.2)
+unfoldable pub type_names : List (ℕ × List ℕ)
+type_names =
+    (1, codes "Boolean") ∷ (2, codes "SByte") ∷ (3, codes "Byte") ∷ (4, codes "Int16")
+    ∷ (5, codes "UInt16") ∷ (6, codes "Int32") ∷ (7, codes "UInt32") ∷ (8, codes "Int64")
+    ∷ (9, codes "UInt64") ∷ (10, codes "Float") ∷ (11, codes "Double") ∷ (12, codes "String")
+    ∷ (13, codes "DateTime") ∷ (14, codes "Guid") ∷ (15, codes "ByteString") ∷ (17, codes "NodeId")
+    ∷ (19, codes "StatusCode") ∷ (20, codes "QualifiedName") ∷ (21, codes "LocalizedText") ∷ []
+
+-- the name of the type of this number; of any other there is none
 unfoldable pub type_name : ℕ → List ℕ
-type_name number =
-    if number == 1 then codes "Boolean"
-    else if number == 2 then codes "SByte"
-    else if number == 3 then codes "Byte"
-    else if number == 4 then codes "Int16"
-    else if number == 5 then codes "UInt16"
-    else if number == 6 then codes "Int32"
-    else if number == 7 then codes "UInt32"
-    else if number == 8 then codes "Int64"
-    else if number == 9 then codes "UInt64"
-    else if number == 10 then codes "Float"
-    else if number == 11 then codes "Double"
-    else if number == 12 then codes "String"
-    else if number == 13 then codes "DateTime"
-    else if number == 14 then codes "Guid"
-    else if number == 15 then codes "ByteString"
-    else if number == 17 then codes "NodeId"
-    else if number == 19 then codes "StatusCode"
-    else if number == 20 then codes "QualifiedName"
-    else if number == 21 then codes "LocalizedText"
-    else []
+type_name number = unwrap_or (lookup (nat_eq number) type_names) []
 
 -- the words for a type
 abbrev pub type_words : ValueType → List ℕ

@@ -10,7 +10,7 @@ use ua_variant::ValueType;
 const SHOWN: usize = 200;
 
 /// The name of the type of this number (Part 6, 5.1.2).
-#[tactic(auto, unfolding(crate::specs::Values::type_name))]
+#[tactic(auto, unfolding(crate::specs::Values::type_name, crate::specs::Values::type_names))]
 fn type_name(number: u8) -> &'static str
     ensures { result.now ≡ type_name number }
 {
