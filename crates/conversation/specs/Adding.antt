@@ -17,7 +17,7 @@ use Rattle.ua_settings.specs.declared.peers.PeerCall.{PeerCall}
 use Rattle.conversation.specs.OtherEnds.{ConversationEnding, moved_by, none_moved}
 use Rattle.conversation.specs.Events.{LogEvent, Telling, Logs}
 use Rattle.conversation.specs.Answering.{AnswersFirst}
-use Rattle.conversation.specs.Closing.{TellsCallOf, TellsEnd, TellsEndOf, TellsTurn, TellsTurnOf, at_time, call_outcome, is_slow}
+use Rattle.conversation.specs.Closing.{TellsCallOf, TellsEnd, TellsEndOf, TellsTurn, TellsTurnOf, with_now, call_outcome, is_slow}
 use Rattle.conversation.specs.Starting.{AsksPeer, BeginsBy, StartsCall}
 use Rattle.conversation.specs.Moves.{OnlyGrows, Moves}
 use Rattle.conversation.specs.Conversing.{behavior_over}
@@ -108,9 +108,9 @@ module _ {A C L : Type 0} (state : A → Store) where
 
   -- time that passes
   pass_moves : (told : Telling L) (v : World A C L) (now longest : ℕ) (w : World A C L)
-      → TellsTurn told (at_time v now) longest w → Moves state v w
+      → TellsTurn told (with_now v now) longest w → Moves state v w
   pass_moves told v now longest w tells =
-      turn_told told (at_time v now) longest w (is_slow v.server.settings longest) tells
+      turn_told told (with_now v now) longest w (is_slow v.server.settings longest) tells
 
   -- what answers do are moves, and moves add up
   pub moves_over : (gave : C → List ℤ → C → Type 0) (told : Telling L)

@@ -85,8 +85,8 @@ abbrev pub TellsEnd : {A C L : Type 0} → Telling L → Stay → World A C L �
 TellsEnd told stay v other ending w = TellsEndOf told stay v other ending w stay.party
 
 -- it is this time for all connections
-abbrev pub at_time : {A C L : Type 0} → World A C L → (now : ℕ) → World A C L
-at_time v now = record v { now = now }
+abbrev pub with_now : {A C L : Type 0} → World A C L → (now : ℕ) → World A C L
+with_now v now = record v { now = now }
 
 -- a turn of so many milliseconds is told by these settings: it takes as many as they say, or more
 abbrev pub is_slow : SettingsValues → (turn : ℕ) → Bool

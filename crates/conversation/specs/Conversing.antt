@@ -13,7 +13,7 @@ use Rattle.conversation.specs.Doors.{door_of_listener, is_stranger}
 use Rattle.conversation.specs.OtherEnds.{ConversationEnding, is_established}
 use Rattle.conversation.specs.Receiving.{TakesBytes}
 use Rattle.conversation.specs.Answering.{IsIncomplete, AnswersFirst}
-use Rattle.conversation.specs.Closing.{TellsEnd, TellsTurn, at_time}
+use Rattle.conversation.specs.Closing.{TellsEnd, TellsTurn, with_now}
 use Rattle.conversation.specs.Events.{Telling, Logs, Connected, AcceptFailed}
 use Rattle.conversation.specs.Logins.{delay_of, no_logins}
 use Rattle.historian.specs.declared.server.Server.{Server}
@@ -51,7 +51,7 @@ serves_nobody state w =
 abbrev pub behavior_over : {A C L : Type 0} → (A → Store) → (C → List ℤ → C → Type 0)
     → Telling L → Behavior OtherEnd (World A C L) ConversationEnding
 behavior_over state gave told = record {
-  passes = λ v now longest_turn w. TellsTurn told (at_time v now) longest_turn w;
+  passes = λ v now longest_turn w. TellsTurn told (with_now v now) longest_turn w;
   is_over = serves_nobody state;
   begins = λ origin v other w.
       (other ≡ first_end v.from origin) × Logs told (Connected origin) v w;

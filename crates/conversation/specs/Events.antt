@@ -9,6 +9,7 @@ use Rattle.ua_peers.specs.declared.calling.Synced.{Synced}
 use Rattle.conversation.specs.declared.log.Parting.{Parting}
 use Rattle.conversation.specs.declared.world.World.{World}
 
+-- what a log is told of
 pub data LogEvent : Type 0 where
   -- a connection came from there
   Connected : Origin → LogEvent

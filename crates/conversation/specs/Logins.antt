@@ -15,8 +15,8 @@ use Rattle.web_connection.specs.declared.step.WebStep.{WebStep}
 use Rattle.web_connection.specs.declared.step.WebStep.TheVariants.{Denied}
 use Rattle.conversation.specs.declared.logins.RefusedLogin.{RefusedLogin}
 
--- the last refused logins that are kept, where the next one is kept, and whether the answer that was
--- made last waits
+-- the last refused logins that are kept, where the next one is kept, and whether the answer that
+-- was made last waits
 pub record LoginsState : Type 0 where
   pub refusals : List (Option RefusedLogin)
   pub next : ℕ
@@ -90,8 +90,8 @@ is_denied step = elim step [ Ok Denied ↦ true | _ ↦ false ]
 
 -- a browser was answered: the first answer of its connection, which is the one to its request, is
 -- that to a login
-abbrev pub after_step : (limit : Option ℕ) → Stay → (now : ℕ) → Result WebStep AllocError → LoginsState
-    → LoginsState
+abbrev pub after_step : (limit : Option ℕ) → Stay → (now : ℕ) → Result WebStep AllocError
+    → LoginsState → LoginsState
 after_step limit stay now step logins =
     if stay.answered == 0 then after_login limit (host_of stay) now (is_denied step) logins
     else unheld logins

@@ -28,7 +28,8 @@ StrangersAreTurnedAway {A} {C} {L} state gave told =
     (stay : Stay) (origin : Origin) (u v w : World A C L) (first next : OtherEnd) (made : List ℕ)
     (ending : Option ConversationEnding) → is_stranger u.from origin ≡ true
     → (behavior_over state gave told).begins origin u first v
-    → AnswersFirst state gave told stay v first made ending w next → IsTurnedAway v made ending w next
+    → AnswersFirst state gave told stay v first made ending w next
+    → IsTurnedAway v made ending w next
 
 -- and before that nothing of it is read, since nothing is waited for
 abbrev pub StrangersAreUnread : {A C L : Type 0} → (A → Store) → (C → List ℤ → C → Type 0)
