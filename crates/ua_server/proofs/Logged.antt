@@ -8,7 +8,7 @@ use Rattle.event_lines.specs.Lines.{update_text}
 use Rattle.ua_server.specs.declared.log.ErrorLog.{ErrorLog}
 use Rattle.ua_server.specs.declared.recent.Recent.{Recent}
 use Rattle.ua_server.specs.Telling.{Known, Readings, LogsLine, told_line}
-use Rattle.ua_server.specs.Logging.{IsToldAs, LogsTimed, LogsRare, LogsLimited, LogsUpdates, LogsWhere, Whether, is_spent, with_left_out, with_line}
+use Rattle.ua_server.specs.Logging.{IsToldAs, LogsTimed, LogsRare, LogsLimited, LogsUpdates, LogsWhere, Whether, is_second_full, with_left_out, with_told}
 
 -- it was written, by the time that the clock gave
 pub timed : {E C : Type 0} (contents : Known E) (gave : Readings C) (event : List ℕ)
@@ -25,7 +25,7 @@ timed {E} {C} contents gave event old new clock errors at gives is (text, told, 
 -- it was counted
 pub left-out : {E C : Type 0} (contents : Known E) (gave : Readings C) (event : List ℕ)
     (old new : ErrorLog E C) (clock : C) (at : ℤ) → gave old.clock (at ∷ []) clock
-    → is_spent old.recent at ≡ true
+    → is_second_full old.recent at ≡ true
     → new ≡ record old { clock = clock; recent = with_left_out old.recent }
     → LogsLimited contents gave event old new
 left-out {E} {C} contents gave event old new clock at gives spent is =
@@ -35,7 +35,7 @@ left-out {E} {C} contents gave event old new clock at gives spent is =
 -- it was written, since it needn't be counted
 pub told-rarely : {E C : Type 0} (contents : Known E) (gave : Readings C) (event : List ℕ)
     (old new : ErrorLog E C) (clock : C) (at : ℤ) → gave old.clock (at ∷ []) clock
-    → is_spent old.recent at ≡ false
+    → is_second_full old.recent at ≡ false
     → LogsRare contents event at (record old { clock = clock }) new
     → LogsLimited contents gave event old new
 told-rarely {E} {C} contents gave event old new clock at gives spent rare =
@@ -51,12 +51,12 @@ pub rare : {E C : Type 0} (contents : Known E) (event : List ℕ) (old middle ne
     → (text : List ℕ) × IsToldAs old.recent.left_out event at text
     × LogsLine contents old.errors middle.errors (told_line text)
     → middle ≡ record old { errors = middle.errors } → new ≡ record middle { recent = recent }
-    → recent ≡ with_line middle.recent at → LogsRare contents event at old new
+    → recent ≡ with_told middle.recent at → LogsRare contents event at old new
 rare {E} {C} contents event old middle new recent at (text, told, line) same is counts =
     subst (λ (n : ErrorLog E C). LogsRare contents event at old n)
     (sym (is ∙ ap (λ (r : Recent). let m : ErrorLog E C = record middle { recent = r } in m) counts
     ∙ ap (λ (m : ErrorLog E C). let n : ErrorLog E C =
-    record m { recent = with_line m.recent at } in n) same))
+    record m { recent = with_told m.recent at } in n) same))
     (text, told, refl, line)
 
 -- the lines of some of the details, and of one more

@@ -39,21 +39,21 @@ use Rattle.ua_server.specs.Telling.{Known, Readings, LogsLine, LogsFault, LogsFa
 -- ---- how often
 
 -- the second goes on in which the last line of its kind was told first
-abbrev pub is_within : Recent → (at : ℤ) → Bool
-is_within recent at = int_le recent.since at && int_lt at (recent.since +ℤ pos 10000000)
+abbrev pub is_same_second : Recent → (at : ℤ) → Bool
+is_same_second recent at = int_le recent.since at && int_lt at (recent.since +ℤ pos 10000000)
 
 -- how many lines of the kind were told in this second
 abbrev pub lines_at : Recent → (at : ℤ) → ℕ
-lines_at recent at = if is_within recent at then recent.lines else 0
+lines_at recent at = if is_same_second recent at then recent.lines else 0
 
 -- no more of them are told in this second
-abbrev pub is_spent : Recent → (at : ℤ) → Bool
-is_spent recent at = nat_le 100 (lines_at recent at)
+abbrev pub is_second_full : Recent → (at : ℤ) → Bool
+is_second_full recent at = nat_le 100 (lines_at recent at)
 
 -- one more was told
-abbrev pub with_line : Recent → (at : ℤ) → Recent
-with_line recent at = record {
-  since = if is_within recent at then recent.since else at;
+abbrev pub with_told : Recent → (at : ℤ) → Recent
+with_told recent at = record {
+  since = if is_same_second recent at then recent.since else at;
   lines = counted (lines_at recent at);
   left_out = 0;
 }
@@ -174,14 +174,14 @@ LogsTimed contents gave event old new =
 abbrev pub LogsRare : {E C : Type 0} → Known E → (event : List ℕ) → (at : ℤ)
     → (old new : ErrorLog E C) → Type 0
 LogsRare contents event at old new = (text : List ℕ) × IsToldAs old.recent.left_out event at text
-    × (new ≡ record old { errors = new.errors; recent = with_line old.recent at })
+    × (new ≡ record old { errors = new.errors; recent = with_told old.recent at })
     × LogsLine contents old.errors new.errors (told_line text)
 
 -- the same, where fewer than a hundred of them were told in this second; else it was counted
 abbrev pub LogsLimited : {E C : Type 0} → Known E → Readings C → (event : List ℕ)
     → (old new : ErrorLog E C) → Type 0
 LogsLimited contents gave event old new =
-    (at : ℤ) × gave old.clock (at ∷ []) new.clock × elim (is_spent old.recent at) [
+    (at : ℤ) × gave old.clock (at ∷ []) new.clock × elim (is_second_full old.recent at) [
       | true ↦ new ≡ record old { clock = new.clock; recent = with_left_out old.recent }
       | false ↦ LogsRare contents event at (record old { clock = new.clock }) new
     ]
@@ -194,7 +194,8 @@ LogsUpdates {E} {C} contents gave from user (update ∷ updates) old new =
     (between : ErrorLog E C) × LogsTimed contents gave (update_text from user update) old between
     × LogsUpdates contents gave from user updates between new
 
--- the line of a login was written, or of a refused one, which is one of what anybody may bring about
+-- the line of a login was written, or of a refused one, which is one of what anybody may bring
+-- about
 abbrev pub LogsActivation : {E C : Type 0} → Known E → Readings C → Option SocketAddr
     → (name : List ℕ) → (refused : Option Status) → (old new : ErrorLog E C) → Type 0
 LogsActivation contents gave from name None old new =

@@ -233,7 +233,8 @@ turn_text milliseconds = codes "a turn took " ++ (decimal milliseconds ++ codes 
 
 -- how long the longest turn so far took: no longer than the last that was to be told, and nothing
 -- is; or longer, which is told, if it can be written, and kept
-abbrev pub LogsTurn : {E C : Type 0} → Known E → ErrorLog E C → (longest : ℕ) → ErrorLog E C → Type 0
+abbrev pub LogsTurn : {E C : Type 0} → Known E → ErrorLog E C → (longest : ℕ) → ErrorLog E C
+    → Type 0
 LogsTurn contents old longest new =
     ((longest ≤ old.longest) × (new ≡ old))
     ⊎ ((old.longest < longest) × (new ≡ record old { errors = new.errors; longest = longest })

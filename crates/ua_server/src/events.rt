@@ -217,7 +217,7 @@ impl<E: Write, C: Clock> ErrorLog<E, C> {
     ghost use Rattle.event_lines.specs.Lines.{IsEventLine, connected_text, login_text, denial_text, update_text, call_text};
     ghost use Rattle.conversation.specs.Doors.{door_of_listener};
     ghost use Rattle.ua_server.specs.Telling.{LogsLine, told_line};
-    ghost use Rattle.ua_server.specs.Logging.{IsToldAs, behind_left_out, starved_text, LogsTimed, LogsRare, LogsLimited, LogsUpdates, LogsActivation, LogsAudited, LogsEnd, is_spent, with_left_out, door_text, address_of, parting_text, call_reason, moved_of};
+    ghost use Rattle.ua_server.specs.Logging.{IsToldAs, behind_left_out, starved_text, LogsTimed, LogsRare, LogsLimited, LogsUpdates, LogsActivation, LogsAudited, LogsEnd, is_second_full, with_left_out, door_text, address_of, parting_text, call_reason, moved_of};
 
     /// Writes a line behind how many weren't told, or that memory for it is wanting.
     fn tell_behind(&mut self, left_out: u64, line: &[u8])
@@ -253,12 +253,12 @@ impl<E: Write, C: Clock> ErrorLog<E, C> {
 
     /// Whether an event that anybody may bring about isn't told at this time: it is counted then.
     fn leaves_out(&mut self, at: i64) -> bool
-        ensures told { result ≡ is_spent self.old.recent at }
+        ensures told { result ≡ is_second_full self.old.recent at }
         ensures counted { result ≡ true
             → self.new ≡ record self.old { recent = with_left_out self.old.recent } }
         ensures same { result ≡ false → self.new ≡ self.old }
     {
-        if !self.recent.is_spent(at) {
+        if !self.recent.is_second_full(at) {
             return false;
         }
         self.recent = self.recent.with_left_out();
@@ -271,7 +271,7 @@ impl<E: Write, C: Clock> ErrorLog<E, C> {
             → LogsRare E.contents event at self.old self.new }
     {
         self.tell_line(self.recent.left_out, line);
-        self.recent = self.recent.with_line(at);
+        self.recent = self.recent.with_told(at);
     }
 
     /// Tells that a connection came.

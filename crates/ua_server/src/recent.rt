@@ -22,7 +22,7 @@ pub(crate) struct Recent {
 impl Recent {
     ghost use Rattle.std.specs.Prelude.{◌≡◌};
     ghost use Rattle.ua_server.specs.Telling.{none_recent};
-    ghost use Rattle.ua_server.specs.Logging.{is_within, lines_at, is_spent, with_line, with_left_out};
+    ghost use Rattle.ua_server.specs.Logging.{is_same_second, lines_at, is_second_full, with_told, with_left_out};
 
     /// None was told yet.
     pub fn none() -> Recent
@@ -36,8 +36,8 @@ impl Recent {
     }
 
     /// Whether the second goes on in which the last line was told.
-    fn is_within(self, at: i64) -> bool
-        ensures { result ≡ is_within self at }
+    fn is_same_second(self, at: i64) -> bool
+        ensures { result ≡ is_same_second self at }
     {
         self.since <= at && i128::from(at) < i128::from(self.since) + SECOND
     }
@@ -46,22 +46,30 @@ impl Recent {
     fn lines_at(self, at: i64) -> u64
         ensures { result ≡ lines_at self at }
     {
-        if self.is_within(at) { self.lines } else { 0 }
+        if self.is_same_second(at) {
+            self.lines
+        } else {
+            0
+        }
     }
 
     /// Whether no more are told in this second.
-    pub fn is_spent(self, at: i64) -> bool
-        ensures { result ≡ is_spent self at }
+    pub fn is_second_full(self, at: i64) -> bool
+        ensures { result ≡ is_second_full self at }
     {
         self.lines_at(at) >= MOST
     }
 
     /// The same, with one more that was told.
-    pub fn with_line(self, at: i64) -> Recent
-        ensures { result ≡ with_line self at }
+    pub fn with_told(self, at: i64) -> Recent
+        ensures { result ≡ with_told self at }
     {
         Recent {
-            since: if self.is_within(at) { self.since } else { at },
+            since: if self.is_same_second(at) {
+                self.since
+            } else {
+                at
+            },
             lines: self.lines_at(at).saturating_add(1),
             left_out: 0,
         }

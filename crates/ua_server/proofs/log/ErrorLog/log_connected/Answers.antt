@@ -4,7 +4,7 @@ use Rattle.std.specs.Int.RustNames.{FitsSigned}
 use Rattle.std.proofs.lemmas.Int.{ints, to_z-of_z}
 use Rattle.event_lines.specs.Lines.{IsEventLine, connected_text}
 use Rattle.conversation.specs.Doors.{door_of_listener}
-use Rattle.ua_server.specs.Logging.{LogsRare, is_spent, door_text}
+use Rattle.ua_server.specs.Logging.{LogsRare, is_second_full, door_text}
 use Rattle.ua_server.proofs.Logged.{told-rarely}
 use Rattle.ua_server.proofs.log.ErrorLog.log_connected.Goals as goal
 
@@ -20,7 +20,7 @@ returns g c =
     (rw same at c.connected_line-line.ensures) in
     let contents = g.E.Write.contents in
     let event = connected_text origin.address (door_text (door_of_listener origin.listener)) in
-    let spent : is_spent c.args.self.now.recent at ≡ false =
+    let spent : is_second_full c.args.self.now.recent at ≡ false =
     sym (rw same at c.leaves_out.ensures.told) ∙ c.if-leaves_out.false in
     told-rarely contents g.C.Clock.gave event c.args.self.now c.tell_rare.new.self c.now-at.new.self
     at c.now-at.ensures spent

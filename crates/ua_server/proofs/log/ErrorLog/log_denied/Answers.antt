@@ -4,7 +4,7 @@ use Rattle.std.specs.Int.RustNames.{FitsSigned}
 use Rattle.std.proofs.lemmas.Int.{ints, to_z-of_z}
 use Rattle.std.specs.declared.net.socket_addr.SocketAddr.{SocketAddr}
 use Rattle.event_lines.specs.Lines.{IsEventLine, denial_text}
-use Rattle.ua_server.specs.Logging.{LogsRare, is_spent, address_of}
+use Rattle.ua_server.specs.Logging.{LogsRare, is_second_full, address_of}
 use Rattle.ua_server.proofs.Logged.{told-rarely}
 use Rattle.ua_server.proofs.log.ErrorLog.log_denied.Goals as goal
 
@@ -19,7 +19,7 @@ returns g c =
     (rw same at c.denial_line-line.ensures) in
     let contents = g.E.Write.contents in
     let event = denial_text (address_of c.args.stay) in
-    let spent : is_spent c.args.self.now.recent at ≡ false =
+    let spent : is_second_full c.args.self.now.recent at ≡ false =
     sym (rw same at c.leaves_out.ensures.told) ∙ c.if-leaves_out.false in
     told-rarely contents g.C.Clock.gave event c.args.self.now c.tell_rare.new.self c.now-at.new.self
     at c.now-at.ensures spent

@@ -1,7 +1,7 @@
 use Rattle.std.proofs.Common.{◌≡◌, ◌∙◌, Bool, true, false, sym, subst, arith, w64}
 use Rattle.std.specs.Int.RustNames.{FitsSigned}
 use Rattle.std.proofs.lemmas.Int.{ints, to_z-of_z}
-use Rattle.ua_server.specs.Logging.{LogsRare, LogsTimed, LogsLimited, Whether, is_spent, is_still, parting_text}
+use Rattle.ua_server.specs.Logging.{LogsRare, LogsTimed, LogsLimited, Whether, is_second_full, is_still, parting_text}
 use Rattle.ua_server.proofs.Logged.{timed, told-rarely}
 use Rattle.ua_server.proofs.log.ErrorLog.log_end.Goals as goal
 
@@ -28,7 +28,7 @@ returns g c =
     let contents = g.E.Write.contents in
     let event = parting_text c.args.parting in
     let new = c.tell_rare.new.self in
-    let spent : is_spent c.args.self.now.recent at ≡ false =
+    let spent : is_second_full c.args.self.now.recent at ≡ false =
     sym (rw same at c.leaves_out.ensures.told) ∙ c.if-leaves_out.false in
     let still : is_still c.args.parting.moved ≡ true =
     cc (c.is_still.ensures, c.if-not-is_still.false) in

@@ -3,7 +3,7 @@ use Rattle.std.specs.Prelude.{Option, IfOk}
 use Rattle.std.specs.Int.RustNames.{FitsSigned}
 use Rattle.std.proofs.lemmas.Int.{ints, to_z-of_z}
 use Rattle.event_lines.specs.Lines.{login_text}
-use Rattle.ua_server.specs.Logging.{LogsRare, is_spent}
+use Rattle.ua_server.specs.Logging.{LogsRare, is_second_full}
 use Rattle.ua_server.proofs.Logged.{told-rarely}
 use Rattle.ua_server.proofs.log.ErrorLog.log_refusal.Goals as goal
 
@@ -14,7 +14,7 @@ returns g c =
     let same = to_z-of_z w64 at fits in
     let contents = g.E.Write.contents in
     let event = login_text c.args.from c.args.name.now (Some c.args.status) in
-    let spent : is_spent c.args.self.now.recent at ≡ false =
+    let spent : is_second_full c.args.self.now.recent at ≡ false =
     sym (rw same at c.leaves_out.ensures.told) ∙ c.if-leaves_out.false in
     told-rarely contents g.C.Clock.gave event c.args.self.now c.tell_rare.new.self c.now-at.new.self
     at c.now-at.ensures spent

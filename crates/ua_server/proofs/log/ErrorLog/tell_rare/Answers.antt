@@ -5,6 +5,6 @@ use Rattle.ua_server.proofs.log.ErrorLog.tell_rare.Goals as goal
 
 pub returns : goal.returns
 returns g c event is =
-    rare g.E.Write.contents event c.args.self.now c.tell_line.new.self _ c.with_line-self.result
+    rare g.E.Write.contents event c.args.self.now c.tell_line.new.self _ c.with_told-self.result
     c.args.at (c.tell_line.ensures.told event c.args.at is) c.tell_line.ensures.same refl
-    (rw (to_z-of_z w64 c.args.at c.ranges.at) at c.with_line-self.ensures)
+    (rw (to_z-of_z w64 c.args.at c.ranges.at) at c.with_told-self.ensures)
