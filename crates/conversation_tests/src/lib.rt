@@ -10,6 +10,8 @@ mod browsers;
 #[cfg(test)]
 mod conversations;
 #[cfg(test)]
+mod logins;
+#[cfg(test)]
 mod scripts;
 #[cfg(test)]
 mod strangers;
