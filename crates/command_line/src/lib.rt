@@ -3,4 +3,6 @@
 
 mod line;
 
-pub use line::{Asked, HistoryWords, ImportWords, Line, LineFault, PerformWord, read_line};
+pub use line::{
+    Asked, HistoryWords, ImportWords, Line, LineFault, PerformWord, VERSION, read_line,
+};

@@ -19,7 +19,7 @@ use std::fmt;
 use std::fmt::Write as _;
 
 /// The program's version.
-const VERSION: &str = "0.1.0";
+pub const VERSION: &str = "0.1.0";
 
 /// The greatest moment that a clock may stand at, 2^63 - 1.
 const MOST_NOW: u64 = 9_223_372_036_854_775_807;
