@@ -1,13 +1,13 @@
 -- Each event's line is one line.
 use Rattle.std.proofs.Common.{◌==◌, [], ℕ, List, refl, sym, subst}
 use Rattle.std.proofs.lemmas.Bool.{cond_both}
-use Rattle.std.specs.Prelude.{codes, Option, Some, None}
+use Rattle.std.specs.Prelude.{◌++◌, codes, Option, Some, None, IfSome}
 use Rattle.std.specs.declared.net.socket_addr.SocketAddr.{SocketAddr}
 use Rattle.ua_binary.specs.declared.codes.Status.{Status}
 use Rattle.ua_session.specs.declared.audit.UpdateAudit.{UpdateAudit}
 use Rattle.ua_session.specs.declared.audit.UpdateKind.{UpdateKind}
 use Rattle.ua_session.specs.declared.audit.UpdateKind.TheVariants.{Insert, Replace, Update, DeleteRange, DeleteAtTime, Other}
-use Rattle.event_lines.specs.Lines.{from_text, amount_text, asked_text, moved_text, exchanged_text, archived_text, connected_text, login_text, denial_text, update_text, end_text, call_text}
+use Rattle.event_lines.specs.Lines.{from_text, amount_text, asked_text, moved_text, exchanged_text, archived_text, doors_text, browsers_text, start_text, connected_text, login_text, denial_text, update_text, end_text, call_text}
 use Rattle.event_lines.specs.OneLine.{IsOneLine, IsToldOnOneLine}
 use Rattle.event_lines.specs.declared.lines.Moved.{Moved}
 use Rattle.event_lines.proofs.OneLineLemmas.{said, onto, ◌&◌, number}
@@ -53,7 +53,28 @@ exchanged : (moved : Option Moved) → IsOneLine (exchanged_text moved)
 exchanged (Some moved) = moved_is moved
 exchanged None = said [] refl
 
+doors : (clients : List ℕ) → (peers : Option (List ℕ)) → IsOneLine clients
+    → IfSome peers IsOneLine → IsOneLine (doors_text clients peers)
+doors clients None is own = said (codes "clients and peers at ") refl & is
+doors clients (Some peers) is own =
+    said (codes "clients at ") refl & is & said (codes ", peers at ") refl & own
+
+page : (browsers : Option (List ℕ)) → IfSome browsers IsOneLine → IsOneLine (browsers_text browsers)
+page None is = said [] refl
+page (Some address) is = said (codes ", browsers at ") refl & is
+
 -- ---- the events
+
+pub started : (version archive : List ℕ) (replica : ℕ) (clients : List ℕ)
+    (peers browsers : Option (List ℕ)) → IsOneLine version → IsOneLine archive
+    → IsOneLine clients → IfSome peers IsOneLine → IfSome browsers IsOneLine
+    → IsToldOnOneLine (start_text version archive replica
+    (doors_text clients peers ++ browsers_text browsers))
+started version archive replica clients peers browsers program id at own web =
+    told (start_text version archive replica (doors_text clients peers ++ browsers_text browsers))
+    (said (codes "started: version ") refl & program & said (codes ", archive ") refl & id
+    & said (codes ", replica ") refl & number replica & said (codes "; ") refl
+    & (doors clients peers at own & page browsers web))
 
 pub connected : (from : Option SocketAddr) → (door : List ℕ) → IsOneLine door
     → IsToldOnOneLine (connected_text from door)

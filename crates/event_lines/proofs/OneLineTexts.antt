@@ -1,5 +1,5 @@
 -- Texts that stay on one line: addresses, moments, status codes and names.
-use Rattle.std.proofs.Common.{◌≡◌, ◌≢◌, ◌<◌, ◌≤◌, ◌+◌, ◌/◌, ◌%◌, ◌==◌, ◌||◌, ◌⊎◌, inl, inr, ⊎_elim, ◌++◌, ◌∙◌, ◌∷◌, [], ℕ, zero, suc, List, true, false, refl, ap, sym, subst, take, drop, arith}
+use Rattle.std.proofs.Common.{◌≡◌, ◌<◌, ◌≤◌, ◌+◌, ◌/◌, ◌%◌, ◌==◌, ◌||◌, inl, inr, ⊎_elim, ◌++◌, ◌∙◌, ◌∷◌, [], ℕ, zero, suc, List, true, false, refl, ap, sym, subst, take, drop, arith}
 use Rattle.std.proofs.lemmas.Bool.{and_from, le-leb, cond_both, cases_lt, true≢false}
 use Rattle.std.specs.Prelude.{nat_lt, codes, slice_index, unsigned_abs}
 use Rattle.std.specs.Str.{bytes_eq, chars}

@@ -55,7 +55,25 @@ moved_text moved =
 abbrev pub exchanged_text : Option Moved → List ℕ
 exchanged_text moved = elim moved [ Some moved ↦ moved_text moved | None ↦ [] ]
 
+-- where clients come to, and where peers do: there too, or to an address of their own
+abbrev pub doors_text : (clients : List ℕ) → (peers : Option (List ℕ)) → List ℕ
+doors_text clients peers = elim peers [
+  | None ↦ codes "clients and peers at " ++ clients
+  | Some own ↦ codes "clients at " ++ clients ++ codes ", peers at " ++ own
+]
+
+-- where browsers come to, if they do
+abbrev pub browsers_text : (browsers : Option (List ℕ)) → List ℕ
+browsers_text browsers =
+    elim browsers [ Some address ↦ codes ", browsers at " ++ address | None ↦ [] ]
+
 -- ---- what is said of an event
+
+-- the program of this version serves this replica of this archive, from now on, at these places
+abbrev pub start_text : (version archive : List ℕ) → (replica : ℕ) → (places : List ℕ) → List ℕ
+start_text version archive replica places =
+    codes "started: version " ++ version ++ codes ", archive " ++ archive ++ codes ", replica "
+    ++ decimal replica ++ codes "; " ++ places
 
 -- somebody came in by one of the server's doors
 abbrev pub connected_text : Option SocketAddr → (door : List ℕ) → List ℕ

@@ -1,10 +1,10 @@
 //! The line of each event.
 
-ghost use Rattle.std.specs.Prelude.{◌≡◌, ◌++◌, ◌∷◌, codes, IfOk, OnOk};
+ghost use Rattle.std.specs.Prelude.{◌≡◌, ◌++◌, ◌∷◌, codes, option_copied, IfOk, OnOk};
 ghost use Rattle.std.specs.Fmt.{decimal};
 ghost use Rattle.history_text.specs.Statuses.{status_text};
 ghost use Rattle.event_lines.specs.Names.{quoted_name};
-ghost use Rattle.event_lines.specs.Lines.{IsEventLine, from_text, amount_text, archived_text, asked_text, exchanged_text, connected_text, login_text, denial_text, update_text, end_text, call_text};
+ghost use Rattle.event_lines.specs.Lines.{IsEventLine, from_text, amount_text, archived_text, asked_text, exchanged_text, doors_text, browsers_text, start_text, connected_text, login_text, denial_text, update_text, end_text, call_text};
 
 use crate::parts::{
     line_at, put_amount, put_asked, put_exchanged, put_from, put_moved, put_name, put_node,
@@ -35,6 +35,99 @@ pub struct Ending<'a> {
     pub reason: &'a [u8],
     /// The records that it moved, where it was an exchange.
     pub moved: Option<Moved>,
+}
+
+/// A server that begins.
+#[derive(Clone, Copy, Debug)]
+pub struct Start<'a> {
+    /// The version of its program.
+    pub version: &'a str,
+    /// The id of its archive.
+    pub archive: &'a str,
+    /// Which replica of it this is.
+    pub replica: u8,
+    /// The address where clients come to.
+    pub clients: &'a str,
+    /// The one where peers do; none where they come there too.
+    pub peers: Option<&'a str>,
+    /// The one where browsers do, if they come.
+    pub browsers: Option<&'a str>,
+}
+
+/// Appends which program serves what.
+fn put_served(line: &mut Vec<u8>, start: &Start<'_>) -> Result<(), AllocError>
+    ensures { OnOk result (line.new.items ≡ line.old.items ++ (codes "started: version "
+        ++ start.now.version.now ++ codes ", archive " ++ start.now.archive.now
+        ++ codes ", replica " ++ decimal start.now.replica)) }
+{
+    line.extend_from_slice(b"started: version ")?;
+    line.extend_from_slice(start.version.as_bytes())?;
+    line.extend_from_slice(b", archive ")?;
+    line.extend_from_slice(start.archive.as_bytes())?;
+    line.extend_from_slice(b", replica ")?;
+    put_number(line, u64::from(start.replica))
+}
+
+/// Appends who comes to an address.
+fn put_at(line: &mut Vec<u8>, who: &str, address: &str) -> Result<(), AllocError>
+    ensures { OnOk result (line.new.items ≡ line.old.items ++ (who.now ++ address.now)) }
+{
+    line.extend_from_slice(who.as_bytes())?;
+    line.extend_from_slice(address.as_bytes())
+}
+
+/// Appends where clients come to, and where peers do.
+fn put_doors(line: &mut Vec<u8>, clients: &str, peers: Option<&str>) -> Result<(), AllocError>
+    ensures { OnOk result
+        (line.new.items ≡ line.old.items ++ doors_text clients.now (option_copied peers.entry)) }
+{
+    match peers {
+        None => put_at(line, "clients and peers at ", clients),
+        Some(own) => {
+            line.extend_from_slice(b"clients at ")?;
+            line.extend_from_slice(clients.as_bytes())?;
+            line.extend_from_slice(b", peers at ")?;
+            line.extend_from_slice(own.as_bytes())
+        }
+    }
+}
+
+/// Appends where browsers come to, if they do.
+fn put_page(line: &mut Vec<u8>, browsers: Option<&str>) -> Result<(), AllocError>
+    ensures { OnOk result
+        (line.new.items ≡ line.old.items ++ browsers_text (option_copied browsers.entry)) }
+{
+    match browsers {
+        None => Ok(()),
+        Some(address) => put_at(line, ", browsers at ", address),
+    }
+}
+
+/// Appends what is said of a server that begins.
+fn put_start(line: &mut Vec<u8>, start: &Start<'_>) -> Result<(), AllocError>
+    ensures { OnOk result (line.new.items ≡ line.old.items ++ start_text start.now.version.now
+        start.now.archive.now start.now.replica
+        (doors_text start.now.clients.now (option_copied start.now.peers)
+        ++ browsers_text (option_copied start.now.browsers))) }
+{
+    put_served(line, start)?;
+    line.extend_from_slice(b"; ")?;
+    put_doors(line, start.clients, start.peers)?;
+    put_page(line, start.browsers)
+}
+
+/// The line of a server that begins: `TIME started: version VERSION, archive ARCHIVE, replica REPLICA; clients at ADDRESS, peers at
+/// ADDRESS, browsers at ADDRESS`, or `clients and peers at ADDRESS`, and without the last part where browsers don't come. The one
+/// error is want of memory.
+pub fn start_line(alloc: Global, at: i64, start: &Start<'_>) -> Result<Vec<u8>, AllocError>
+    ensures { IfOk result (λ line. IsEventLine at (start_text start.now.version.now
+        start.now.archive.now start.now.replica
+        (doors_text start.now.clients.now (option_copied start.now.peers)
+        ++ browsers_text (option_copied start.now.browsers))) line.items) }
+{
+    let mut line = line_at(alloc, at)?;
+    put_start(&mut line, start)?;
+    Ok(line)
 }
 
 /// Appends what is said of a connection that came.

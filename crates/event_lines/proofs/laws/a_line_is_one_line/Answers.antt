@@ -1,5 +1,8 @@
-use Rattle.event_lines.proofs.OneLineEvents.{connected, login, denied, updated, ended, called}
+use Rattle.event_lines.proofs.OneLineEvents.{started, connected, login, denied, updated, ended, called}
 use Rattle.event_lines.proofs.laws.a_line_is_one_line.Goals as goal
+
+pub returns-clause-start : goal.returns-clause-start
+returns-clause-start c = started
 
 pub returns-clause-connected : goal.returns-clause-connected
 returns-clause-connected c = connected
