@@ -17,3 +17,4 @@ pub mod Passwords
 pub mod ExposedFiles
 pub mod CheckingParts
 pub mod Logged
+pub mod Begun

@@ -8,6 +8,7 @@ pub mod Single
 pub mod Listening
 pub mod Host
 pub mod Logging
+pub mod Starting
 pub mod Network
 pub mod Dumping
 pub mod Passwords

@@ -21,6 +21,7 @@ use Rattle.ua_server.specs.Host.{KnownMachine}
 use Rattle.ua_server.specs.Listening.{IsFrom, networks_at}
 use Rattle.ua_server.specs.Telling.{Known, Readings, fresh_log}
 use Rattle.ua_server.specs.Logging.{logs_to}
+use Rattle.ua_server.specs.Starting.{LogsStart}
 use Rattle.conversation.specs.Logins.{no_logins}
 
 -- this was done with a connection, and its failed calls were counted: of each kind 1 where the
@@ -71,16 +72,16 @@ ServingLoop known C E =
     Loop known.Source OtherEnd known.ClientReader known.ClientWriter
     (World known.Archive C (ErrorLog E C)) ConversationEnding
 
--- it serves over this archive, this clock and standard error
+-- it serves over this archive and this clock
 pub record IsAround {C E : Type 0} (known : KnownMachine)
     (around : Serving known.Host known.Archive C E) (loop : ServingLoop known C E) : Type 0 where
   pub archive : loop.world.server.replica.archive ≡ around.archive
   pub clock : loop.world.clock ≡ around.clock
-  pub errors : loop.world.log.errors ≡ around.errors
 
--- connections were served that came from a source, each in its turn, from when there was none, to
--- their end, or till the store was broken and the settings said that nobody is served then; and
--- then the longest turn, as the loop measured it, was told where the settings want it told
+-- it was told that the server begins, where events are told; connections were served that came from
+-- a source, each in its turn, from when there was none, to their end, or till the store was broken
+-- and the settings said that nobody is served then; and then the longest turn, as the loop measured
+-- it, was told where the settings want it told
 pub record ServesMany {C E : Type 0} (known : KnownMachine) (gave : Readings C) (told : Known E)
     (settings : SettingsValues) (count : ℕ) (source : known.Source) (broken : Bool)
     (old new : Serving known.Host known.Archive C E) : Type 0 where
@@ -92,10 +93,11 @@ pub record ServesMany {C E : Type 0} (known : KnownMachine) (gave : Readings C) 
   pub begins : IsAround known old first
   pub tells : TellsTurn (logs_to told gave) last.world longest behind
   pub ends : IsAround known new (record last { world = behind })
+  pub said : behind.log.errors ≡ new.errors
   pub settings_are : first.world.server.settings ≡ settings
   pub from : first.source ≡ source
-  pub fresh : first.world.log
-      ≡ fresh_log first.world.server.alloc settings.events old.clock old.errors
+  pub starts : LogsStart told gave settings
+      (fresh_log first.world.server.alloc settings.events old.clock old.errors) first.world.log
   pub logins : first.world.logins ≡ no_logins (refusals_kept settings.logins)
   pub peers_from : IsFrom (networks_at settings) first.world.from
   pub free : AreAllFree first.slots

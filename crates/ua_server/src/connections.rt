@@ -102,7 +102,7 @@ fn logins_of(alloc: Global, settings: &Settings) -> Result<Logins, AllocError>
     }
 }
 
-/// Serves so many connections at the address of a server's settings, many at once, and calls the peers of these settings when
+/// Tells that the server begins, where events are told; then serves so many connections at the addresses of its settings, many at once, and calls the peers of these settings when
 /// they are due, till all connections have ended; or, where the settings say so, till the store is broken, which is a fault.
 pub(crate) fn serve_at<H: Host, C: Clock, E: Write>(
     world: &mut World<H::Archive, C, ErrorLog<E, C>>,
@@ -130,6 +130,7 @@ pub(crate) fn serve_at<H: Host, C: Clock, E: Write>(
     let (mut source, from) = listen_at(alloc, &world.server.settings, host)?;
     world.from = from;
     world.logins = logins;
+    world.log.log_start(&world.server.settings);
     let report = serve::<H::Source, Conversation<H::Archive, C, ErrorLog<E, C>>>(
         alloc,
         &mut source,

@@ -237,7 +237,7 @@ impl<E: Write, C: Clock> ErrorLog<E, C> {
     }
 
     /// Writes the line of an event, behind how many weren't told, or that memory for it is wanting.
-    fn tell_line(&mut self, left_out: u64, line: Result<Vec<u8>, AllocError>)
+    pub(crate) fn tell_line(&mut self, left_out: u64, line: Result<Vec<u8>, AllocError>)
         ensures told { (event : List ℕ) → (at : ℤ)
             → IfOk line (λ line. IsEventLine at event line.items)
             → (text : List ℕ) × IsToldAs left_out event at text

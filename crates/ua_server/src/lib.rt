@@ -18,6 +18,7 @@ mod log;
 mod program;
 mod recent;
 mod single;
+mod starting;
 
 pub use command_line::{Asked, HistoryWords, ImportWords, Line, LineFault, PerformWord, read_line};
 pub use conversation::{

@@ -9,6 +9,7 @@ use Rattle.ua_server.specs.Host.{known_machine}
 use Rattle.ua_server.specs.Listening.{IsFrom, networks_at}
 use Rattle.ua_server.specs.Network.{IsServingFault, conversations, serving_of}
 use Rattle.ua_server.specs.Program.{Listens}
+use Rattle.ua_server.proofs.Begun.{from-fresh}
 use Rattle.ua_server.proofs.Refused.{unheard, unheard-serving}
 use Rattle.ua_server.proofs.connections.serve_at.Goals as goal
 
@@ -19,6 +20,7 @@ returns-clause-listens g c =
     let world = record c.args.world.now {
       from = c.in_ok-source.from;
       logins = c.in-Ok-logins_of.logins;
+      log = c.log_start.new.self;
     } in
     let begun = state c.in_ok-source.source c.as_mut_slice.result.now world 0 in
     let ended = state c.serve-report.new.source c.serve-report.new.slots c.serve-report.new.world last in (
@@ -33,12 +35,14 @@ returns-clause-listens g c =
           behind = c.tell_turn.new.world;
           done = c.serve-report.result.is_done;
           longest = c.serve-report.result.longest_turn;
-          begins = record { archive = refl; clock = refl; errors = refl };
+          begins = record { archive = refl; clock = refl };
           tells = c.tell_turn.ensures;
-          ends = record { archive = refl; clock = refl; errors = refl };
+          ends = record { archive = refl; clock = refl };
+          said = refl;
           settings_are = refl;
           from = refl;
-          fresh = c.requires;
+          starts = from-fresh g.E.Write.contents g.C.Clock.gave c.args.world.now.server.settings
+              _ c.args.world.now.log c.log_start.new.self c.requires c.log_start.ensures;
           logins = c.in-Ok-logins_of.ensures;
           peers_from = subst (IsFrom (networks_at c.args.world.now.server.settings)) (sym from)
               is.from;
@@ -60,6 +64,7 @@ returns-then-report-clause-listens g c =
     let world = record c.args.world.now {
       from = c.in_ok-source.from;
       logins = c.in-Ok-logins_of.logins;
+      log = c.log_start.new.self;
     } in
     let begun = state c.in_ok-source.source c.as_mut_slice.result.now world 0 in
     let ended = state c.serve-report.new.source c.serve-report.new.slots c.serve-report.new.world last in (
@@ -74,12 +79,14 @@ returns-then-report-clause-listens g c =
           behind = c.tell_turn.new.world;
           done = c.serve-report.result.is_done;
           longest = c.serve-report.result.longest_turn;
-          begins = record { archive = refl; clock = refl; errors = refl };
+          begins = record { archive = refl; clock = refl };
           tells = c.tell_turn.ensures;
-          ends = record { archive = refl; clock = refl; errors = refl };
+          ends = record { archive = refl; clock = refl };
+          said = refl;
           settings_are = refl;
           from = refl;
-          fresh = c.requires;
+          starts = from-fresh g.E.Write.contents g.C.Clock.gave c.args.world.now.server.settings
+              _ c.args.world.now.log c.log_start.new.self c.requires c.log_start.ensures;
           logins = c.in-Ok-logins_of.ensures;
           peers_from = subst (IsFrom (networks_at c.args.world.now.server.settings)) (sym from)
               is.from;

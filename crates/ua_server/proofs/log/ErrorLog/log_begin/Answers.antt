@@ -1,0 +1,15 @@
+use Rattle.std.proofs.Common.{arith, w64}
+use Rattle.std.specs.Int.RustNames.{FitsSigned}
+use Rattle.std.proofs.lemmas.Int.{ints, to_z-of_z}
+use Rattle.ua_server.specs.Starting.{begin_text}
+use Rattle.ua_server.proofs.Logged.{timed}
+use Rattle.ua_server.proofs.log.ErrorLog.log_begin.Goals as goal
+
+pub returns : goal.returns
+returns g c =
+    let at = c.now-at.result in
+    let fits : FitsSigned w64 at = omega (arith, ints, c.now-at.type_inv) in
+    let event = begin_text c.args.settings.now in
+    timed g.E.Write.contents g.C.Clock.gave event c.args.self.now c.tell_line.new.self
+    c.now-at.new.self c.tell_line.new.self.errors at c.now-at.ensures c.tell_line.ensures.same
+    (c.tell_line.ensures.told event at (rw (to_z-of_z w64 at fits) at c.begin_line-line.ensures))
