@@ -36,7 +36,7 @@ class Server:
 
     def __init__(self, keys="", log="", tables=""):
         Server.made += 1
-        self.port, self.web, self.said = free_port(), free_port(), []
+        self.number, self.port, self.web, self.said = Server.made, free_port(), free_port(), []
         path = os.path.join(folder.name, f"{Server.made}.toml")
         text = open(os.path.join(here, "settings.toml")).read().replace("127.0.0.1:4840", f"127.0.0.1:{self.port}")
         text = text.replace("00000000-0000-0000-0000-000000000000", "3f2c8a10-5b7e-4d21-9c44-0a1b2c3d4e5f")
@@ -59,6 +59,12 @@ class Server:
             if len(found) >= count or time.monotonic() > until:
                 return found
             time.sleep(0.02)
+
+    def started(self, clients):
+        """Whether the first line of an event tells that it began, with these addresses of clients and peers."""
+        text = re.escape(f"replica {self.number}; {clients}, browsers at 127.0.0.1:{self.web}")
+        line = rf"uahist: {TIME} started: version \d+\.\d+\.\d+, archive 3f2c8a10-5b7e-4d21-9c44-0a1b2c3d4e5f, {text}"
+        return self.lines(line) and re.fullmatch(line, next(said for said in self.said if re.match(f"uahist: {TIME} ", said)))
 
     def session(self):
         """A client's connection with a session that nobody activated."""
@@ -88,6 +94,7 @@ class Server:
 
 def shows_events():
     server = Server(log="\n[log]\nevents = true\n")
+    tell(server.started(f"clients and peers at 127.0.0.1:{server.port}"), "that the server begins is told first, with what it serves, and where", server.said)
     line, state, _ = server.login()
     said = server.lines(f"uahist: {TIME} {HOST} connected to clients and peers")
     tell(said, "that a client connects is told", server.said)
@@ -136,6 +143,10 @@ def shows_calls():
     one.process.kill()
     tell(two.lines(f"uahist: {TIME} peer 127\\.0\\.0\\.1:{one.port} called: connection ended \\(\\d\\) \\(learned 0, sent 0\\)"), "a call that can't be had is told", two.said)
     two.process.kill()
+    door = free_port()
+    three = Server(log=table, tables=f"\n[door]\nlisten = '127.0.0.1:{door}'\n")
+    tell(three.started(f"clients at 127.0.0.1:{three.port}, peers at 127.0.0.1:{door}"), "a door of its own is told at the begin", three.said)
+    three.process.kill()
 
 
 def shows_silence():
