@@ -8,3 +8,4 @@ pub mod PortionLemmas
 pub mod PrintingLemmas
 pub mod ReadingLemmas
 pub mod WalkLemmas
+mod WholeLemmas

@@ -1,10 +1,12 @@
 -- The first part of a history, and the rest.
-use Rattle.std.proofs.Common.{◌≡◌, ℕ, zero, suc, ◌≤◌, ◌<◌, ℤ, Bool, true, false, cond, ◌&&◌, not, List, [], ◌∷◌, ◌++◌, filter, take, length, reverse, slice_get, Option, Some, None, Result, Ok, Err, refl, sym, ap, ◌∙◌, subst, arith, inl, inr, Less}
+use Rattle.std.proofs.Common.{◌≡◌, ℕ, zero, suc, ◌≤◌, ◌<◌, ℤ, Bool, true, false, cond, ◌&&◌, not, List, [], ◌∷◌, ◌++◌, filter, map, take, length, reverse, slice_get, Option, Some, None, Result, Ok, Err, refl, sym, ap, ◌∙◌, subst, arith, inl, inr, Less}
 use Rattle.std.specs.Prelude.{int_lt, int_le, if◌then◌else◌}
 use Rattle.std.specs.List.{AllByRecursion}
 use Rattle.std.specs.Ordering.{int_cmp, int_eq}
 use Rattle.std.specs.Option.{option_map, option_map_or}
 use Rattle.std.proofs.lemmas.Bool.{and_parts}
+use Rattle.std.proofs.lemmas.List.{length-map}
+use Rattle.std.proofs.lemmas.Option.{slice_get-map}
 use Rattle.std.proofs.lemmas.Bool.Decides.{nat_tests}
 use Rattle.std.proofs.lemmas.Int.{ints}
 use Rattle.records.specs.Lists.{Has, IsPairwise}
@@ -21,7 +23,7 @@ use Rattle.history_report.specs.declared.fault.PartFault.{PartFault}
 use Rattle.history_report.specs.declared.fault.PartFault.TheVariants as part_fault
 use Rattle.history_report.specs.declared.report.Report.{Report}
 use Rattle.history_report.specs.Reports.{is_in_stretch, values_asked, changes_asked}
-use Rattle.history_report.specs.Parts.{part_before, part_up_to, rest_from, row_count, end_between, IsFirstPart, AreCrowded, IsEnd}
+use Rattle.history_report.specs.Parts.{part_before, part_up_to, rest_from, row_times, end_between, IsFirstPart, AreCrowded, IsPartEnd}
 use Rattle.history_report.proofs.PageLemmas.{filter_same, filter_both}
 
 -- ---- rows in the order of time
@@ -98,6 +100,31 @@ module _ {X : Type 0} (time : X → ℤ) where
       let there : earlier t (y ∷ xs) ≡ y ∷ earlier t xs =
       ap (λ b. cond b (y ∷ earlier t xs) (earlier t xs)) (ap (λ z. int_lt (time z) t) same ∙ is) in
       omega (arith, ap length there)
+
+  -- those before the time of the k-th stand before it
+  pub first-earlier : (t : ℤ) (k : ℕ) (x : X) (xs : List X) → GoesOn time xs
+      → slice_get xs k ≡ Some x → time x ≡ t → earlier t xs ≡ earlier t (take k xs)
+  first-earlier t k x [] up at is = absurd cc
+  first-earlier t zero x (y ∷ xs) up at is =
+      let same : y ≡ x = cc in
+      let late : int_lt (time y) t ≡ false = ap (λ z. int_lt (time z) t) same
+      ∙ (ap (λ s. int_lt s t) is ∙ itself t) in
+      ap (λ b. cond b (y ∷ earlier t xs) (earlier t xs)) late ∙ none-behind y xs t late up.0
+  first-earlier t (suc k) x (y ∷ xs) up at is =
+      ap (λ l. cond (int_lt (time y) t) (y ∷ l) l) (first-earlier t k x xs up.1 at is)
+
+  -- in a list that rises all before the k-th are before its time
+  pub all-earlier : (t : ℤ) (k : ℕ) (x : X) (xs : List X)
+      → IsPairwise (λ a b. int_lt (time a) (time b) ≡ true) xs → slice_get xs k ≡ Some x
+      → time x ≡ t → earlier t (take k xs) ≡ take k xs
+  all-earlier t k x [] up at is = absurd cc
+  all-earlier t zero x (y ∷ xs) up at is = refl
+  all-earlier t (suc k) x (y ∷ xs) up at is =
+      let before : int_lt (time y) (time x) ≡ true =
+      all-has (λ z. int_lt (time y) (time z) ≡ true) xs x up.0 (has_from_get xs k x at) in
+      ap (λ b. cond b (y ∷ earlier t (take k xs)) (earlier t (take k xs)))
+      (ap (λ s. int_lt (time y) s) (sym is) ∙ before)
+      ∙ ap (λ l. y ∷ l) (all-earlier t k x xs up.1 at is)
 
 -- ---- the order of what is asked for
 
@@ -257,64 +284,166 @@ changes_both R report t within =
 
 -- ---- where a part ends
 
--- the number of rows, of modifications or of live values
-count-by : (R : Content) (report : Report) (changes : Bool) → report.changes ≡ changes
-    → row_count R report
-    ≡ (if changes then length (changes_asked R report) else length (values_asked R report))
-count-by R report changes is =
-    ap (λ b. if b then length (changes_asked R report) else length (values_asked R report)) is
+-- of these rows at most 500 stand before this end: there is none where they are no more, and
+-- otherwise it is the time of the 501st, which is later than that of the first
+abbrev IsEndOf : {X : Type 0} → (X → ℤ) → List X → Option ℤ → Type 0
+IsEndOf {X} time_of rows end =
+    elim end [
+      | None ↦ length rows ≤ 500
+      | Some time ↦ (first : X) × (last : X) × (slice_get rows 0 ≡ Some first)
+          × (slice_get rows 500 ≡ Some last) × (time_of last ≡ time)
+          × (int_lt (time_of first) time ≡ true)
+    ]
+
+-- the same by the times of the rows
+times-end : {X : Type 0} (time : X → ℤ) (xs : List X) (end : Option ℤ) → IsEndOf time xs end
+    → IsPartEnd (map time xs) end
+times-end time xs None few = subst (λ n. n ≤ 500) (sym (length-map xs time)) few
+times-end time xs (Some t) (first, last, begins, at, same, before) = (
+  slice_get-map time xs 500 ∙ (ap (option_map time) at ∙ ap Some same),
+  time first,
+  slice_get-map time xs 0 ∙ ap (option_map time) begins,
+  before,
+)
+
+-- what stands at a place of the times
+time-at : {X : Type 0} (time : X → ℤ) (xs : List X) (k : ℕ) (t : ℤ)
+    → slice_get (map time xs) k ≡ Some t → (x : X) × (slice_get xs k ≡ Some x) × (time x ≡ t)
+time-at {X} time xs k t at = go (slice_get xs k) refl (sym (slice_get-map time xs k) ∙ at)
+  where
+    go : (o : Option X) → slice_get xs k ≡ o → option_map time o ≡ Some t
+        → (x : X) × (slice_get xs k ≡ Some x) × (time x ≡ t)
+    go None e is = absurd cc
+    go (Some x) e is = (x, e, cc)
+
+-- and back
+end-times : {X : Type 0} (time : X → ℤ) (xs : List X) (t : ℤ)
+    → IsPartEnd (map time xs) (Some t) → IsEndOf time xs (Some t)
+end-times time xs t (at, first, begins, before) =
+    let (last, there, is) = time-at time xs 500 t at in
+    let (x, starts, same) = time-at time xs 0 first begins in
+    (x, last, starts, there, is, subst (λ s. int_lt s t ≡ true) (sym same) before)
+
+-- the times of modifications or of live values
+times-by : (R : Content) (report : Report) (changes : Bool) → report.changes ≡ changes
+    → row_times R report
+    ≡ (if changes then map (λ (e : Entry). e.time) (changes_asked R report)
+    else map (λ (h : Held). h.time) (values_asked R report))
+times-by R report changes is =
+    ap (λ b. if b then map (λ (e : Entry). e.time) (changes_asked R report)
+    else map (λ (h : Held). h.time) (values_asked R report)) is
 
 pub values-first : (R : Content) (report : Report) (end : Option ℤ) → report.changes ≡ false
-    → IsEnd (λ (h : Held). h.time) (values_asked R report) end
+    → IsPartEnd (map (λ (h : Held). h.time) (values_asked R report)) end
     → IsFirstPart R report (part_up_to report end)
-values-first R report None is few =
-    inl (refl, subst (λ n. n ≤ 500) (sym (count-by R report false is)) few)
-values-first R report (Some t) is (first, last, begins, at, same, before) =
-    let asked = values_asked R report in
-    let within : is_in_stretch report t ≡ true =
-    subst (λ s. is_in_stretch report s ≡ true) same
-    (has_from_filter (λ h. is_in_stretch report h.time) (lives R report.node) last
-    (has_from_get asked 500 last at)).1 in
-    let count : row_count R (part_before report t)
-    ≡ length (filter (λ (h : Held). int_lt h.time t) asked) =
-    count-by R (part_before report t) false is ∙ ap length (values-part report t within R) in
-    inr (
-      t,
-      refl,
-      (
-        within,
-        subst (λ n. 1 ≤ n) (sym count)
-            (some-earlier (λ (h : Held). h.time) t first asked begins before),
-        subst (λ n. n ≤ 500) (sym count)
-            (few-earlier (λ (h : Held). h.time) t 500 last asked (values-go R report) at same),
-      ),
-    )
+values-first R report end is ends =
+    (end, subst (λ l. IsPartEnd l end) (sym (times-by R report false is)) ends, refl)
 
 pub changes-first : (R : Content) (report : Report) (end : Option ℤ) → report.changes ≡ true
-    → IsEnd (λ (e : Entry). e.time) (changes_asked R report) end
+    → IsPartEnd (map (λ (e : Entry). e.time) (changes_asked R report)) end
     → IsFirstPart R report (part_up_to report end)
-changes-first R report None is few =
-    inl (refl, subst (λ n. n ≤ 500) (sym (count-by R report true is)) few)
-changes-first R report (Some t) is (first, last, begins, at, same, before) =
-    let asked = changes_asked R report in
-    let within : is_in_stretch report t ≡ true =
+changes-first R report end is ends =
+    (end, subst (λ l. IsPartEnd l end) (sym (times-by R report true is)) ends, refl)
+
+-- ---- the rows of a first part
+
+values-ends : (R : Content) (report : Report) (t : ℤ) → report.changes ≡ false
+    → IsPartEnd (row_times R report) (Some t)
+    → IsEndOf (λ (h : Held). h.time) (values_asked R report) (Some t)
+values-ends R report t is ends =
+    end-times (λ (h : Held). h.time) (values_asked R report) t
+    (subst (λ l. IsPartEnd l (Some t)) (times-by R report false is) ends)
+
+changes-ends : (R : Content) (report : Report) (t : ℤ) → report.changes ≡ true
+    → IsPartEnd (row_times R report) (Some t)
+    → IsEndOf (λ (e : Entry). e.time) (changes_asked R report) (Some t)
+changes-ends R report t is ends =
+    end-times (λ (e : Entry). e.time) (changes_asked R report) t
+    (subst (λ l. IsPartEnd l (Some t)) (times-by R report true is) ends)
+
+values-within : (R : Content) (report : Report) (t : ℤ)
+    → IsEndOf (λ (h : Held). h.time) (values_asked R report) (Some t)
+    → is_in_stretch report t ≡ true
+values-within R report t (first, last, begins, at, same, before) =
+    subst (λ s. is_in_stretch report s ≡ true) same
+    (has_from_filter (λ h. is_in_stretch report h.time) (lives R report.node) last
+    (has_from_get (values_asked R report) 500 last at)).1
+
+changes-within : (R : Content) (report : Report) (t : ℤ)
+    → IsEndOf (λ (e : Entry). e.time) (changes_asked R report) (Some t)
+    → is_in_stretch report t ≡ true
+changes-within R report t (first, last, begins, at, same, before) =
     subst (λ s. is_in_stretch report s ≡ true) same
     (has_from_filter (λ e. is_in_stretch report e.time) (log R report.node) last
-    (has_from_get asked 500 last at)).1 in
-    let count : row_count R (part_before report t)
-    ≡ length (filter (λ (e : Entry). int_lt e.time t) asked) =
-    count-by R (part_before report t) true is ∙ ap length (changes-part report t within R) in
-    inr (
-      t,
-      refl,
-      (
-        within,
-        subst (λ n. 1 ≤ n) (sym count)
-            (some-earlier (λ (e : Entry). e.time) t first asked begins before),
-        subst (λ n. n ≤ 500) (sym count)
-            (few-earlier (λ (e : Entry). e.time) t 500 last asked (changes-go R report) at same),
-      ),
-    )
+    (has_from_get (changes_asked R report) 500 last at)).1
+
+-- the end is a moment that the report asks for
+pub end_within : (R : Content) (report : Report) (t : ℤ)
+    → IsPartEnd (row_times R report) (Some t) → is_in_stretch report t ≡ true
+end_within R report t ends = go report.changes refl
+  where
+    go : (b : Bool) → report.changes ≡ b → is_in_stretch report t ≡ true
+    go true is = changes-within R report t (changes-ends R report t is ends)
+    go false is = values-within R report t (values-ends R report t is ends)
+
+-- 1 to 500 rows stand before it
+pub end_counts : (R : Content) (report : Report) (t : ℤ)
+    → IsPartEnd (row_times R report) (Some t)
+    → (1 ≤ length (row_times R (part_before report t)))
+    × (length (row_times R (part_before report t)) ≤ 500)
+end_counts R report t ends = go report.changes refl
+  where
+    within : is_in_stretch report t ≡ true
+    within = end_within R report t ends
+
+    counted : {X : Type 0} (time : X → ℤ) (xs part : List X) → GoesOn time xs
+        → IsEndOf time xs (Some t) → part ≡ filter (λ x. int_lt (time x) t) xs
+        → row_times R (part_before report t) ≡ map time part
+        → (1 ≤ length (row_times R (part_before report t)))
+        × (length (row_times R (part_before report t)) ≤ 500)
+    counted time xs part up (first, last, begins, at, same, before) is times =
+        let count : length (row_times R (part_before report t))
+        ≡ length (filter (λ x. int_lt (time x) t) xs) =
+        ap length times ∙ (length-map part time ∙ ap length is) in (
+          subst (λ n. 1 ≤ n) (sym count) (some-earlier time t first xs begins before),
+          subst (λ n. n ≤ 500) (sym count) (few-earlier time t 500 last xs up at same),
+        )
+
+    go : (b : Bool) → report.changes ≡ b
+        → (1 ≤ length (row_times R (part_before report t)))
+        × (length (row_times R (part_before report t)) ≤ 500)
+    go true is = counted (λ (e : Entry). e.time) (changes_asked R report)
+        (changes_asked R (part_before report t)) (changes-go R report)
+        (changes-ends R report t is ends) (changes-part report t within R)
+        (times-by R (part_before report t) true is)
+    go false is = counted (λ (h : Held). h.time) (values_asked R report)
+        (values_asked R (part_before report t)) (values-go R report)
+        (values-ends R report t is ends) (values-part report t within R)
+        (times-by R (part_before report t) false is)
+
+-- live values are the first 500
+pub first_values : (R : Content) (report : Report) (t : ℤ) → report.changes ≡ false
+    → IsPartEnd (row_times R report) (Some t)
+    → values_asked R (part_before report t) ≡ take 500 (values_asked R report)
+first_values R report t is ends =
+    let time : Held → ℤ = λ h. h.time in
+    let xs = values_asked R report in
+    let (first, last, begins, at, same, before) = values-ends R report t is ends in
+    values-part report t (end_within R report t ends) R
+    ∙ (first-earlier time t 500 last xs (values-go R report) at same
+    ∙ all-earlier time t 500 last xs (values-rise R report) at same)
+
+-- modifications are those of the first 500 that are before the end
+pub first_changes : (R : Content) (report : Report) (t : ℤ) → report.changes ≡ true
+    → IsPartEnd (row_times R report) (Some t)
+    → changes_asked R (part_before report t)
+    ≡ filter (λ e. int_lt e.time t) (take 500 (changes_asked R report))
+first_changes R report t is ends =
+    let time : Entry → ℤ = λ e. e.time in
+    let xs = changes_asked R report in
+    let (first, last, begins, at, same, before) = changes-ends R report t is ends in
+    changes-part report t (end_within R report t ends) R
+    ∙ first-earlier time t 500 last xs (changes-go R report) at same
 
 -- ---- which rows are seen
 
@@ -346,11 +475,12 @@ first-before time k last (x ∷ xs) up at = (
 pub values-end : (R : Content) (report : Report) (page : List Held) (end : Option ℤ)
     → page ≡ take 501 (values_asked R report)
     → end ≡ option_map (λ (h : Held). h.time) (slice_get page 500)
-    → IsEnd (λ (h : Held). h.time) (values_asked R report) end
+    → IsPartEnd (map (λ (h : Held). h.time) (values_asked R report)) end
 values-end R report page end is ends =
-    subst (IsEnd (λ (h : Held). h.time) asked)
+    subst (IsPartEnd (map (λ (h : Held). h.time) asked))
     (sym (ends ∙ ap (option_map (λ (h : Held). h.time)) seen))
-    (go (slice_get asked 500) refl)
+    (times-end (λ (h : Held). h.time) asked
+    (option_map (λ (h : Held). h.time) (slice_get asked 500)) (go (slice_get asked 500) refl))
   where
     asked : List Held
     asked = values_asked R report
@@ -359,7 +489,7 @@ values-end R report page end is ends =
     seen = ap (λ l. slice_get l 500) is ∙ get-taken 501 500 asked (omega arith)
 
     go : (o : Option Held) → slice_get asked 500 ≡ o
-        → IsEnd (λ (h : Held). h.time) asked (option_map (λ (h : Held). h.time) o)
+        → IsEndOf (λ (h : Held). h.time) asked (option_map (λ (h : Held). h.time) o)
     go None e = no-more 500 asked e
     go (Some last) e =
         let (first, begins, before) =
@@ -370,7 +500,7 @@ values-end R report page end is ends =
 abbrev pub EndsChanges : List Entry → Result (Option ℤ) PartFault → Type 0
 EndsChanges changes result =
     elim result [
-      | Ok end ↦ IsEnd (λ (e : Entry). e.time) changes end
+      | Ok end ↦ IsPartEnd (map (λ (e : Entry). e.time) changes) end
       | Err part_fault.Crowded ↦ AreCrowded changes
       | Err (part_fault.Report why) ↦ ⊥
     ]
@@ -413,12 +543,15 @@ changes-end R report page result is ends =
         → EndsChanges asked (if b then Err part_fault.Crowded else Ok (Some last.time))
     two first last true e p q = (first, last, p, q, exact_test first.time last.time e)
     two first last false e p q =
+        times-end (λ (e : Entry). e.time) asked (Some last.time)
         (first, last, p, q, refl, apart first.time last.time e (ordered first last p q))
 
     go : (o r : Option Entry) → slice_get asked 0 ≡ o → slice_get asked 500 ≡ r
         → EndsChanges asked (end_between (option_map (λ (e : Entry). e.time) o)
         (option_map (λ (e : Entry). e.time) r))
-    go None None p q = no-more 500 asked q
-    go (Some first) None p q = no-more 500 asked q
-    go None (Some last) p q = let few = no-more 0 asked p in omega (arith, few)
+    go None None p q = times-end (λ (e : Entry). e.time) asked None (no-more 500 asked q)
+    go (Some first) None p q = times-end (λ (e : Entry). e.time) asked None (no-more 500 asked q)
+    go None (Some last) p q =
+        let few = no-more 0 asked p in
+        times-end (λ (e : Entry). e.time) asked None (omega (arith, few))
     go (Some first) (Some last) p q = two first last (int_eq first.time last.time) refl p q

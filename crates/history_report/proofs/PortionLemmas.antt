@@ -5,19 +5,22 @@ use Rattle.std.proofs.lemmas.Bool.{true≢false}
 use Rattle.std.proofs.lemmas.List.{take_more, take_all}
 use Rattle.std.proofs.lemmas.Option.{slice_get-get_or}
 use Rattle.records.specs.Contents.{Content, vec}
+use Rattle.records.specs.declared.shown.Held.{Held}
+use Rattle.records.specs.declared.shown.Entry.{Entry}
 use Rattle.stamp.specs.Numbers.{number_of}
 use Rattle.archive.specs.Store.{Store, StoreFailed, IsLawfulContent, faults_of}
 use Rattle.archive.specs.Steps.{Transitions}
 use Rattle.archive.specs.declared.fault.StoreFault.{StoreFault}
 use Rattle.archive.proofs.Acting.{moves-as}
 use Rattle.history_text.specs.declared.fault.TextFault.{TextFault}
+use Rattle.history_csv.specs.Rows.{IsTextless, ShowsTextless}
 use Rattle.history_report.specs.declared.fault.ReportFault.{ReportFault}
 use Rattle.history_report.specs.declared.fault.ReportFault.TheVariants as fault
 use Rattle.history_report.specs.declared.pages.Pages.{Pages}
 use Rattle.history_report.specs.declared.report.Report.{Report}
-use Rattle.history_report.specs.Reports.{AreLines, ReadsFor, report_faults}
+use Rattle.history_report.specs.Reports.{AreLines, IsChangeLine, IsValueLine, ReadsFor, footer_of, report_faults}
 use Rattle.history_report.specs.Paging.{IsPut, IsWhy, IsPageOf, GivesPage, Fails, values_left, changes_left, fault_told}
-use Rattle.history_report.specs.Portions.{IsWhole, PutsBefore, PutsRows, PutsPortion, PutsValues, PutsChanges, TakesPortion, ending, kept_behind}
+use Rattle.history_report.specs.Portions.{IsPortion, IsWhole, PutsBefore, PutsRows, PutsPortion, PutsValues, PutsChanges, Remainder, TakesPortion, changes_to_come, ending, kept_behind, values_to_come}
 use Rattle.history_report.proofs.LineLemmas.{lines-append, lines-one}
 use Rattle.history_report.proofs.PageLemmas.{IsSpanOf, values-all, changes-all}
 use Rattle.history_report.proofs.PrintingLemmas.{AreShown, take-front}
@@ -187,6 +190,50 @@ portion-by report was now t u old new result changes is =
           (values_left report.node now R) old new result
     ])) (sym is)
 
+-- ---- behind a fault
+
+-- what is told of a fault doesn't depend on what is left behind it
+fault-same : {X : Type 0} (IsLine : X → List ℕ → Type 0) (HasNoText : X → Type 0)
+    (footer : List ℕ) (rest more other : List X) (old new : List ℕ) (why : ReportFault)
+    → PutsPortion IsLine HasNoText footer rest more old new (Err why)
+    → PutsPortion IsLine HasNoText footer rest other old new (Err why)
+fault-same IsLine HasNoText footer rest more other old new fault.NoText put = put
+fault-same IsLine HasNoText footer rest more other old new fault.Write put = put
+fault-same IsLine HasNoText footer rest more other old new fault.OutOfMemory put = put
+fault-same IsLine HasNoText footer rest more other old new (fault.Store why) put = put
+
+-- a portion, by whether modifications are asked for
+abbrev PortionBy : (was now : Remainder) → Content → (old new : List ℕ)
+    → Result Bool ReportFault → (changes : Bool) → Type 0
+PortionBy was now R old new result changes =
+    elim changes [
+      | true ↦ PutsChanges was.report (changes_to_come was R) (changes_to_come now R) old new
+          result
+      | false ↦ PutsValues was.report (values_to_come was R) (values_to_come now R) old new result
+    ]
+
+pub portion-back : (was now back : Remainder) (t u : Store) (old new : List ℕ)
+    (why : ReportFault) → TakesPortion was now t u old new (Err why)
+    → TakesPortion was back t u old new (Err why)
+portion-back was now back t u old new why (used, takes) = (
+  used,
+  moves-as t u used
+      (λ marks R S. (S ≡ R) × ((faults_of used ≡ report_faults (Err why))
+      × IsPortion was now R old new (Err why)))
+      (λ marks R S. (S ≡ R) × ((faults_of used ≡ report_faults (Err why))
+      × IsPortion was back R old new (Err why)))
+      (λ ms R S p. (p.0, (p.1.0, go R was.report.changes p.1.1))) takes,
+)
+  where
+    go : (R : Content) (changes : Bool) → PortionBy was now R old new (Err why) changes
+        → PortionBy was back R old new (Err why) changes
+    go R true put = fault-same (IsChangeLine was.report) (λ (e : Entry). ShowsTextless e.value)
+        (footer_of was.report) (changes_to_come was R) (changes_to_come now R)
+        (changes_to_come back R) old new why put
+    go R false put = fault-same (IsValueLine was.report) (λ (h : Held). IsTextless h.value.value)
+        (footer_of was.report) (values_to_come was R) (values_to_come now R)
+        (values_to_come back R) old new why put
+
 -- ---- the beginning
 
 -- all that is asked for is left
@@ -204,6 +251,7 @@ begun-whole report pages t u shown first span =
         refl,
         values-all R report pages p.1 p.2 span,
         changes-all R report pages p.1 p.2 span first,
+        p.2,
       ),
     )) shown
 

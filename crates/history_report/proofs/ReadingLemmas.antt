@@ -1,5 +1,5 @@
 -- An archive is read, and then again, for a part of a history.
-use Rattle.std.proofs.Common.{◌≡◌, ℕ, ℤ, Bool, true, false, List, [], ◌++◌, take, Option, Some, None, Result, Ok, Err, refl, ap, ◌∙◌, subst, inl, inr}
+use Rattle.std.proofs.Common.{◌≡◌, ℕ, ℤ, Bool, true, false, List, [], ◌++◌, map, take, Option, Some, None, Result, Ok, Err, refl, sym, ap, ◌∙◌, subst, inl, inr}
 use Rattle.std.specs.Prelude.{if◌then◌else◌}
 use Rattle.std.specs.Ordering.{int_eq}
 use Rattle.records.specs.Contents.{Content, vec}
@@ -10,15 +10,16 @@ use Rattle.archive.specs.Store.{Store, IsLawfulContent, faults_of}
 use Rattle.archive.specs.Steps.{Transitions}
 use Rattle.archive.specs.declared.fault.StoreFault.{StoreFault}
 use Rattle.archive.proofs.Acting.{moves-then, moves-as, faults-append}
+use Rattle.history_csv.specs.Rows.{IsTextless, ShowsTextless}
 use Rattle.history_report.specs.declared.fault.PartFault.{PartFault}
 use Rattle.history_report.specs.declared.fault.PartFault.TheVariants as part_fault
 use Rattle.history_report.specs.declared.fault.ReportFault.{ReportFault}
 use Rattle.history_report.specs.declared.fault.ReportFault.TheVariants as fault
 use Rattle.history_report.specs.declared.pages.Pages.{Pages}
 use Rattle.history_report.specs.declared.report.Report.{Report}
-use Rattle.history_report.specs.Reports.{PrintsReport, ReadsFor, report_faults, values_asked, changes_asked}
+use Rattle.history_report.specs.Reports.{PrintsReport, PrintsWhole, ReadsFor, IsAt, IsChangeLine, IsValueLine, footer_of, report_faults, values_asked, changes_asked}
 use Rattle.history_report.specs.Paging.{IsPut, Fails, values_left, changes_left}
-use Rattle.history_report.specs.Parts.{part_up_to, part_fault_told, end_between, IsFirstPart, AreCrowded, IsPrinted, PutsPart, ReadsPart, IsEnd}
+use Rattle.history_report.specs.Parts.{part_up_to, part_fault_told, end_between, HasTextless, IsFirstPart, AreCrowded, IsPrinted, PutsPart, AsksForPart, IsPartEnd}
 use Rattle.history_report.proofs.PageLemmas.{IsSpanOf, values-all, changes-all}
 use Rattle.history_report.proofs.PartLemmas.{EndsChanges}
 use Rattle.history_report.proofs.PrintingLemmas.{AreShown}
@@ -69,65 +70,80 @@ reads-quiet s t P quiet = (
 -- ---- a part
 
 -- the same reading for a part, told in other words
-pub part-as : {A : Type 0} (s t : Store) (result : Result A PartFault) (C D : Content → Type 0)
+pub part-as : {A : Type 0} (s t : Store) (result : Result A PartFault) (C D L : Content → Type 0)
     (P Q : A → Content → Type 0) → ((R : Content) → C R → D R)
-    → ((a : A) (R : Content) → P a R → Q a R) → ReadsPart s t result C P → ReadsPart s t result D Q
-part-as s t (Ok a) C D P Q crowds so reads = reads-as s t (Ok tt) (P a) (Q a) (so a) reads
-part-as s t (Err part_fault.Crowded) C D P Q crowds so reads = reads-as s t (Ok tt) C D crowds reads
-part-as s t (Err (part_fault.Report why)) C D P Q crowds so reads = reads
+    → ((a : A) (R : Content) → P a R → Q a R) → AsksForPart s t result C L P
+    → AsksForPart s t result D L Q
+part-as s t (Ok a) C D L P Q crowds so reads = reads-as s t (Ok tt) (P a) (Q a) (so a) reads
+part-as s t (Err part_fault.Crowded) C D L P Q crowds so reads =
+    reads-as s t (Ok tt) C D crowds reads
+part-as s t (Err (part_fault.Report why)) C D L P Q crowds so reads = reads
 
 -- what ended one call ends another
-pub part-ends : {A B : Type 0} (s t : Store) (why : PartFault) (C : Content → Type 0)
-    (P : A → Content → Type 0) (Q : B → Content → Type 0) → ReadsPart s t (Err why) C P
-    → ReadsPart s t (Err why) C Q
-part-ends s t part_fault.Crowded C P Q reads = reads
-part-ends s t (part_fault.Report why) C P Q reads = reads
+pub part-ends : {A B : Type 0} (s t : Store) (why : PartFault) (C L : Content → Type 0)
+    (P : A → Content → Type 0) (Q : B → Content → Type 0)
+    → AsksForPart {A = A} s t (Err why) C (λ R. ⊥) P → AsksForPart {A = B} s t (Err why) C L Q
+part-ends s t part_fault.Crowded C L P Q reads = reads
+part-ends s t (part_fault.Report why) C L P Q reads = (
+  reads.0,
+  reads-as s t (Err why) (λ R. why ≡ fault.NoText → ⊥) (λ R. why ≡ fault.NoText → L R)
+      (λ R p e. absurd (p e)) reads.1,
+)
 
 -- a reading, and then one that isn't crowded
 pub part-then : {A : Type 0} (s t u : Store) (result : Result A PartFault) (P : Content → Type 0)
-    (C : Content → Type 0) (Q To : A → Content → Type 0)
-    → ((a : A) (R : Content) → P R → Q a R → To a R) → ReadsFor s t (Ok tt) P
-    → ReadsPart t u result (λ R. ⊥) Q → ReadsPart s u result C To
-part-then s t u (Ok a) P C Q To both reads more =
+    (C L M : Content → Type 0) (Q To : A → Content → Type 0)
+    → ((a : A) (R : Content) → P R → Q a R → To a R) → ((R : Content) → P R → L R → M R)
+    → ReadsFor s t (Ok tt) P → AsksForPart t u result (λ R. ⊥) L Q → AsksForPart s u result C M To
+part-then s t u (Ok a) P C L M Q To both lacks reads more =
     reads-then s t u (Ok tt) P (Q a) (To a) (both a) reads more
-part-then s t u (Err part_fault.Crowded) P C Q To both reads more =
+part-then s t u (Err part_fault.Crowded) P C L M Q To both lacks reads more =
     reads-then s t u (Ok tt) P (λ R. ⊥) C (λ R p q. absurd q) reads more
-part-then s t u (Err (part_fault.Report why)) P C Q To both reads more = (
+part-then s t u (Err (part_fault.Report why)) P C L M Q To both lacks reads more = (
   more.0,
-  reads-then s t u (Err why) P (λ R. Unit {0}) (λ R. Unit {0}) (λ R p q. tt) reads more.1,
+  reads-then s t u (Err why) P (λ R. why ≡ fault.NoText → L R) (λ R. why ≡ fault.NoText → M R)
+      (λ R p q e. lacks R p (q e)) reads more.1,
 )
 
 -- the store met a fault
-pub part-fails : {A : Type 0} (s t u : Store) (why : StoreFault) (C : Content → Type 0)
+pub part-fails : {A : Type 0} (s t u : Store) (why : StoreFault) (C L : Content → Type 0)
     (P : A → Content → Type 0) → Stays s t → Fails t u why
-    → ReadsPart s u (Err (part_fault.Report (fault.Store why))) C P
-part-fails s t u why C P stays fails = (λ e. absurd cc, (walk-fails s t u why stays fails).1)
+    → AsksForPart s u (Err (part_fault.Report (fault.Store why))) C L P
+part-fails s t u why C L P stays fails = (
+  λ e. absurd cc,
+  reads-as s u (Err (fault.Store why)) (λ R. Unit {0}) (λ R. fault.Store why ≡ fault.NoText → L R)
+      (λ R p e. absurd cc) (walk-fails s t u why stays fails).1,
+)
 
 -- memory was wanting behind a reading
-pub part-starves : {A : Type 0} (s t : Store) (C P : Content → Type 0)
+pub part-starves : {A : Type 0} (s t : Store) (C L P : Content → Type 0)
     (Q : A → Content → Type 0) → ReadsFor s t (Ok tt) P
-    → ReadsPart s t (Err (part_fault.Report fault.OutOfMemory)) C Q
-part-starves s t C P Q (used, reads) = (
+    → AsksForPart s t (Err (part_fault.Report fault.OutOfMemory)) C L Q
+part-starves s t C L P Q (used, reads) = (
   λ e. absurd cc,
   (
     used,
     moves-as s t used (λ marks R S. (S ≡ R) × ((faults_of used ≡ []) × P R))
-        (λ marks R S. (S ≡ R)
-        × ((faults_of used ≡ report_faults (Err fault.OutOfMemory)) × Unit {0}))
-        (λ ms R S p. (p.0, (p.1.0, tt))) reads,
+        (λ marks R S. (S ≡ R) × ((faults_of used ≡ report_faults (Err fault.OutOfMemory))
+        × (fault.OutOfMemory ≡ fault.NoText → L R)))
+        (λ ms R S p. (p.0, (p.1.0, (λ e. absurd cc)))) reads,
   ),
 )
 
 -- a report ended by this
-pub part-stops : {A : Type 0} (s t : Store) (why : ReportFault) (C P : Content → Type 0)
-    (Q : A → Content → Type 0) → ReadsFor s t (Err why) P
-    → ReadsPart s t (Err (part_fault_told why)) C Q
-part-stops s t fault.Write C P Q reads = part-starves s t C P Q reads
-part-stops s t fault.OutOfMemory C P Q reads = part-starves s t C P Q reads
-part-stops s t fault.NoText C P Q reads =
-    (λ e. absurd cc, reads-as s t (Err fault.NoText) P (λ R. Unit {0}) (λ R p. tt) reads)
-part-stops s t (fault.Store why) C P Q reads =
-    (λ e. absurd cc, reads-as s t (Err (fault.Store why)) P (λ R. Unit {0}) (λ R p. tt) reads)
+pub part-stops : {A : Type 0} (s t : Store) (why : ReportFault) (C L P : Content → Type 0)
+    (Q : A → Content → Type 0) → ((R : Content) → P R → why ≡ fault.NoText → L R)
+    → ReadsFor s t (Err why) P → AsksForPart s t (Err (part_fault_told why)) C L Q
+part-stops s t fault.Write C L P Q lacks reads = part-starves s t C L P Q reads
+part-stops s t fault.OutOfMemory C L P Q lacks reads = part-starves s t C L P Q reads
+part-stops s t fault.NoText C L P Q lacks reads = (
+  λ e. absurd cc,
+  reads-as s t (Err fault.NoText) P (λ R. fault.NoText ≡ fault.NoText → L R) lacks reads,
+)
+part-stops s t (fault.Store why) C L P Q lacks reads = (
+  λ e. absurd cc,
+  reads-as s t (Err (fault.Store why)) P (λ R. fault.Store why ≡ fault.NoText → L R) lacks reads,
+)
 
 -- ---- which rows are seen
 
@@ -180,8 +196,8 @@ never (Some first) (Some last) why e = go (int_eq first last) e
 pub ends-changes : (report : Report) (s t : Store) (result : Result (Option ℤ) PartFault)
     (first last : Option ℤ) → result ≡ end_between first last
     → ReadsFor s t (Ok tt) (λ R. EndsChanges (changes_asked R report) result)
-    → ReadsPart s t result (λ R. AreCrowded (changes_asked R report))
-    (λ end R. IsEnd (λ (e : Entry). e.time) (changes_asked R report) end)
+    → AsksForPart s t result (λ R. AreCrowded (changes_asked R report)) (λ R. ⊥)
+    (λ end R. IsPartEnd (map (λ (e : Entry). e.time) (changes_asked R report)) end)
 ends-changes report s t (Ok end) first last is reads = reads
 ends-changes report s t (Err part_fault.Crowded) first last is reads = reads
 ends-changes report s t (Err (part_fault.Report why)) first last is reads =
@@ -212,3 +228,52 @@ pub part-put : (report : Report) (end : Option ℤ) (old new : List ℕ) (R : Co
     → IsFirstPart R report (part_up_to report end)
     → IsPut old new (IsPrinted R (part_up_to report end)) → PutsPart report old new R
 part-put report end old new R first put = (part_up_to report end, first, put)
+
+-- the same by whether modifications are asked for
+abbrev Behind : Report → (header : List ℕ) → Content → (before after : Option (List ℕ))
+    → Result (Unit {0}) ReportFault → (changes : Bool) → Type 0
+Behind report header R before after result changes =
+    elim changes [
+      | true ↦ PrintsWhole (IsChangeLine report) (λ e. ShowsTextless e.value) header
+          (footer_of report) (changes_asked R report) before after result
+      | false ↦ PrintsWhole (IsValueLine report) (λ h. IsTextless h.value.value) header
+          (footer_of report) (values_asked R report) before after result
+    ]
+
+abbrev Textless : Content → Report → (changes : Bool) → Type 0
+Textless R report changes = (n : ℕ) × elim changes [
+  | true ↦ IsAt (λ e. ShowsTextless e.value) (changes_asked R report) n
+  | false ↦ IsAt (λ h. IsTextless h.value.value) (values_asked R report) n
+]
+
+-- the fault of a result, or another one
+abbrev fault_or : ReportFault → Result (Unit {0}) ReportFault → ReportFault
+fault_or other (Ok done) = other
+fault_or other (Err why) = why
+
+writes-text : fault.Write ≡ fault.NoText → ⊥
+writes-text e = absurd cc
+
+-- a report that ended at a value without a text shows such a one
+pub printed-textless : (R : Content) (report : Report) (before after : Option (List ℕ))
+    (why : ReportFault) → PrintsReport report R before after (Err why) → why ≡ fault.NoText
+    → HasTextless R report
+printed-textless R report before after why (inl (header, is, behind)) none =
+    go report.changes behind
+  where
+    short : {X : Type 0} (IsLine : X → List ℕ → Type 0) (HasNoText : X → Type 0)
+        (footer : List ℕ) (xs : List X)
+        → PrintsWhole IsLine HasNoText header footer xs before after (Err why)
+        → (n : ℕ) × IsAt HasNoText xs n
+    short IsLine HasNoText footer xs (inl (n, lines, are, part, textless)) =
+        (n, (textless none).1)
+    short IsLine HasNoText footer xs (inr (writes, whole)) = absurd (writes-text (sym writes ∙ none))
+
+    go : (changes : Bool) → Behind report header R before after (Err why) changes
+        → Textless R report changes
+    go true printed = short (IsChangeLine report) (λ e. ShowsTextless e.value) (footer_of report)
+        (changes_asked R report) printed
+    go false printed = short (IsValueLine report) (λ h. IsTextless h.value.value)
+        (footer_of report) (values_asked R report) printed
+printed-textless R report before after why (inr (other, is, not_text, none)) ends =
+    absurd (not_text (sym (ap (fault_or why) is) ∙ ends))

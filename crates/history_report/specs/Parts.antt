@@ -1,15 +1,16 @@
 -- One page of a history, which leads to the rest.
-use Rattle.std.specs.Prelude.{◌≡◌, ◌⊎◌, ℕ, ◌≤◌, ℤ, int_lt, true, false, List, length, slice_get, Option, Some, None, Result, Ok, Err, if◌then◌else◌}
+use Rattle.std.specs.Prelude.{◌≡◌, ℕ, ◌≤◌, ℤ, int_lt, true, false, List, map, length, slice_get, Option, Some, None, Result, Ok, Err, if◌then◌else◌}
 use Rattle.std.specs.Ordering.{int_eq}
 use Rattle.records.specs.Contents.{Content}
 use Rattle.records.specs.declared.shown.Entry.{Entry}
 use Rattle.archive.specs.Store.{Store}
+use Rattle.history_csv.specs.Rows.{IsTextless, ShowsTextless}
 use Rattle.history_report.specs.declared.fault.ReportFault.{ReportFault}
 use Rattle.history_report.specs.declared.fault.ReportFault.TheVariants as fault
 use Rattle.history_report.specs.declared.fault.PartFault.{PartFault}
 use Rattle.history_report.specs.declared.fault.PartFault.TheVariants as part_fault
 use Rattle.history_report.specs.declared.report.Report.{Report}
-use Rattle.history_report.specs.Reports.{OfWhole, ReadsFor, IsHeader, IsValueLine, IsChangeLine, footer_of, is_in_stretch, values_asked, changes_asked}
+use Rattle.history_report.specs.Reports.{OfWhole, IsAt, ReadsFor, IsHeader, IsValueLine, IsChangeLine, footer_of, values_asked, changes_asked}
 use Rattle.history_report.specs.Paging.{IsPut}
 
 -- ---- parts of a report
@@ -27,22 +28,26 @@ rest_from report time = record report { from = Some time }
 abbrev pub part_up_to : Report → Option ℤ → Report
 part_up_to report end = elim end [ None ↦ report | Some time ↦ part_before report time ]
 
--- how many rows a report has
-abbrev pub row_count : Content → Report → ℕ
-row_count R report =
-    if report.changes then length (changes_asked R report) else length (values_asked R report)
+-- the times of a report's rows
+abbrev pub row_times : Content → Report → List ℤ
+row_times R report =
+    if report.changes then map (λ e. e.time) (changes_asked R report)
+    else map (λ h. h.time) (values_asked R report)
 
--- a moment that a report asks for cuts it, so that before it stand 1 to 500 rows
-abbrev pub IsCut : Content → Report → ℤ → Type 0
-IsCut R report time =
-    (is_in_stretch report time ≡ true) × (1 ≤ row_count R (part_before report time))
-    × (row_count R (part_before report time) ≤ 500)
+-- the end of a first part of rows of these times: there is none where they are at most 500, and
+-- otherwise it is the time of the 501st, which is later than that of the first
+abbrev pub IsPartEnd : (times : List ℤ) → Option ℤ → Type 0
+IsPartEnd times end =
+    elim end [
+      | None ↦ length times ≤ 500
+      | Some time ↦ (slice_get times 500 ≡ Some time)
+          × (first : ℤ) × (slice_get times 0 ≡ Some first) × (int_lt first time ≡ true)
+    ]
 
--- the first part of a report: all of it, which has at most 500 rows, or what a cut leaves before it
+-- the first part of a report: all of it, or what it asks for before this end
 abbrev pub IsFirstPart : Content → Report → Report → Type 0
 IsFirstPart R report part =
-    ((part ≡ report) × (row_count R report ≤ 500))
-    ⊎ ((time : ℤ) × (part ≡ part_before report time) × IsCut R report time)
+    (end : Option ℤ) × IsPartEnd (row_times R report) end × (part ≡ part_up_to report end)
 
 -- the first and the 501st of these modifications are of one moment, and so are those between them
 abbrev pub AreCrowded : List Entry → Type 0
@@ -67,16 +72,28 @@ abbrev pub PutsPart : Report → (old new : List ℕ) → Content → Type 0
 PutsPart report old new R =
     (part : Report) × IsFirstPart R report part × IsPut old new (IsPrinted R part)
 
+-- a row of a report shows a value that has no text
+abbrev pub HasTextless : Content → Report → Type 0
+HasTextless R report = (n : ℕ) × elim report.changes [
+  | true ↦ IsAt (λ e. ShowsTextless e.value) (changes_asked R report) n
+  | false ↦ IsAt (λ h. IsTextless h.value.value) (values_asked R report) n
+]
+
+-- a row of the first part of a report does
+abbrev pub LacksText : Content → Report → Type 0
+LacksText R report = (part : Report) × IsFirstPart R report part × HasTextless R part
+
 -- an archive was asked, which stays as it is: this holds of what it held, or it was crowded so, or
--- its store met the fault that ended this, if that is one of the store's
-abbrev pub ReadsPart : {A : Type 0} → (old new : Store) → Result A PartFault
-    → (Crowds : Content → Type 0) → (Holds : A → Content → Type 0) → Type 0
-ReadsPart old new result Crowds Holds =
+-- a value of it lacked a text so, or its store met the fault that ended this, if that is one of the
+-- store's
+abbrev pub AsksForPart : {A : Type 0} → (old new : Store) → Result A PartFault
+    → (Crowds Lacks : Content → Type 0) → (Holds : A → Content → Type 0) → Type 0
+AsksForPart old new result Crowds Lacks Holds =
     elim result [
       | Ok a ↦ ReadsFor old new (Ok tt) (Holds a)
       | Err part_fault.Crowded ↦ ReadsFor old new (Ok tt) Crowds
       | Err (part_fault.Report why) ↦ (why ≡ fault.Write → ⊥)
-          × ReadsFor old new (Err why) (λ R. Unit {0})
+          × ReadsFor old new (Err why) (λ R. why ≡ fault.NoText → Lacks R)
     ]
 
 -- what ends a part, by what ended its report: a write into memory fails for want of memory
@@ -85,17 +102,6 @@ part_fault_told why =
     elim why [ fault.Write ↦ part_fault.Report fault.OutOfMemory | other ↦ part_fault.Report other ]
 
 -- ---- where a part ends
-
--- of these rows at most 500 stand before this end: there is none where they are no more, and
--- otherwise it is the time of the 501st, which is later than that of the first
-abbrev pub IsEnd : {X : Type 0} → (X → ℤ) → List X → Option ℤ → Type 0
-IsEnd {X} time_of rows end =
-    elim end [
-      | None ↦ length rows ≤ 500
-      | Some time ↦ (first : X) × (last : X) × (slice_get rows 0 ≡ Some first)
-          × (slice_get rows 500 ≡ Some last) × (time_of last ≡ time)
-          × (int_lt (time_of first) time ≡ true)
-    ]
 
 -- the end of a first part, by the times of the first row and of the 501st, where these are two
 abbrev pub end_between : Option ℤ → Option ℤ → Result (Option ℤ) PartFault

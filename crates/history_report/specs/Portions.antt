@@ -1,6 +1,7 @@
 -- A history that is made portion by portion.
-use Rattle.std.specs.Prelude.{◌≡◌, ℕ, Bool, true, false, List, [], ◌++◌, take, Result, Ok, Err, MatchResult}
-use Rattle.records.specs.Contents.{Content}
+use Rattle.std.specs.Prelude.{◌≡◌, ℕ, Bool, true, false, List, [], ◌∷◌, ◌++◌, take, Result, Ok, Err, MatchResult}
+use Rattle.stamp.specs.Numbers.{number_of}
+use Rattle.records.specs.Contents.{Content, IsClosed, IsWithin, vec}
 use Rattle.records.specs.declared.shown.Held.{Held}
 use Rattle.records.specs.declared.shown.Entry.{Entry}
 use Rattle.archive.specs.Store.{Store}
@@ -24,6 +25,10 @@ pub record Remainder : Type 0 where
   -- the pages that are still to come
   pub pages : Pages
 
+-- the same by its parts
+abbrev pub left_of : Report → Pages → Remainder
+left_of report pages = record { report = report; pages = pages }
+
 -- the live values that are still to come
 abbrev pub values_to_come : Remainder → Content → List Held
 values_to_come left = values_left left.report.node left.pages
@@ -32,11 +37,19 @@ values_to_come left = values_left left.report.node left.pages
 abbrev pub changes_to_come : Remainder → Content → List Entry
 changes_to_come left = changes_left left.report.node left.pages
 
--- all that a report asks for of a content is still to come
+-- the records that are shown are those of this content
+abbrev pub ShowsAll : Remainder → Content → Type 0
+ShowsAll left R = (replica : ℕ) → number_of left.pages.within replica ≡ vec R replica
+
+-- all that a report asks for of a content is still to come, of the records that it has
 abbrev pub IsWhole : Report → Remainder → Content → Type 0
 IsWhole report left R =
     (left.report ≡ report) × (values_to_come left R ≡ values_asked R report)
-    × (changes_to_come left R ≡ changes_asked R report)
+    × (changes_to_come left R ≡ changes_asked R report) × ShowsAll left R
+
+-- the same report is still to be made, of the same records
+abbrev pub IsOfSame : (was now : Remainder) → Type 0
+IsOfSame was now = (now.report ≡ was.report) × (now.pages.within ≡ was.pages.within)
 
 -- of what an archive held, all that a report asks for is still to come; or the store met the fault
 -- that ended this, if that is one of the store's. The archive stays as it is
@@ -121,3 +134,19 @@ abbrev pub TakesPortion : (was now : Remainder) → (before after : Store) → (
     → Result Bool ReportFault → Type 0
 TakesPortion was now before after old new result =
     ReadsFor before after (ending result) (λ R. IsPortion was now R old new result)
+
+-- ---- all portions
+
+-- an archive that held the one content may hold the other one later: it has each of its records
+abbrev pub MayFollow : (R S : Content) → Type 0
+MayFollow R S = IsClosed S × IsWithin R S
+
+-- These are all portions of what is left of a content, one behind the other: each was made of what
+-- an archive held then, and more is to come behind each but the last.
+abbrev pub ArePortions : Content → Remainder → List (List ℕ) → Type 0
+ArePortions R left [] = ⊥
+ArePortions R left (last ∷ []) =
+    (S : Content) × MayFollow R S × (now : Remainder) × IsPortion left now S [] last (Ok false)
+ArePortions R left (portion ∷ portions) =
+    (S : Content) × MayFollow R S × (now : Remainder) × IsPortion left now S [] portion (Ok true)
+    × IsOfSame left now × ArePortions R now portions

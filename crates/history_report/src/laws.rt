@@ -1,12 +1,13 @@
 //! What holds of all pages: a law is the contract of a function that does nothing.
 
-ghost use Rattle.std.specs.Prelude.{◌≡◌, ◌∷◌, ◌++◌, [], ℕ, ℤ, List, true, false};
-ghost use Rattle.std.specs.List.{list_any};
+ghost use Rattle.std.specs.Prelude.{◌≡◌, ◌≤◌, ◌∷◌, ◌++◌, [], ℕ, ℤ, int_lt, List, filter, take, length, Some, true, false};
+ghost use Rattle.std.specs.List.{concat, list_any};
 ghost use Rattle.history_report.specs.Html.{escaped, is_markup, IsPath, has_forbidden, printable_after, said, page_row, texts_in};
-ghost use Rattle.records.specs.Contents.{Content};
+ghost use Rattle.records.specs.Contents.{Content, IsClosed};
 ghost use Rattle.history_report.specs.declared.report.Report.{Report};
-ghost use Rattle.history_report.specs.Reports.{is_in_stretch, values_asked, changes_asked};
-ghost use Rattle.history_report.specs.Parts.{part_before, rest_from};
+ghost use Rattle.history_report.specs.Reports.{IsHeader, is_in_stretch, values_asked, changes_asked};
+ghost use Rattle.history_report.specs.Parts.{IsPartEnd, IsPrinted, part_before, rest_from, row_times};
+ghost use Rattle.history_report.specs.Portions.{ArePortions, IsWhole, Remainder};
 
 /// No text in a page has a byte that begins or ends a tag, or an attribute's value, and neither has
 /// a drawing's path.
@@ -47,4 +48,31 @@ pub fn a_part_and_the_rest_are_the_whole()
     ensures changes { (R : Content) (report : Report) (time : ℤ) → is_in_stretch report time ≡ true
         → changes_asked R (part_before report time) ++ changes_asked R (rest_from report time)
         ≡ changes_asked R report }
+{}
+
+/// Before the end of a first part stand 1 to 500 rows: of live values the first 500, and of
+/// modifications those of the first 500 that are before it. The end is a moment that is asked for.
+#[tactic(auto, using(crate::proofs::PartLemmas::end_counts, crate::proofs::PartLemmas::first_values, crate::proofs::PartLemmas::first_changes))]
+pub fn a_first_part_has_the_first_rows()
+    ensures asked { (R : Content) (report : Report) (time : ℤ)
+        → IsPartEnd (row_times R report) (Some time) → is_in_stretch report time ≡ true }
+    ensures counts { (R : Content) (report : Report) (time : ℤ)
+        → IsPartEnd (row_times R report) (Some time)
+        → (1 ≤ length (row_times R (part_before report time)))
+        × (length (row_times R (part_before report time)) ≤ 500) }
+    ensures values { (R : Content) (report : Report) (time : ℤ) → report.changes ≡ false
+        → IsPartEnd (row_times R report) (Some time)
+        → values_asked R (part_before report time) ≡ take 500 (values_asked R report) }
+    ensures changes { (R : Content) (report : Report) (time : ℤ) → report.changes ≡ true
+        → IsPartEnd (row_times R report) (Some time)
+        → changes_asked R (part_before report time)
+        ≡ filter (λ e. int_lt e.time time) (take 500 (changes_asked R report)) }
+{}
+
+/// The header of a report and all its portions, one behind the other, are the whole report of what
+/// an archive held when it was begun, whatever the archive learned in between.
+pub fn all_portions_are_the_whole()
+    ensures { (report : Report) (R : Content) (left : Remainder) (header : List ℕ)
+        (portions : List (List ℕ)) → IsClosed R → IsHeader report header → IsWhole report left R
+        → ArePortions R left portions → IsPrinted R report (header ++ concat portions) }
 {}

@@ -22,8 +22,8 @@ mod trend;
 
 pub use fault::{PartFault, ReportFault};
 pub use laws::{
-    a_pages_text_holds_no_markup, a_pages_text_is_read_again, a_part_and_the_rest_are_the_whole,
-    a_rows_texts_are_its_fields,
+    a_first_part_has_the_first_rows, a_pages_text_holds_no_markup, a_pages_text_is_read_again,
+    a_part_and_the_rest_are_the_whole, a_rows_texts_are_its_fields, all_portions_are_the_whole,
 };
 pub use parts::put_part;
 pub use portions::Portions;

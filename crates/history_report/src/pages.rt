@@ -94,6 +94,7 @@ pub(crate) fn next_changes<A: Archive>(
         (λ page. GivesPage (A.state archive.old) (A.state archive.new) page.items
         (changes_left report.now.node pages.new) (changes_left report.now.node pages.old))
         (λ why. Fails (A.state archive.old) (A.state archive.new) why) }
+    ensures same { pages.new.within ≡ pages.old.within }
     ensures asked { IsAskedWithin 100 (A.asked archive.old) (A.asked archive.new) }
 {
     let Span { from, to } = pages.span;

@@ -1,11 +1,11 @@
 //! One page of a history, which leads to the rest by a link.
 
-ghost use Rattle.std.specs.Prelude.{◌≡◌, true, slice_get, OnErr, MatchResult};
+ghost use Rattle.std.specs.Prelude.{◌≡◌, true, map, slice_get, OnErr, MatchResult};
 ghost use Rattle.std.specs.Option.{option_map};
 ghost use Rattle.archive.specs.Store.{IsAskedWithin};
 ghost use Rattle.history_report.specs.Reports.{values_asked, changes_asked};
 ghost use Rattle.history_report.specs.Paging.{IsPut};
-ghost use Rattle.history_report.specs.Parts.{part_up_to, end_between, part_fault_told, IsFirstPart, AreCrowded, IsPrinted, PutsPart, ReadsPart, IsEnd};
+ghost use Rattle.history_report.specs.Parts.{part_up_to, end_between, part_fault_told, HasTextless, IsFirstPart, LacksText, AreCrowded, IsPrinted, PutsPart, AsksForPart, IsPartEnd};
 
 use crate::fault::{PartFault, ReportFault};
 use crate::printing::print_report;
@@ -65,8 +65,8 @@ fn end_of_values<A: Archive>(
     archive: &mut A,
     report: &Report,
 ) -> Result<Option<Moment>, PartFault>
-    ensures reads { ReadsPart (A.state archive.old) (A.state archive.new) result (λ R. ⊥)
-        (λ end R. IsEnd (λ h. h.time) (values_asked R report.now) end) }
+    ensures reads { AsksForPart (A.state archive.old) (A.state archive.new) result (λ R. ⊥) (λ R. ⊥)
+        (λ end R. IsPartEnd (map (λ h. h.time) (values_asked R report.now)) end) }
     ensures asked { IsAskedWithin 501 (A.asked archive.old) (A.asked archive.new) }
 {
     let within = match archive.vector() {
@@ -87,9 +87,9 @@ fn end_of_changes<A: Archive>(
     archive: &mut A,
     report: &Report,
 ) -> Result<Option<Moment>, PartFault>
-    ensures reads { ReadsPart (A.state archive.old) (A.state archive.new) result
-        (λ R. AreCrowded (changes_asked R report.now))
-        (λ end R. IsEnd (λ e. e.time) (changes_asked R report.now) end) }
+    ensures reads { AsksForPart (A.state archive.old) (A.state archive.new) result
+        (λ R. AreCrowded (changes_asked R report.now)) (λ R. ⊥)
+        (λ end R. IsPartEnd (map (λ e. e.time) (changes_asked R report.now)) end) }
     ensures asked { IsAskedWithin 501 (A.asked archive.old) (A.asked archive.new) }
 {
     let within = match archive.vector() {
@@ -112,8 +112,8 @@ fn end_of<A: Archive>(
     archive: &mut A,
     report: &Report,
 ) -> Result<Option<Moment>, PartFault>
-    ensures reads { ReadsPart (A.state archive.old) (A.state archive.new) result
-        (λ R. (report.now.changes ≡ true) × AreCrowded (changes_asked R report.now))
+    ensures reads { AsksForPart (A.state archive.old) (A.state archive.new) result
+        (λ R. (report.now.changes ≡ true) × AreCrowded (changes_asked R report.now)) (λ R. ⊥)
         (λ end R. IsFirstPart R report.now (part_up_to report.now end)) }
     ensures asked { IsAskedWithin 501 (A.asked archive.old) (A.asked archive.new) }
 {
@@ -156,7 +156,8 @@ fn append_report<A: Archive>(
     report: &Report,
     out: &mut Vec<u8>,
 ) -> Result<(), PartFault>
-    ensures reads { ReadsPart (A.state archive.old) (A.state archive.new) result (λ R. ⊥)
+    ensures reads { AsksForPart (A.state archive.old) (A.state archive.new) result (λ R. ⊥)
+        (λ R. HasTextless R report.now)
         (λ done R. IsPut out.old.items out.new.items (IsPrinted R report.now)) }
     ensures kept { OnErr result (out.new.items ≡ out.old.items) }
     ensures asked { IsAskedWithin 100 (A.asked archive.old) (A.asked archive.new) }
@@ -175,20 +176,21 @@ fn append_report<A: Archive>(
 
 /// Appends the first part of a node's history, of at most 500 values or modifications, as
 /// `print_report` prints it, its header and its footer too. Where it isn't all of the history, it
-/// ends before a moment, and a page leads by a link to the history from that moment on. The archive
-/// stays as it is. At most 501 values are in memory at a time, and the text.
+/// ends before the time of the 501st, and a page leads by a link to the history from that moment on.
+/// The archive stays as it is. At most 501 values are in memory at a time, and the text.
 ///
-/// Errors, after which nothing is appended: `Report` where the report met this fault, but never
-/// `Write`: a want of memory is `OutOfMemory`; `Crowded` where the first 501 modifications are of
-/// one moment.
+/// Errors, after which nothing is appended: `Report` where the report of that part met this fault, so
+/// `NoText` where a value that the part shows has no text, but never `Write`: a want of memory is
+/// `OutOfMemory`; `Crowded` where the first 501 modifications are of one moment.
 pub fn put_part<A: Archive>(
     alloc: Global,
     archive: &mut A,
     report: Report,
     out: &mut Vec<u8>,
 ) -> Result<(), PartFault>
-    ensures reads { ReadsPart (A.state archive.old) (A.state archive.new) result
+    ensures reads { AsksForPart (A.state archive.old) (A.state archive.new) result
         (λ R. (report.changes ≡ true) × AreCrowded (changes_asked R report))
+        (λ R. LacksText R report)
         (λ done R. PutsPart report out.old.items out.new.items R) }
     ensures kept { OnErr result (out.new.items ≡ out.old.items) }
     ensures asked { IsAskedWithin 501 (A.asked archive.old) (A.asked archive.new) }

@@ -4,15 +4,15 @@ ghost use Rattle.std.specs.Prelude.{◌≡◌, ◌++◌, true, false, Ok, Err, I
 ghost use Rattle.archive.specs.Store.{IsAskedWithin};
 ghost use Rattle.history_report.specs.Reports.{IsHeader, ReadsFor, footer_of};
 ghost use Rattle.history_report.specs.Paging.{IsPut, values_left, changes_left, fault_told};
-ghost use Rattle.history_report.specs.Portions.{PutsRows, PutsValues, PutsChanges, ending, kept_behind};
+ghost use Rattle.history_report.specs.Portions.{PutsRows, PutsValues, PutsChanges, TakesPortion, ending, kept_behind, left_of};
 
 use crate::fault::ReportFault;
 use crate::lines::{footer, put_header};
 use crate::pages::{Pages, next_changes, next_values};
 use crate::report::Report;
 use crate::rows::Row;
-use crate::span::span_of;
-use archive::Archive;
+use crate::span::{Span, span_of};
+use archive::{Archive, LogPlace};
 use history_text::TextFault;
 use std::alloc::Global;
 use std::marker::Model;
@@ -108,6 +108,7 @@ fn append_values<A: Archive>(
     ensures takes { ReadsFor (A.state archive.old) (A.state archive.new) (ending result)
         (λ R. PutsValues report.now (values_left report.now.node pages.old R)
         (values_left report.now.node pages.new R) out.old.items out.new.items result) }
+    ensures same { pages.new.within ≡ pages.old.within }
     ensures asked { IsAskedWithin 100 (A.asked archive.old) (A.asked archive.new) }
     ensures own { IsErrOf result ReportFault.Write → ⊥ }
 {
@@ -136,6 +137,7 @@ fn append_changes<A: Archive>(
     ensures takes { ReadsFor (A.state archive.old) (A.state archive.new) (ending result)
         (λ R. PutsChanges report.now (changes_left report.now.node pages.old R)
         (changes_left report.now.node pages.new R) out.old.items out.new.items result) }
+    ensures same { pages.new.within ≡ pages.old.within }
     ensures asked { IsAskedWithin 100 (A.asked archive.old) (A.asked archive.new) }
     ensures own { IsErrOf result ReportFault.Write → ⊥ }
 {
@@ -153,8 +155,37 @@ fn append_changes<A: Archive>(
     }
 }
 
+/// Appends the next page of what a report asks for; false: none was left, and the footer was appended.
+fn append_page<A: Archive>(
+    alloc: Global,
+    archive: &mut A,
+    report: &Report,
+    pages: &mut Pages,
+    out: &mut Vec<u8>,
+) -> Result<bool, ReportFault>
+    ensures takes { TakesPortion (left_of report.now pages.old) (left_of report.now pages.new)
+        (A.state archive.old) (A.state archive.new) out.old.items out.new.items result }
+    ensures same { pages.new.within ≡ pages.old.within }
+    ensures asked { IsAskedWithin 100 (A.asked archive.old) (A.asked archive.new) }
+    ensures own { IsErrOf result ReportFault.Write → ⊥ }
+{
+    if report.changes {
+        append_changes(alloc, archive, report, pages, out)
+    } else {
+        append_values(alloc, archive, report, pages, out)
+    }
+}
+
+/// What is still to come is so again.
+fn go_back(pages: &mut Pages, span: Span, after: Option<LogPlace>)
+    ensures { pages.new ≡ record pages.old { span = span; after = after } }
+{
+    pages.span = span;
+    pages.after = after;
+}
+
 impl Portions {
-    ghost use Rattle.history_report.specs.Portions.{Begins, TakesPortion};
+    ghost use Rattle.history_report.specs.Portions.{Begins, IsOfSame};
 
     /// Begins: appends the header, a page's without a drawing. The records that the archive holds
     /// now are those that the history is of.
@@ -194,8 +225,7 @@ impl Portions {
     ///
     /// Errors: `Store` where the archive met a fault of its store, `OutOfMemory` where memory was
     /// wanting; then nothing is appended. `NoText` where a value has no text: then the lines before
-    /// it are appended. After any of them the history has no end, and nothing more is to be made
-    /// of it.
+    /// it are appended. After any of them as much is still to come as before.
     pub fn next<A: Archive>(
         &mut self,
         alloc: Global,
@@ -204,14 +234,18 @@ impl Portions {
     ) -> Result<bool, ReportFault>
         ensures takes { TakesPortion self.old self.new (A.state archive.old) (A.state archive.new)
             out.old.items out.new.items result }
-        ensures same { self.new.report ≡ self.old.report }
+        ensures same { IsOfSame self.old self.new }
+        ensures kept { OnErr result (self.new ≡ self.old) }
         ensures asked { IsAskedWithin 100 (A.asked archive.old) (A.asked archive.new) }
         ensures own { IsErrOf result ReportFault.Write → ⊥ }
     {
-        if self.report.changes {
-            append_changes(alloc, archive, &self.report, &mut self.pages, out)
-        } else {
-            append_values(alloc, archive, &self.report, &mut self.pages, out)
+        let (span, after) = (self.pages.span, self.pages.after);
+        match append_page(alloc, archive, &self.report, &mut self.pages, out) {
+            Ok(more) => Ok(more),
+            Err(fault) => {
+                go_back(&mut self.pages, span, after);
+                Err(fault)
+            }
         }
     }
 }

@@ -26,3 +26,6 @@ returns-clause-pages g c =
     (c.go_behind.ensures
     ∙ ap (λ (l : List Entry). let new : Pages =
     record old { after = place_behind old.after l } in new) c.as_slice.ensures.value)
+
+pub returns-clause-same : goal.returns-clause-same
+returns-clause-same g c = ap (λ (p : Pages). p.within) c.go_behind.ensures

@@ -3,8 +3,8 @@ use Rattle.counted_io.specs.Tally.{Tally}
 use Rattle.history_report.specs.declared.fault.PartFault.{PartFault}
 use Rattle.history_report.specs.Reports.{PrintsReport}
 use Rattle.history_report.specs.Paging.{IsPut}
-use Rattle.history_report.specs.Parts.{IsPrinted, ReadsPart}
-use Rattle.history_report.proofs.ReadingLemmas.{part-starves, part-stops, printed-put, reads-as}
+use Rattle.history_report.specs.Parts.{AsksForPart, HasTextless, IsPrinted}
+use Rattle.history_report.proofs.ReadingLemmas.{part-starves, part-stops, printed-put, printed-textless, reads-as}
 use Rattle.history_report.proofs.parts.append_report.Goals as goal
 
 pub returns-in-Err-clause-reads : goal.returns-in-Err-clause-reads
@@ -13,12 +13,15 @@ returns-in-Err-clause-reads g c =
     let u = g.A.Archive.state c.print_report.new.archive in
     let report = c.args.report.now in
     let old = c.args.out.now.items in
-    subst (λ (w : PartFault). ReadsPart t u (Err w) (λ R. ⊥)
+    let before = Some c.new-output.result.inner.items in
+    let after = Some c.print_report.new.output.inner.items in
+    subst (λ (w : PartFault). AsksForPart t u (Err w) (λ R. ⊥) (λ R. HasTextless R report)
     (λ (done : Unit {0}) R. IsPut old old (IsPrinted R report))) (sym c.fault_of.ensures)
-    (part-stops t u c.in-Err.fault (λ R. ⊥)
-    (λ R. PrintsReport report R (Some c.new-output.result.inner.items)
-    (Some c.print_report.new.output.inner.items) (Err c.in-Err.fault))
-    (λ (done : Unit {0}) R. IsPut old old (IsPrinted R report)) c.in-Err.ensures.prints)
+    (part-stops t u c.in-Err.fault (λ R. ⊥) (λ R. HasTextless R report)
+    (λ R. PrintsReport report R before after (Err c.in-Err.fault))
+    (λ (done : Unit {0}) R. IsPut old old (IsPrinted R report))
+    (λ R printed. printed-textless R report before after c.in-Err.fault printed)
+    c.in-Err.ensures.prints)
 
 pub returns-in-Ok-extend_from_slice-clause-reads
     : goal.returns-in-Ok-extend_from_slice-clause-reads
@@ -41,7 +44,7 @@ pub returns-clause-reads : goal.returns-clause-reads
 returns-clause-reads g c =
     let report = c.args.report.now in
     part-starves (g.A.Archive.state c.args.archive.now)
-    (g.A.Archive.state c.print_report.new.archive) (λ R. ⊥)
+    (g.A.Archive.state c.print_report.new.archive) (λ R. ⊥) (λ R. HasTextless R report)
     (λ R. PrintsReport report R (Some c.new-output.result.inner.items)
     (Some c.print_report.new.output.inner.items) (Ok tt))
     (λ (done : Unit {0}) R. IsPut c.args.out.now.items c.extend_from_slice.new.self.items

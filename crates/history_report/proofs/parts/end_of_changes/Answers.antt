@@ -1,4 +1,4 @@
-use Rattle.std.proofs.Common.{◌≡◌, ℕ, ℤ, List, None, Ok, Option, take, slice_get, refl, ap, ◌∙◌}
+use Rattle.std.proofs.Common.{◌≡◌, ℕ, ℤ, List, None, Ok, Option, map, take, slice_get, refl, ap, ◌∙◌}
 use Rattle.std.specs.Option.{option_map}
 use Rattle.stamp.specs.Numbers.{number_of}
 use Rattle.records.specs.Contents.{Content, vec}
@@ -6,7 +6,7 @@ use Rattle.records.specs.declared.shown.Entry.{Entry}
 use Rattle.history_report.specs.declared.pages.Pages.{Pages}
 use Rattle.history_report.specs.Reports.{changes_asked}
 use Rattle.history_report.specs.Paging.{changes_left}
-use Rattle.history_report.specs.Parts.{AreCrowded, IsEnd, end_between}
+use Rattle.history_report.specs.Parts.{AreCrowded, IsPartEnd, end_between}
 use Rattle.history_report.proofs.PageLemmas.{answered, unanswered}
 use Rattle.history_report.proofs.PartLemmas.{EndsChanges, changes-end}
 use Rattle.history_report.proofs.PortionLemmas.{shown-stays}
@@ -19,8 +19,8 @@ returns-in-Err-clause-reads g c =
     let state = g.A.Archive.state in
     let t = state c.args.archive.now in
     part-fails t t (state c.vector.new.self) c.in-Err.fault
-    (λ R. AreCrowded (changes_asked R c.args.report.now))
-    (λ (end : Option ℤ) R. IsEnd (λ (e : Entry). e.time) (changes_asked R c.args.report.now) end)
+    (λ R. AreCrowded (changes_asked R c.args.report.now)) (λ R. ⊥)
+    (λ (end : Option ℤ) R. IsPartEnd (map (λ (e : Entry). e.time) (changes_asked R c.args.report.now)) end)
     (stays-none t)
     (unanswered t (state c.vector.new.self) c.in-Err.fault
     (λ (v : List ℕ). (o : ℕ) → number_of v o ≡ vec t.content o) c.in-Err.ensures.asks)
@@ -34,8 +34,8 @@ returns-in-Err-log-clause-reads g c =
     let report = c.args.report.now in
     let pages : Pages =
     record { within = c.in-Ok.within; span = c.span_of-from.result; after = None } in
-    part-fails t u w c.in-Err-log.fault (λ R. AreCrowded (changes_asked R report))
-    (λ (end : Option ℤ) R. IsEnd (λ (e : Entry). e.time) (changes_asked R report) end)
+    part-fails t u w c.in-Err-log.fault (λ R. AreCrowded (changes_asked R report)) (λ R. ⊥)
+    (λ (end : Option ℤ) R. IsPartEnd (map (λ (e : Entry). e.time) (changes_asked R report)) end)
     (shown-stays t u c.in-Ok.within
     (answered t u (λ (C : Content) (v : List ℕ). (o : ℕ) → number_of v o ≡ vec C o) c.in-Ok.within
     c.in-Ok.ensures.asks))

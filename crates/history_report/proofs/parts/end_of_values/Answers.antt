@@ -1,4 +1,4 @@
-use Rattle.std.proofs.Common.{◌≡◌, ℕ, ℤ, List, None, Ok, Option, take, slice_get, ap, ◌∙◌}
+use Rattle.std.proofs.Common.{◌≡◌, ℕ, ℤ, List, None, Ok, Option, map, take, slice_get, ap, ◌∙◌}
 use Rattle.std.specs.Option.{option_map}
 use Rattle.stamp.specs.Numbers.{number_of}
 use Rattle.records.specs.Contents.{Content, vec}
@@ -6,7 +6,7 @@ use Rattle.records.specs.declared.shown.Held.{Held}
 use Rattle.history_report.specs.declared.pages.Pages.{Pages}
 use Rattle.history_report.specs.Reports.{values_asked}
 use Rattle.history_report.specs.Paging.{values_left}
-use Rattle.history_report.specs.Parts.{IsEnd}
+use Rattle.history_report.specs.Parts.{IsPartEnd}
 use Rattle.history_report.proofs.PageLemmas.{answered, unanswered}
 use Rattle.history_report.proofs.PartLemmas.{values-end}
 use Rattle.history_report.proofs.PortionLemmas.{shown-stays}
@@ -18,8 +18,8 @@ pub returns-in-Err-clause-reads : goal.returns-in-Err-clause-reads
 returns-in-Err-clause-reads g c =
     let state = g.A.Archive.state in
     let t = state c.args.archive.now in
-    part-fails t t (state c.vector.new.self) c.in-Err.fault (λ R. ⊥)
-    (λ (end : Option ℤ) R. IsEnd (λ (h : Held). h.time) (values_asked R c.args.report.now) end)
+    part-fails t t (state c.vector.new.self) c.in-Err.fault (λ R. ⊥) (λ R. ⊥)
+    (λ (end : Option ℤ) R. IsPartEnd (map (λ (h : Held). h.time) (values_asked R c.args.report.now)) end)
     (stays-none t)
     (unanswered t (state c.vector.new.self) c.in-Err.fault
     (λ (v : List ℕ). (o : ℕ) → number_of v o ≡ vec t.content o) c.in-Err.ensures.asks)
@@ -36,7 +36,7 @@ returns-in-Ok-range-clause-reads g c =
     let page = c.in-Ok-range.page.items in
     let end = c.value_time.result in
     reads-as t w (Ok tt) (λ R. page ≡ take 501 (values_asked R report))
-    (λ R. IsEnd (λ (h : Held). h.time) (values_asked R report) end)
+    (λ R. IsPartEnd (map (λ (h : Held). h.time) (values_asked R report)) end)
     (λ R is. values-end R report page end is (c.value_time.ensures
     ∙ ap (λ (l : List Held). option_map (λ (h : Held). h.time) (slice_get l 500))
     c.as_slice.ensures.value))
@@ -55,8 +55,8 @@ returns-in-Err-range-clause-reads g c =
     let report = c.args.report.now in
     let pages : Pages =
     record { within = c.in-Ok.within; span = c.span_of-from.result; after = None } in
-    part-fails t u w c.in-Err-range.fault (λ R. ⊥)
-    (λ (end : Option ℤ) R. IsEnd (λ (h : Held). h.time) (values_asked R report) end)
+    part-fails t u w c.in-Err-range.fault (λ R. ⊥) (λ R. ⊥)
+    (λ (end : Option ℤ) R. IsPartEnd (map (λ (h : Held). h.time) (values_asked R report)) end)
     (shown-stays t u c.in-Ok.within
     (answered t u (λ (C : Content) (v : List ℕ). (o : ℕ) → number_of v o ≡ vec C o) c.in-Ok.within
     c.in-Ok.ensures.asks))
