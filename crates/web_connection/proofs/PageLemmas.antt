@@ -10,12 +10,13 @@ use Rattle.archive.specs.declared.fault.StoreFault.{StoreFault}
 use Rattle.history_report.specs.declared.fault.PartFault.{PartFault}
 use Rattle.history_report.specs.declared.fault.PartFault.TheVariants as part
 use Rattle.history_report.specs.declared.fault.ReportFault.{ReportFault}
+use Rattle.history_report.specs.declared.fault.ReportFault.TheVariants as fault
 use Rattle.history_report.specs.declared.report.Form.TheVariants as form
 use Rattle.history_report.specs.declared.report.Report.{Report}
 use Rattle.history_report.specs.Paging.{IsPut}
 use Rattle.history_report.specs.Reports.{IsHeader, changes_asked, report_faults}
-use Rattle.history_report.specs.Parts.{AreCrowded, IsFirstPart, PutsPart, ReadsPart}
-use Rattle.history_report.specs.Portions.{Begins, Remainder, IsPortion, IsWhole, ending}
+use Rattle.history_report.specs.Parts.{AreCrowded, AsksForPart, IsFirstPart, LacksText, PutsPart}
+use Rattle.history_report.specs.Portions.{Begins, Remainder, IsOfSame, IsPortion, IsWhole, ending}
 use Rattle.settings_check.specs.Stored.{IsVectorOf, Reads}
 use Rattle.web_page.specs.declared.fault.PageFault.{PageFault}
 use Rattle.web_page.specs.Front.{page_faults}
@@ -137,6 +138,19 @@ pub crowded-told : (R : Content) (question : Question) (report : Report)
 crowded-told R question report asked crowds =
     subst (λ (r : Report). (r.changes ≡ true) × AreCrowded (changes_asked R r)) asked crowds
 
+-- one of which a value has no text
+pub textless-told : (R : Content) (question : Question) (report : Report)
+    → report ≡ report_of question form.Page → LacksText R report
+    → LacksText R (report_of question form.Page)
+textless-told R question report asked lacks = subst (λ (r : Report). LacksText R r) asked lacks
+
+-- what was found where no part of a history was put
+abbrev pub PartFails : Report → (old new : List ℕ) → Store → Store → PartFault → Type 0
+PartFails report old new s t why =
+    AsksForPart {A = Unit {0}} s t (Err why)
+    (λ R. (report.changes ≡ true) × AreCrowded (changes_asked R report)) (λ R. LacksText R report)
+    (λ done R. PutsPart report old new R)
+
 -- ---- what was asked where nothing is made
 
 -- a front page was made, or not
@@ -156,12 +170,13 @@ begin-asks report s t (Err why) begins =
     only-asked s t (report_faults (Err why)) (λ R. Unit {0}) begins.1
 
 -- a part of a history was made, or not
-pub part-asks : (s t : Store) (result : Result (Unit {0}) PartFault) (Crowds : Content → Type 0)
-    (Holds : Unit {0} → Content → Type 0) → ReadsPart s t result Crowds Holds → OnlyAsks s t
-part-asks s t (Ok done) Crowds Holds reads = only-asked s t [] (Holds done) reads
-part-asks s t (Err part.Crowded) Crowds Holds reads = only-asked s t [] Crowds reads
-part-asks s t (Err (part.Report why)) Crowds Holds reads =
-    only-asked s t (report_faults (Err why)) (λ R. Unit {0}) reads.1
+pub part-asks : (s t : Store) (result : Result (Unit {0}) PartFault)
+    (Crowds Lacks : Content → Type 0) (Holds : Unit {0} → Content → Type 0)
+    → AsksForPart s t result Crowds Lacks Holds → OnlyAsks s t
+part-asks s t (Ok done) Crowds Lacks Holds reads = only-asked s t [] (Holds done) reads
+part-asks s t (Err part.Crowded) Crowds Lacks Holds reads = only-asked s t [] Crowds reads
+part-asks s t (Err (part.Report why)) Crowds Lacks Holds reads =
+    only-asked s t (report_faults (Err why)) (λ R. why ≡ fault.NoText → Lacks R) reads.1
 
 -- ---- a portion
 
@@ -169,15 +184,16 @@ part-asks s t (Err (part.Report why)) Crowds Holds reads =
 pub portion-told : (R : Content) (was : Sending) (now : Remainder)
     (result : Result Bool ReportFault)
     (empty portion sent text : List ℕ) (sending : Option Sending) → empty ≡ []
-    → sent ≡ portion → IsPortion was.portions now R empty portion result
+    → sent ≡ portion → IsOfSame was.portions now → IsPortion was.portions now R empty portion result
     → IsPortionText was.chunked sent result text → sending ≡ rest_of was.chunked now result
     → GoesOn R was (report_faults (ending result)) text sending
-portion-told R was now result empty portion sent text sending none same puts told rest = (
+portion-told R was now result empty portion sent text sending none same kept puts told rest = (
   portion,
   now,
   result,
   refl,
   subst (λ (e : List ℕ). IsPortion was.portions now R e portion result) none puts,
+  kept,
   subst (λ (p : List ℕ). IsPortionText was.chunked p result text) same told,
   rest,
 )

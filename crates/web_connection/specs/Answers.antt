@@ -15,8 +15,8 @@ use Rattle.history_report.specs.declared.report.Form.{Form}
 use Rattle.history_report.specs.declared.report.Form.TheVariants as form
 use Rattle.history_report.specs.declared.report.Report.{Report}
 use Rattle.history_report.specs.Reports.{IsHeader, report_faults, changes_asked}
-use Rattle.history_report.specs.Parts.{AreCrowded, IsFirstPart, IsPrinted}
-use Rattle.history_report.specs.Portions.{Remainder, IsWhole, IsPortion, ending}
+use Rattle.history_report.specs.Parts.{AreCrowded, IsFirstPart, IsPrinted, LacksText}
+use Rattle.history_report.specs.Portions.{Remainder, IsWhole, IsOfSame, IsPortion, ending}
 use Rattle.settings_check.specs.Stored.{Reads}
 use Rattle.web_page.specs.Front.{IsFront}
 use Rattle.web_request.specs.Refusals.{refusal_text}
@@ -113,13 +113,15 @@ abbrev pub IsHistoryPage : Content → Question → List ℕ → Type 0
 IsHistoryPage R question page =
     (part : Report) × IsFirstPart R (report_of question form.Page) part × IsPrinted R part page
 
--- such a page of a history is told, or that it is crowded, where it is, or that a value has no text
+-- such a page of a history is told; or that it is crowded, where it is; or that a value that it
+-- would show has no text, where one hasn't
 abbrev pub TellsHistory : Content → Question → (head_only : Bool) → List StoreFault → List ℕ
     → Type 0
 TellsHistory R question head_only faults text =
     TellsPage Html head_only (IsHistoryPage R question) faults text
     ⊎ ((IsCrowded R question × TellsRefusal why.Crowded head_only faults text)
-    ⊎ TellsRefusal why.NoText head_only faults text)
+    ⊎ (LacksText R (report_of question form.Page)
+    × TellsRefusal why.NoText head_only faults text))
 
 -- The head of a history as CSV is told, and the names of its fields as its first portion; the whole
 -- history is still to be sent.
@@ -161,11 +163,12 @@ rest_of chunked left result =
       | _ ↦ None
     ]
 
--- the next portion of a history that is being sent
+-- the next portion of a history that is being sent, of the records that it was begun with
 abbrev pub GoesOn : Content → Sending → List StoreFault → List ℕ → Option Sending → Type 0
 GoesOn R was faults text sending =
     (portion : List ℕ) × (now : Remainder) × (result : Result Bool ReportFault)
     × (faults ≡ report_faults (ending result)) × IsPortion was.portions now R [] portion result
+    × IsOfSame was.portions now
     × IsPortionText was.chunked portion result text × (sending ≡ rest_of was.chunked now result)
 
 -- ---- a request

@@ -18,7 +18,8 @@ returns-in-Ok-clause-answers g c =
     (λ (R : Content). IsPortion was.portions now R empty portion c.next-next.result) _
     (λ R p. portion-told R was now c.next-next.result empty portion c.as_slice.result.now
     c.in-Ok.text.items (sending_of c.rest_of.result) c.new-portion.ensures.items
-    c.as_slice.ensures.value p c.in-Ok.ensures c.rest_of.ensures.left) c.next-next.ensures.takes
+    c.as_slice.ensures.value c.next-next.ensures.same p c.in-Ok.ensures c.rest_of.ensures.left)
+    c.next-next.ensures.takes
 
 pub returns-in-Err-clause-answers : goal.returns-in-Err-clause-answers
 returns-in-Err-clause-answers g c =
