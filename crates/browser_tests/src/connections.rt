@@ -1,100 +1,182 @@
 //! Connections of browsers, each from the bytes that come to those that are answered.
 
 use crate::portions::{Written, empty_archive, learn, learn_many, printed, report_of};
-use archive::{Archive, ListArchive};
+use Coming::{ByBytes, Crowded, Whole};
+use archive::{Archive, StoreFault};
 use history_report::Form;
-use std::alloc::{AllocError, Global};
+use std::alloc::Global;
 use std::test::Fail;
 use ua_settings::Settings;
 use web_connection::{WebConnection, WebStep};
 
-/// Settings up to whether users need no name.
-const FIRST: &str = "[archive]\nid = '12345678-9abc-def0-1234-56789abcdef0'\nreplica = 7\n\
-     [server]\nlisten = ''\nurl = ''\napplication = ''\nnamespace = ''\nanonymous = ";
+/// Settings of the plant where users need a name: a user and two variables.
+const CLOSED: &str = "[archive]\nid = '12345678-9abc-def0-1234-56789abcdef0'\nreplica = 7\n\
+     [server]\nlisten = ''\nurl = ''\napplication = ''\nnamespace = ''\nanonymous = false\n\
+     [[user]]\nname = 'ann'\npassword = 'pw'\n\
+     [[variable]]\nid = 'n'\nname = 'level'\ntype = 'Int32'\n\
+     [[variable]]\nid = 'list'\nname = 'levels'\ntype = 'Double'\narray = true\n";
 
-/// The rest of them: a user and two variables.
-const REST: &str = "\n[[user]]\nname = 'ann'\npassword = 'pw'\n\
+/// The same where users need none.
+const OPEN: &str = "[archive]\nid = '12345678-9abc-def0-1234-56789abcdef0'\nreplica = 7\n\
+     [server]\nlisten = ''\nurl = ''\napplication = ''\nnamespace = ''\nanonymous = true\n\
+     [[user]]\nname = 'ann'\npassword = 'pw'\n\
      [[variable]]\nid = 'n'\nname = 'level'\ntype = 'Int32'\n\
      [[variable]]\nid = 'list'\nname = 'levels'\ntype = 'Double'\narray = true\n";
 
 /// The settings of the plant.
-fn settings_of(alloc: Global, anonymous: bool) -> Result<Settings, Fail> {
-    let mut text = String::new(alloc);
-    text.push_str(FIRST)?;
-    text.push_str(if anonymous { "true" } else { "false" })?;
-    text.push_str(REST)?;
-    Ok(Settings::read(alloc, text.as_str())?)
+fn settings_of(alloc: Global, anonymous: bool) -> Option<Settings> {
+    Settings::read(alloc, if anonymous { OPEN } else { CLOSED }).ok()
 }
 
-/// An archive with 250 values of one variable, and an array of the other.
-fn plant(alloc: Global) -> Result<ListArchive, Fail> {
-    let mut archive = empty_archive(alloc)?;
-    learn_many(alloc, &mut archive, 1, 250, 1)?;
-    learn(alloc, &mut archive, &(251, "list", 1, Written::Many))?;
-    Ok(archive)
+/// An archive takes 250 values of one variable, and an array of the other.
+fn is_planted<A: Archive>(alloc: Global, archive: &mut A) -> bool {
+    learn_many(alloc, archive, 1, 250, 1).is_ok()
+        && learn(alloc, archive, &(251, "list", 1, Written::Many)).is_ok()
 }
 
-/// Takes steps until one doesn't go on: how many went on, and the one that didn't.
+/// How many steps went on, and the last step; absent where the test is at fault.
+type Ended = Option<(usize, WebStep)>;
+
+/// Takes steps until one doesn't go on.
 fn answer_all<A: Archive>(
     settings: &Settings,
     archive: &mut A,
     connection: &mut WebConnection,
     out: &mut Vec<u8>,
-) -> Result<(usize, WebStep), AllocError> {
-    let mut count = 0usize;
-    for _ in 0..20 {
-        let step = connection.answer(settings, archive, out)?;
-        if step != WebStep::Continues {
-            return Ok((count, step));
+) -> Ended {
+    for count in 0..20 {
+        match connection.answer(settings, archive, out) {
+            Ok(WebStep::Continues) => {}
+            Ok(step) => return Some((count, step)),
+            Err(_) => return None,
         }
-        count = count.saturating_add(1);
     }
-    Ok((count, WebStep::Continues))
+    None
 }
 
-/// What was made, how many steps went on, and the last step.
-type Made = (Vec<u8>, usize, WebStep);
+/// A request comes at once.
+fn answer_whole<A: Archive>(
+    settings: &Settings,
+    archive: &mut A,
+    connection: &mut WebConnection,
+    request: &str,
+    out: &mut Vec<u8>,
+) -> Ended {
+    match connection.feed(request.as_bytes()) {
+        Ok(()) => answer_all(settings, archive, connection, out),
+        Err(_) => None,
+    }
+}
 
-/// What is made of a request that comes at once.
-fn made_at_once<A: Archive>(
+/// Whether more input is needed, and nothing was made.
+fn is_waiting<A: Archive>(
+    settings: &Settings,
+    archive: &mut A,
+    connection: &mut WebConnection,
+    out: &mut Vec<u8>,
+) -> bool {
+    connection.answer(settings, archive, out) == Ok(WebStep::NeedsInput) && out.is_empty()
+}
+
+/// Whether more input is needed, and nothing was made, before each of these bytes.
+fn is_waiting_before<A: Archive>(
+    settings: &Settings,
+    archive: &mut A,
+    connection: &mut WebConnection,
+    bytes: &[u8],
+    out: &mut Vec<u8>,
+) -> bool {
+    for byte in bytes {
+        if !is_waiting(settings, archive, connection, out) || connection.feed(&[*byte]).is_err() {
+            return false;
+        }
+    }
+    true
+}
+
+/// A request comes byte by byte; nothing is made before the last byte.
+fn answer_bytes<A: Archive>(
+    settings: &Settings,
+    archive: &mut A,
+    connection: &mut WebConnection,
+    request: &str,
+    out: &mut Vec<u8>,
+) -> Ended {
+    if is_waiting_before(settings, archive, connection, request.as_bytes(), out) {
+        answer_all(settings, archive, connection, out)
+    } else {
+        None
+    }
+}
+
+/// A request comes at once, and another one behind each step.
+fn answer_crowded<A: Archive>(
+    settings: &Settings,
+    archive: &mut A,
+    connection: &mut WebConnection,
+    request: &str,
+    out: &mut Vec<u8>,
+) -> Ended {
+    for count in 0..20 {
+        let bytes = if count == 0 { request } else { PLAIN };
+        if connection.feed(bytes.as_bytes()).is_err() {
+            return None;
+        }
+        match connection.answer(settings, archive, out) {
+            Ok(WebStep::Continues) => {}
+            Ok(step) => return Some((count, step)),
+            Err(_) => return None,
+        }
+    }
+    None
+}
+
+/// How a request comes: at once, byte by byte, or at once and another one behind each step.
+#[derive(Clone, Copy)]
+enum Coming {
+    Whole,
+    ByBytes,
+    Crowded,
+}
+
+/// A request comes so.
+fn answer<A: Archive>(
+    settings: &Settings,
+    archive: &mut A,
+    connection: &mut WebConnection,
+    asked: (&str, Coming),
+    out: &mut Vec<u8>,
+) -> Ended {
+    match asked.1 {
+        Whole => answer_whole(settings, archive, connection, asked.0, out),
+        ByBytes => answer_bytes(settings, archive, connection, asked.0, out),
+        Crowded => answer_crowded(settings, archive, connection, asked.0, out),
+    }
+}
+
+/// Appends what is made of a request that comes so.
+fn put_made<A: Archive>(
     alloc: Global,
     settings: &Settings,
     archive: &mut A,
-    request: &str,
-) -> Result<Made, AllocError> {
-    let mut out = Vec::new(alloc);
+    asked: (&str, Coming),
+    out: &mut Vec<u8>,
+) -> Ended {
     let mut connection = WebConnection::new(alloc);
-    connection.feed(request.as_bytes())?;
-    let (count, step) = answer_all(settings, archive, &mut connection, &mut out)?;
-    Ok((out, count, step))
+    answer(settings, archive, &mut connection, asked, out)
 }
 
-/// What is made of a request that comes byte by byte; nothing before the last byte.
-fn made_by_bytes<A: Archive>(
+/// Whether this is made of a request that comes so, and it ends so.
+fn is_made<A: Archive>(
     alloc: Global,
     settings: &Settings,
     archive: &mut A,
-    request: &str,
-) -> Result<Option<Made>, AllocError> {
+    asked: (&str, Coming),
+    wanted: (&[u8], Ended),
+) -> bool {
     let mut out = Vec::new(alloc);
-    let mut connection = WebConnection::new(alloc);
-    let Some((last, before)) = request.as_bytes().split_last() else {
-        return Ok(None);
-    };
-    for byte in before {
-        let step = connection.answer(settings, archive, &mut out)?;
-        if step != WebStep::NeedsInput || !out.is_empty() {
-            return Ok(None);
-        }
-        connection.feed(&[*byte])?;
-    }
-    let step = connection.answer(settings, archive, &mut out)?;
-    if step != WebStep::NeedsInput || !out.is_empty() {
-        return Ok(None);
-    }
-    connection.feed(&[*last])?;
-    let (count, step) = answer_all(settings, archive, &mut connection, &mut out)?;
-    Ok(Some((out, count, step)))
+    let ended = put_made(alloc, settings, archive, asked, &mut out);
+    ended == wanted.1 && out.as_slice() == wanted.0
 }
 
 /// A request: whether users need no name, its text, by what its answer begins and ends, and how many
@@ -260,133 +342,215 @@ static DENIED: [Row; 3] = [
     ),
 ];
 
+/// Requests that name nobody.
+static NAMELESS: [Row; 5] = [
+    (
+        false,
+        "GET / HTTP/1.1\r\nHost: a\r\n\r\n",
+        UNAUTHORIZED,
+        "</html>\n",
+        0,
+    ),
+    (
+        false,
+        "GET /status.json HTTP/1.1\r\nHost: a\r\n\r\n",
+        UNAUTHORIZED,
+        "</html>\n",
+        0,
+    ),
+    (
+        false,
+        "GET /history?node=ns%3D1%3Bs%3Dn HTTP/1.1\r\nHost: a\r\n\r\n",
+        UNAUTHORIZED,
+        "</html>\n",
+        0,
+    ),
+    (
+        false,
+        "GET /history.csv?node=ns%3D1%3Bs%3Dn HTTP/1.1\r\nHost: a\r\n\r\n",
+        UNAUTHORIZED,
+        "</html>\n",
+        0,
+    ),
+    (
+        false,
+        "GET /history.csv?node=ns%3D1%3Bs%3Dm HTTP/1.1\r\nHost: a\r\n\r\n",
+        UNAUTHORIZED,
+        "</html>\n",
+        0,
+    ),
+];
+
+/// A history as CSV, which has four steps that go on.
+static STEPS: [Row; 1] = [(
+    true,
+    CHUNKED,
+    "HTTP/1.1 200 OK\r\nContent-Type: text/csv; charset=utf-8\r\nTransfer-Encoding: chunked\r\nConnection: close\r\n",
+    ",250,Good\n\r\n0\r\n\r\n",
+    4,
+)];
+
+/// What the answer to who isn't let in begins by.
+const UNAUTHORIZED: &str = "HTTP/1.1 401 Unauthorized\r\n";
+
+/// Whether a text tells nothing of the plant.
+fn tells_nothing(text: &str) -> bool {
+    !text.contains("level") && !text.contains("s=n") && !text.contains("12345678")
+}
+
+/// Whether a text begins and ends as a row says, and tells nothing to who isn't let in.
+fn is_text_of(text: &str, row: &Row) -> bool {
+    let (_, _, first, last, _) = row;
+    text.starts_with(*first)
+        && text.ends_with(*last)
+        && (!text.starts_with(UNAUTHORIZED) || tells_nothing(text))
+}
+
 /// Whether what was made is what a row says, and the last step is this.
-fn is_wanted(made: &Made, row: &Row, end: WebStep) -> bool {
-    let (text, count, step) = made;
-    let (_, _, first, last, steps) = row;
-    match str::from_utf8(text.as_slice()) {
-        Ok(text) => {
-            text.starts_with(*first) && text.ends_with(*last) && *count == *steps && *step == end
-        }
+fn is_wanted(made: &[u8], ended: Ended, row: &Row, end: WebStep) -> bool {
+    match str::from_utf8(made) {
+        Ok(text) => is_text_of(text, row) && ended == Some((row.4, end)),
         Err(_) => false,
     }
 }
 
-/// Whether a request is answered as its row says, whole and byte by byte, and the last step is this.
+/// Whether a request is answered as its row says, the last step is this, and it is answered in the
+/// same way where it comes so.
+fn is_answered_by<A: Archive>(
+    alloc: Global,
+    settings: &Settings,
+    archive: &mut A,
+    row: &Row,
+    way: (WebStep, Coming),
+) -> bool {
+    let mut whole = Vec::new(alloc);
+    let ended = put_made(alloc, settings, archive, (row.1, Whole), &mut whole);
+    let wanted = (whole.as_slice(), ended);
+    is_wanted(whole.as_slice(), ended, row, way.0)
+        && is_made(alloc, settings, archive, (row.1, way.1), wanted)
+}
+
+/// The same by the plant's settings.
 fn is_answered<A: Archive>(
     alloc: Global,
     archive: &mut A,
     row: &Row,
-    end: WebStep,
-) -> Result<bool, Fail> {
-    let (anonymous, request, ..) = *row;
-    let settings = settings_of(alloc, anonymous)?;
-    let whole = made_at_once(alloc, &settings, archive, request)?;
-    let Some(by_bytes) = made_by_bytes(alloc, &settings, archive, request)? else {
-        return Ok(false);
-    };
-    Ok(is_wanted(&whole, row, end) && is_wanted(&by_bytes, row, end) && whole.0 == by_bytes.0)
+    way: (WebStep, Coming),
+) -> bool {
+    match settings_of(alloc, row.0) {
+        Some(settings) => is_answered_by(alloc, &settings, archive, row, way),
+        None => false,
+    }
+}
+
+/// The first of these requests that is answered otherwise.
+fn first_other<A: Archive>(
+    alloc: Global,
+    archive: &mut A,
+    rows: &[Row],
+    way: (WebStep, Coming),
+) -> Option<&'static str> {
+    for row in rows {
+        if !is_answered(alloc, archive, row, way) {
+            return Some(row.1);
+        }
+    }
+    None
+}
+
+/// Whether these requests are answered so.
+fn are_answered(alloc: Global, rows: &[Row], way: (WebStep, Coming)) -> Result<(), Fail> {
+    match first_other_over(alloc, empty_archive(alloc), rows, way) {
+        None => Ok(()),
+        Some(request) => Err(Fail::from(request)),
+    }
+}
+
+/// The first of these requests that is answered otherwise over an archive that was made, and is the
+/// plant's then.
+fn first_other_over<A: Archive + Drop>(
+    alloc: Global,
+    made: Result<A, StoreFault>,
+    rows: &[Row],
+    way: (WebStep, Coming),
+) -> Option<&'static str> {
+    match made {
+        Ok(mut archive) => first_other_planted(alloc, &mut archive, rows, way),
+        Err(_) => Some("an archive"),
+    }
+}
+
+/// The same over an archive that holds nothing yet.
+fn first_other_planted<A: Archive>(
+    alloc: Global,
+    archive: &mut A,
+    rows: &[Row],
+    way: (WebStep, Coming),
+) -> Option<&'static str> {
+    if is_planted(alloc, archive) {
+        first_other(alloc, archive, rows, way)
+    } else {
+        Some("a plant")
+    }
 }
 
 #[test]
 fn requests_are_answered(rt: HostRuntime) -> Result<(), Fail> {
-    let alloc = rt.alloc();
-    let mut archive = plant(alloc)?;
-    for row in &ANSWERED {
-        let good = is_answered(alloc, &mut archive, row, WebStep::Ended)?;
-        assert!(rt; good, "{}", row.1);
-    }
-    Ok(())
+    are_answered(rt.alloc(), &ANSWERED, (WebStep::Ended, ByBytes))
 }
 
 #[test]
 fn requests_are_refused(rt: HostRuntime) -> Result<(), Fail> {
-    let alloc = rt.alloc();
-    let mut archive = plant(alloc)?;
-    for row in &REFUSED {
-        let good = is_answered(alloc, &mut archive, row, WebStep::Ended)?;
-        assert!(rt; good, "{}", row.1);
-    }
-    Ok(())
+    are_answered(rt.alloc(), &REFUSED, (WebStep::Ended, ByBytes))
 }
 
 #[test]
 fn wrong_credentials_are_denied(rt: HostRuntime) -> Result<(), Fail> {
-    let alloc = rt.alloc();
-    let mut archive = plant(alloc)?;
-    for row in &DENIED {
-        let good = is_answered(alloc, &mut archive, row, WebStep::Denied)?;
-        assert!(rt; good, "{}", row.1);
-    }
-    Ok(())
-}
-
-/// Requests that name nobody.
-static NAMELESS: [&str; 5] = [
-    "GET / HTTP/1.1\r\nHost: a\r\n\r\n",
-    "GET /status.json HTTP/1.1\r\nHost: a\r\n\r\n",
-    "GET /history?node=ns%3D1%3Bs%3Dn HTTP/1.1\r\nHost: a\r\n\r\n",
-    "GET /history.csv?node=ns%3D1%3Bs%3Dn HTTP/1.1\r\nHost: a\r\n\r\n",
-    "GET /history.csv?node=ns%3D1%3Bs%3Dm HTTP/1.1\r\nHost: a\r\n\r\n",
-];
-
-/// Whether a request that names nobody is refused, and what is made tells nothing of the plant.
-fn is_turned_away<A: Archive>(
-    alloc: Global,
-    settings: &Settings,
-    archive: &mut A,
-    request: &str,
-) -> Result<bool, Fail> {
-    let (made, count, step) = made_at_once(alloc, settings, archive, request)?;
-    let text = str::from_utf8(made.as_slice())?;
-    Ok(
-        count == 0
-            && step == WebStep::Ended
-            && text.starts_with("HTTP/1.1 401 Unauthorized\r\n")
-            && text.ends_with("</html>\n")
-            && !text.contains("level")
-            && !text.contains("s=n")
-            && !text.contains("12345678"),
-    )
+    are_answered(rt.alloc(), &DENIED, (WebStep::Denied, ByBytes))
 }
 
 #[test]
 fn nobody_is_told_nothing(rt: HostRuntime) -> Result<(), Fail> {
-    let alloc = rt.alloc();
-    let settings = settings_of(alloc, false)?;
-    let mut archive = plant(alloc)?;
-    for request in &NAMELESS {
-        let good = is_turned_away(alloc, &settings, &mut archive, request)?;
-        assert!(rt; good, "{request}");
-    }
-    Ok(())
+    are_answered(rt.alloc(), &NAMELESS, (WebStep::Ended, ByBytes))
 }
 
-/// The bytes of a chunk, and the text behind it.
-fn split_chunk(text: &str) -> Option<(&[u8], &str)> {
-    let (size, rest) = text.split_once("\r\n")?;
-    let size = usize::from_str_radix(size, 16).ok()?;
-    let bytes = rest.as_bytes();
+#[test]
+fn later_bytes_are_left_aside(rt: HostRuntime) -> Result<(), Fail> {
+    are_answered(rt.alloc(), &STEPS, (WebStep::Ended, Crowded))
+}
+
+/// The bytes of a piece of so many, and the text behind it and the end of its line.
+fn split_piece(text: &str, size: usize) -> Option<(&[u8], &str)> {
+    let bytes = text.as_bytes();
     let piece = bytes.get(..size)?;
     let behind = str::from_utf8(bytes.get(size..)?).ok()?;
     Some((piece, behind.strip_prefix("\r\n")?))
 }
 
-/// The bytes of chunks, of at least two and with the last one, which is empty.
-fn decoded(alloc: Global, text: &str) -> Result<Option<Vec<u8>>, AllocError> {
-    let mut out = Vec::new(alloc);
-    let mut rest = text;
+/// The bytes of a chunk, and the text behind it.
+fn split_chunk(text: &str) -> Option<(&[u8], &str)> {
+    let (size, rest) = text.split_once("\r\n")?;
+    split_piece(rest, usize::from_str_radix(size, 16).ok()?)
+}
+
+/// Whether a text is the chunks of these bytes, with the last one, which is empty.
+fn are_chunks_of(text: &str, bytes: &[u8]) -> bool {
+    let mut text = text;
+    let mut bytes = bytes;
     for _ in 0..20 {
-        let Some((piece, behind)) = split_chunk(rest) else {
-            return Ok(None);
+        let Some((piece, behind)) = split_chunk(text) else {
+            return false;
         };
-        out.extend_from_slice(piece)?;
-        rest = behind;
+        let Some(rest) = bytes.strip_prefix(piece) else {
+            return false;
+        };
         if piece.is_empty() {
-            break;
+            return behind.is_empty() && rest.is_empty();
         }
+        text = behind;
+        bytes = rest;
     }
-    Ok(if rest.is_empty() { Some(out) } else { None })
+    false
 }
 
 /// A history as CSV is asked for by HTTP/1.1.
@@ -396,50 +560,77 @@ const CHUNKED: &str = "GET /history.csv?node=ns%3D1%3Bs%3Dn HTTP/1.1\r\nHost: a\
 const PLAIN: &str = "GET /history.csv?node=ns%3D1%3Bs%3Dn HTTP/1.0\r\n\r\n";
 
 /// What stands behind the head of an answer.
-fn body_of(text: &str) -> &str {
-    match text.split_once("\r\n\r\n") {
-        Some((_, body)) => body,
-        None => "",
+fn body_of(made: &[u8]) -> &str {
+    match str::from_utf8(made) {
+        Ok(text) => match text.split_once("\r\n\r\n") {
+            Some((_, body)) => body,
+            None => "",
+        },
+        Err(_) => "",
     }
+}
+
+/// Whether the body of what was made is these bytes, as chunks or as they are.
+fn is_body(made: &[u8], chunked: bool, wanted: &[u8]) -> bool {
+    let body = body_of(made);
+    if chunked {
+        are_chunks_of(body, wanted)
+    } else {
+        body.as_bytes() == wanted
+    }
+}
+
+/// Whether the history is sent as these bytes by HTTP/1.1, in chunks, or by HTTP/1.0.
+fn is_sent_as<A: Archive>(
+    alloc: Global,
+    settings: &Settings,
+    archive: &mut A,
+    chunked: bool,
+    wanted: &[u8],
+) -> bool {
+    let mut made = Vec::new(alloc);
+    let request = if chunked { CHUNKED } else { PLAIN };
+    let ended = put_made(alloc, settings, archive, (request, Whole), &mut made);
+    ended.is_some() && is_body(made.as_slice(), chunked, wanted)
+}
+
+/// Whether the history is sent as these bytes, by HTTP/1.0 and by HTTP/1.1.
+fn is_sent_both<A: Archive>(alloc: Global, archive: &mut A, wanted: &[u8]) -> bool {
+    match settings_of(alloc, true) {
+        Some(settings) => {
+            is_sent_as(alloc, &settings, archive, false, wanted)
+                && is_sent_as(alloc, &settings, archive, true, wanted)
+        }
+        None => false,
+    }
+}
+
+/// Whether the history is sent as it is printed.
+fn is_sent_whole<A: Archive>(alloc: Global, archive: &mut A) -> bool {
+    match report_of(alloc, false, Form::Csv) {
+        Ok(report) => {
+            let (ended, wanted) = printed(alloc, archive, &report);
+            ended.is_ok() && is_sent_both(alloc, archive, wanted.as_slice())
+        }
+        Err(_) => false,
+    }
+}
+
+/// The same of an archive that was made, and is the plant's then.
+fn is_sent_over<A: Archive + Drop>(alloc: Global, made: Result<A, StoreFault>) -> bool {
+    match made {
+        Ok(mut archive) => { is_planted(alloc, &mut archive) && is_sent_whole(alloc, &mut archive) }
+        Err(_) => false,
+    }
+}
+
+/// The same of a list.
+fn is_sent(alloc: Global) -> bool {
+    is_sent_over(alloc, empty_archive(alloc))
 }
 
 #[test]
 fn a_history_is_sent_whole(rt: HostRuntime) -> Result<(), Fail> {
-    let alloc = rt.alloc();
-    let settings = settings_of(alloc, true)?;
-    let mut archive = plant(alloc)?;
-    let report = report_of(alloc, false, Form::Csv)?;
-    let (ended, wanted) = printed(alloc, &mut archive, &report);
-    assert!(rt; ended.is_ok());
-    let (made, _, _) = made_at_once(alloc, &settings, &mut archive, PLAIN)?;
-    let body = body_of(str::from_utf8(made.as_slice())?);
-    assert!(rt; body.as_bytes() == wanted.as_slice());
-    let (made, _, _) = made_at_once(alloc, &settings, &mut archive, CHUNKED)?;
-    let body = decoded(alloc, body_of(str::from_utf8(made.as_slice())?))?;
-    let good = match body {
-        Some(body) => body.as_slice() == wanted.as_slice(),
-        None => false,
-    };
-    assert!(rt; good);
-    Ok(())
-}
-
-#[test]
-fn later_bytes_are_left_aside(rt: HostRuntime) -> Result<(), Fail> {
-    let alloc = rt.alloc();
-    let settings = settings_of(alloc, true)?;
-    let mut archive = plant(alloc)?;
-    let (wanted, _, _) = made_at_once(alloc, &settings, &mut archive, CHUNKED)?;
-    let mut out = Vec::new(alloc);
-    let mut connection = WebConnection::new(alloc);
-    connection.feed(CHUNKED.as_bytes())?;
-    for _ in 0..4 {
-        let step = connection.answer(&settings, &mut archive, &mut out)?;
-        assert!(rt; step == WebStep::Continues);
-        connection.feed(PLAIN.as_bytes())?;
-    }
-    let step = connection.answer(&settings, &mut archive, &mut out)?;
-    assert!(rt; step == WebStep::Ended);
-    assert!(rt; out.as_slice() == wanted.as_slice());
+    assert!(rt; is_sent(rt.alloc()));
     Ok(())
 }

@@ -46,31 +46,61 @@ fn variant_of(alloc: Global, written: Written) -> Variant {
     }
 }
 
-/// The record of an update.
-fn record_of(alloc: Global, update: &Update) -> Result<Record, StoreFault> {
-    let (number, name, second, written) = *update;
-    let Some(origin) = ReplicaNo::new(7) else {
-        return Err(StoreFault::WrongReplica);
-    };
-    let node = node_of(alloc, name)?;
-    let user = Text::from_str(alloc, "ann")?;
-    Ok(Record {
+/// The tick of an update.
+fn tick_of(number: u64) -> i64 {
+    NOON.saturating_add(SECOND.saturating_mul(9000i64.saturating_add_unsigned(number)))
+}
+
+/// A value as it was written, with no status and no times.
+fn value_of(alloc: Global, written: Written) -> DataValue {
+    DataValue {
+        value: Some(variant_of(alloc, written)),
+        status: None,
+        source_time: None,
+        source_pico: None,
+        server_time: None,
+        server_pico: None,
+    }
+}
+
+/// The record of an update, by a replica, of a node and a user.
+fn record_by(
+    alloc: Global,
+    origin: ReplicaNo,
+    update: &Update,
+    node: NodeId,
+    user: Text,
+) -> Record {
+    let (number, _, second, written) = *update;
+    Record {
         origin,
         number,
-        tick: NOON.saturating_add(SECOND.saturating_mul(9000i64.saturating_add_unsigned(number))),
+        tick: tick_of(number),
         node,
         time: moment_of(second),
         asked: HistoryUpdateType::Update,
         user,
-        value: DataValue {
-            value: Some(variant_of(alloc, written)),
-            status: None,
-            source_time: None,
-            source_pico: None,
-            server_time: None,
-            server_pico: None,
-        },
-    })
+        value: value_of(alloc, written),
+    }
+}
+
+/// The record of an update.
+fn record_of(alloc: Global, update: &Update) -> Result<Record, StoreFault> {
+    let Some(origin) = ReplicaNo::new(7) else {
+        return Err(StoreFault::WrongReplica);
+    };
+    let node = node_of(alloc, update.1)?;
+    let user = Text::from_str(alloc, "ann")?;
+    Ok(record_by(alloc, origin, update, node, user))
+}
+
+/// What an archive answers to a record.
+fn learn_record<A: Archive>(archive: &mut A, record: &Record) -> Result<bool, LearnFault> {
+    if record.is_lawful() {
+        archive.learn(record)
+    } else {
+        Err(LearnFault::Store(StoreFault::Refused))
+    }
 }
 
 /// What an archive answers to an update.
@@ -80,11 +110,7 @@ pub(crate) fn learn<A: Archive>(
     update: &Update,
 ) -> Result<bool, LearnFault> {
     let record = record_of(alloc, update)?;
-    if record.is_lawful() {
-        archive.learn(&record)
-    } else {
-        Err(LearnFault::Store(StoreFault::Refused))
-    }
+    learn_record(archive, &record)
 }
 
 /// An archive takes the updates of these numbers, so many at each second.
@@ -153,85 +179,212 @@ pub(crate) fn line_count(text: &[u8]) -> usize {
     count
 }
 
-/// How many lines a text has behind those that it had.
-fn new_lines(text: &[u8], before: usize) -> usize {
-    line_count(text).saturating_sub(before)
+/// Values or modifications, and in which form.
+type Case = (bool, Form);
+
+/// What is tried: how many updates an archive has at first, how many of them at each second, and
+/// which of them is an array; the updates that come before each portion, two at a time; how many
+/// lines each portion has, and how it ends.
+struct Tried {
+    count: u64,
+    at_once: u64,
+    array: Option<u64>,
+    between: &'static [[Update; 2]],
+    wanted: &'static [(usize, Result<bool, ReportFault>)],
 }
 
-/// What came of a history: how many lines each portion has, and how the last one ended.
-type Made = (Vec<usize>, Result<bool, ReportFault>);
+/// An archive takes the updates of these numbers, of which one is an array, one at each second.
+fn learns_around<A: Archive>(alloc: Global, archive: &mut A, count: u64, array: u64) -> bool {
+    let second = 0i64.saturating_add_unsigned(array);
+    learn_many(alloc, archive, 1, array.saturating_sub(1), 1).is_ok()
+        && learn(alloc, archive, &(array, "n", second, Written::Many)).is_ok()
+        && learn_many(alloc, archive, array.saturating_add(1), count, 1).is_ok()
+}
 
-/// An archive takes two updates.
-fn learn_both<A: Archive>(
+/// An archive takes the updates that it has at first.
+fn learns_first<A: Archive>(alloc: Global, archive: &mut A, tried: &Tried) -> bool {
+    match tried.array {
+        Some(array) => learns_around(alloc, archive, tried.count, array),
+        None => learn_many(alloc, archive, 1, tried.count, tried.at_once).is_ok(),
+    }
+}
+
+/// An archive takes two updates, if there are two.
+fn learns_both<A: Archive>(alloc: Global, archive: &mut A, pair: Option<&[Update; 2]>) -> bool {
+    match pair {
+        Some([one, other]) => {
+            learn(alloc, archive, one).is_ok() && learn(alloc, archive, other).is_ok()
+        }
+        None => true,
+    }
+}
+
+/// Whether the next portion has so many lines, and ends so.
+fn is_next<A: Archive>(
     alloc: Global,
     archive: &mut A,
-    pair: &[Update; 2],
-) -> Result<(), LearnFault> {
-    for update in pair {
-        learn(alloc, archive, update)?;
+    portions: &mut Portions,
+    out: &mut Vec<u8>,
+    wanted: (usize, Result<bool, ReportFault>),
+) -> bool {
+    let before = line_count(out.as_slice());
+    let ended = portions.next(alloc, archive, out);
+    let lines = line_count(out.as_slice()).saturating_sub(before);
+    lines == wanted.0 && ended == wanted.1
+}
+
+/// Whether all portions have so many lines each, and end so; before each, an archive takes the next
+/// two updates.
+fn are_next<A: Archive>(
+    alloc: Global,
+    archive: &mut A,
+    portions: &mut Portions,
+    out: &mut Vec<u8>,
+    tried: &Tried,
+) -> bool {
+    let mut between = tried.between.iter();
+    for wanted in tried.wanted {
+        if !learns_both(alloc, archive, between.next())
+            || !is_next(alloc, archive, portions, out, *wanted)
+        {
+            return false;
+        }
+    }
+    true
+}
+
+/// Whether a report is made of a header and such portions.
+fn is_made<A: Archive>(
+    alloc: Global,
+    archive: &mut A,
+    report: Report,
+    tried: &Tried,
+    out: &mut Vec<u8>,
+) -> bool {
+    match Portions::begin(alloc, archive, report, out) {
+        Ok(mut portions) => {
+            line_count(out.as_slice()) == 1 && are_next(alloc, archive, &mut portions, out, tried)
+        }
+        Err(_) => false,
+    }
+}
+
+/// Whether a report is made of such portions, which joined are this.
+fn is_made_as<A: Archive>(
+    alloc: Global,
+    archive: &mut A,
+    case: Case,
+    tried: &Tried,
+    whole: &[u8],
+) -> bool {
+    let mut out = Vec::new(alloc);
+    let made = match report_of(alloc, case.0, case.1) {
+        Ok(report) => is_made(alloc, archive, report, tried, &mut out),
+        Err(_) => false,
+    };
+    made && out.as_slice() == whole
+}
+
+/// Whether a history is made of such portions, which joined are what is printed of it before any
+/// further update.
+fn is_parted<A: Archive>(alloc: Global, archive: &mut A, case: Case, tried: &Tried) -> bool {
+    match report_of(alloc, case.0, case.1) {
+        Ok(report) => {
+            let (_, whole) = printed(alloc, archive, &report);
+            is_made_as(alloc, archive, case, tried, whole.as_slice())
+        }
+        Err(_) => false,
+    }
+}
+
+/// The same of an archive that was made, and then takes its first updates.
+fn is_parted_over<A: Archive + Drop>(
+    alloc: Global,
+    made: Result<A, StoreFault>,
+    case: Case,
+    tried: &Tried,
+) -> bool {
+    match made {
+        Ok(mut archive) => {
+            learns_first(alloc, &mut archive, tried) && is_parted(alloc, &mut archive, case, tried)
+        }
+        Err(_) => false,
+    }
+}
+
+/// Whether all of these cases are made so, of a list.
+fn are_parted(alloc: Global, cases: &[(&'static str, Case)], tried: &Tried) -> Result<(), Fail> {
+    for (name, case) in cases {
+        if !is_parted_over(alloc, empty_archive(alloc), *case, tried) {
+            return Err(Fail::from(*name));
+        }
     }
     Ok(())
 }
 
-/// Makes all portions; behind each, an archive takes the next two of these updates.
-fn make_all<A: Archive>(
-    alloc: Global,
-    archive: &mut A,
-    portions: &mut Portions,
-    updates: &[[Update; 2]],
-    out: &mut Vec<u8>,
-) -> Result<Made, Fail> {
-    let mut lines = Vec::new(alloc);
-    let mut updates = updates.iter();
-    for _ in 0..10 {
-        let before = line_count(out.as_slice());
-        let ended = portions.next(alloc, archive, out);
-        lines.push(new_lines(out.as_slice(), before))?;
-        if ended != Ok(true) {
-            return Ok((lines, ended));
-        }
-        if let Some(pair) = updates.next() {
-            learn_both(alloc, archive, pair)?;
-        }
-    }
-    Ok((lines, Ok(true)))
+/// Values or modifications, in each form.
+static CASES: [(&str, Case); 4] = [
+    ("values as CSV", (false, Csv)),
+    ("values as a table", (false, Table)),
+    ("modifications as CSV", (true, Csv)),
+    ("modifications as a table", (true, Table)),
+];
+
+/// Modifications, in each form.
+static CHANGES: [(&str, Case); 2] = [
+    ("modifications as CSV", (true, Csv)),
+    ("modifications as a table", (true, Table)),
+];
+
+/// The portions of 250 updates.
+const THREE: &[(usize, Result<bool, ReportFault>)] = &[
+    (100, Ok(true)),
+    (100, Ok(true)),
+    (50, Ok(true)),
+    (0, Ok(false)),
+];
+
+/// 250 updates, one at each second.
+static SINGLE: Tried = Tried {
+    count: 250,
+    at_once: 1,
+    array: None,
+    between: &[],
+    wanted: THREE,
+};
+
+#[test]
+fn portions_join(rt: HostRuntime) -> Result<(), Fail> {
+    are_parted(rt.alloc(), &CASES, &SINGLE)
 }
 
-/// Whether all portions of the node's history are what is printed of it before any of these updates,
-/// end as that does, and have so many lines each.
-fn is_made<A: Archive>(
-    alloc: Global,
-    archive: &mut A,
-    case: (bool, Form),
-    updates: &[[Update; 2]],
-    wanted: (&[usize], Result<bool, ReportFault>),
-) -> Result<bool, Fail> {
-    let (changes, form) = case;
-    let report = report_of(alloc, changes, form)?;
-    let (_, whole) = printed(alloc, archive, &report);
-    let mut out = Vec::new(alloc);
-    let mut portions = Portions::begin(alloc, archive, report, &mut out)?;
-    let begun = line_count(out.as_slice());
-    if let Some(pair) = updates.first() {
-        learn_both(alloc, archive, pair)?;
-    }
-    let rest = updates.get(1..).unwrap_or(&[]);
-    let (lines, ended) = make_all(alloc, archive, &mut portions, rest, &mut out)?;
-    let (counts, end) = wanted;
-    Ok(
-        begun == 1
-            && lines.as_slice() == counts
-            && ended == end
-            && out.as_slice() == whole.as_slice(),
-    )
-}
+/// 250 updates, seven at each second.
+static SEVENS: Tried = Tried {
+    count: 250,
+    at_once: 7,
+    array: None,
+    between: &[],
+    wanted: THREE,
+};
 
-/// Values or modifications, and their form.
-static CASES: [(bool, Form); 4] = [(false, Csv), (false, Table), (true, Csv), (true, Table)];
+/// 250 updates at one second.
+static AT_ONCE: Tried = Tried {
+    count: 250,
+    at_once: 250,
+    array: None,
+    between: &[],
+    wanted: THREE,
+};
+
+#[test]
+fn modifications_of_one_moment_are_parted(rt: HostRuntime) -> Result<(), Fail> {
+    are_parted(rt.alloc(), &CHANGES, &SEVENS)?;
+    are_parted(rt.alloc(), &CHANGES, &AT_ONCE)
+}
 
 /// Updates that come in between, two at a time: earlier ones, later ones, and at moments that are
 /// still to come.
-static BETWEEN: [[Update; 2]; 4] = [
+const BETWEEN: &[[Update; 2]] = &[
     [
         (251, "n", 50, Written::Number(-1)),
         (252, "n", 0, Written::Number(-2)),
@@ -250,84 +403,44 @@ static BETWEEN: [[Update; 2]; 4] = [
     ],
 ];
 
-/// Whether an archive with 250 updates, so many at each second, has its portions, while these come.
-fn has_portions(
-    alloc: Global,
-    at_once: u64,
-    case: (bool, Form),
-    updates: &[[Update; 2]],
-) -> Result<bool, Fail> {
-    let mut archive = empty_archive(alloc)?;
-    learn_many(alloc, &mut archive, 1, 250, at_once)?;
-    let wanted = ([100usize, 100, 50, 0].as_slice(), Ok(false));
-    is_made(alloc, &mut archive, case, updates, wanted)
-}
-
-#[test]
-fn portions_join(rt: HostRuntime) -> Result<(), Fail> {
-    let alloc = rt.alloc();
-    for case in &CASES {
-        let good = has_portions(alloc, 1, *case, &[])?;
-        assert!(rt; good, "{case:?}");
-    }
-    Ok(())
-}
-
-#[test]
-fn modifications_of_one_moment_are_parted(rt: HostRuntime) -> Result<(), Fail> {
-    let alloc = rt.alloc();
-    for form in [Csv, Table] {
-        let good = has_portions(alloc, 7, (true, form), &[])?;
-        assert!(rt; good, "{form:?}");
-        let good = has_portions(alloc, 250, (true, form), &[])?;
-        assert!(rt; good, "{form:?}");
-    }
-    Ok(())
-}
+/// 250 updates, one at each second, while these come.
+static GROWING: Tried = Tried {
+    count: 250,
+    at_once: 1,
+    array: None,
+    between: BETWEEN,
+    wanted: THREE,
+};
 
 #[test]
 fn portions_are_of_one_state(rt: HostRuntime) -> Result<(), Fail> {
-    let alloc = rt.alloc();
-    for case in &CASES {
-        let good = has_portions(alloc, 1, *case, &BETWEEN)?;
-        assert!(rt; good, "{case:?}");
-    }
-    Ok(())
+    are_parted(rt.alloc(), &CASES, &GROWING)
 }
 
-/// Whether the history of 250 updates ends before the 150th, an array.
-fn ends_early(alloc: Global, case: (bool, Form)) -> Result<bool, Fail> {
-    let mut archive = empty_archive(alloc)?;
-    learn_many(alloc, &mut archive, 1, 149, 1)?;
-    learn(alloc, &mut archive, &(150, "n", 150, Written::Many))?;
-    learn_many(alloc, &mut archive, 151, 250, 1)?;
-    let wanted = ([100usize, 49].as_slice(), Err(ReportFault::NoText));
-    is_made(alloc, &mut archive, case, &[], wanted)
-}
+/// A history that ends before the 150th of 250 updates, an array.
+static WITHOUT_TEXT: Tried = Tried {
+    count: 250,
+    at_once: 1,
+    array: Some(150),
+    between: &[],
+    wanted: &[(100, Ok(true)), (49, Err(ReportFault::NoText))],
+};
 
 #[test]
 fn a_value_without_text_ends_a_history(rt: HostRuntime) -> Result<(), Fail> {
-    let alloc = rt.alloc();
-    for case in &CASES {
-        let good = ends_early(alloc, *case)?;
-        assert!(rt; good, "{case:?}");
-    }
-    Ok(())
+    are_parted(rt.alloc(), &CASES, &WITHOUT_TEXT)
 }
 
-/// Whether the history of an archive that holds nothing is its header alone.
-fn is_header(alloc: Global, case: (bool, Form)) -> Result<bool, Fail> {
-    let mut archive = empty_archive(alloc)?;
-    let wanted = ([0usize].as_slice(), Ok(false));
-    is_made(alloc, &mut archive, case, &[], wanted)
-}
+/// The history of an archive that holds nothing, its header alone.
+static NOTHING: Tried = Tried {
+    count: 0,
+    at_once: 1,
+    array: None,
+    between: &[],
+    wanted: &[(0, Ok(false))],
+};
 
 #[test]
 fn no_updates_are_a_header(rt: HostRuntime) -> Result<(), Fail> {
-    let alloc = rt.alloc();
-    for case in &CASES {
-        let good = is_header(alloc, *case)?;
-        assert!(rt; good, "{case:?}");
-    }
-    Ok(())
+    are_parted(rt.alloc(), &CASES, &NOTHING)
 }
