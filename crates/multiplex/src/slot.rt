@@ -12,6 +12,9 @@ use crate::transfer::{NonBlockingRead, NonBlockingWrite, ReadAttempt, WriteAttem
 use std::alloc::Global;
 use std::marker::Model;
 
+/// The most bytes of memory that a connection keeps for what it writes, once all of that was written.
+const KEPT: usize = 65_536;
+
 /// The bytes that one read asks for.
 const PIECE: usize = 4096;
 
@@ -140,12 +143,13 @@ impl<H, R, W, E> Slot<H, R, W, E> {
         self.heard
     }
 
-    /// Makes room in memory where all was written.
+    /// Makes room in memory where all was written: of what it took to make that, no more is kept than `KEPT` bytes.
     fn forget_written(&mut self)
         ensures { self.new ≡ self.old }
     {
         if self.sent == self.out.len() {
             self.out.clear();
+            self.out.shrink_to(KEPT);
             self.sent = 0;
         }
     }

@@ -18,6 +18,9 @@ use ua_binary::{Status, Ticks};
 use ua_channel::{Channel, ChannelFault};
 use ua_session::Sessions;
 
+/// The most bytes of memory that a connection keeps for responses that it will make.
+const KEPT: usize = 65_536;
+
 /// A whole message of a channel.
 #[derive(Drop)]
 pub(crate) struct Message<'a> {
@@ -64,7 +67,8 @@ fn replace_if_too_large(
     make_fault(body, now, handle, Status::BAD_RESPONSE_TOO_LARGE)
 }
 
-/// Sends the response in `body`, or where it isn't within what the client takes a ServiceFault that says so.
+/// Sends the response in `body`, or where it isn't within what the client takes a ServiceFault that says so. No more is kept of
+/// the memory of `body` than `KEPT` bytes.
 #[inline(always)]
 fn send_fitting(
     channel: &mut Channel,
@@ -81,7 +85,12 @@ fn send_fitting(
         out.old.items out.new.items channel.new }
 {
     match replace_if_too_large(channel, now, handle, body) {
-        Ok(()) => channel.wrap(request_id, body.as_slice(), out),
+        Ok(()) => {
+            let sent = channel.wrap(request_id, body.as_slice(), out);
+            body.clear();
+            body.shrink_to(KEPT);
+            sent
+        }
         Err(fault) => Err(fault),
     }
 }
