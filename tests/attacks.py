@@ -487,6 +487,35 @@ def unread_answers():
     server.stop()
 
 
+def taken_answers():
+    """Answers that were taken, by clients that stay."""
+    server = Server(tables="\n[[variable]]\nid = 'B'\nname = 'B'\ntype = 'ByteString'\n").start()
+    line, large = server.line(), node("B", 1)
+    for k in range(15):
+        assert updated(line, [insert(large, [value_at(u8(15) + opcua.blob(bytes(1_048_400)), NOW + k)])]) == [[INSERTED]]
+    before, kept, size = server.resident(), [], 0
+    for _ in range(8):
+        one = server.line(None)
+        _, size = message(one, one.client.history_read([large], NOW, NOW + 100))
+        message(one, one.client.read([(T, 13)]))
+        kept.append(one)
+    note(f"8 clients who took {size} bytes each and stay: {(server.resident() - before) / 1024 / 8:.0f} MB more for each, of which none has anything to write")
+    for one in kept:
+        one.socket.close()
+    time.sleep(1)
+    more = (server.resident() - before) / 1024
+    tell(more < 40, f"once they are gone the program holds {more:.0f} MB more than before them", more)
+    before, kept = server.resident(), []
+    for _ in range(8):
+        one = server.line(None)
+        sent = [opcua.extension(682, node("nobody", 1) + u32(1) + opcua.array([value_at(u8(15) + opcua.blob(bytes(4_000_000)), NOW)]))]
+        assert status(message(one, one.client.chunks(700, opcua.array(sent), 65_000))[0]) == 0
+        kept.append(one)
+    more = (server.resident() - before) / 1024
+    tell(more < 16, f"8 clients who sent 4 MB each and stay: {more:.0f} MB more for all of them", more)
+    server.stop()
+
+
 def browsers():
     """Browsers that stay, and requests that don't end."""
     server = Server(tables="\n[web]\nlisten = 'WEB'\n").start()
@@ -862,7 +891,7 @@ def a_limit_of_files():
 
 
 resource.setrlimit(resource.RLIMIT_NOFILE, (4096, max(4096, resource.getrlimit(resource.RLIMIT_NOFILE)[1])))
-checks = [small_requests, a_wide_folder, long_turns, deep, large_requests, a_flood_of_chunks, places, unread_answers, browsers, descriptors,
+checks = [small_requests, a_wide_folder, long_turns, deep, large_requests, a_flood_of_chunks, places, unread_answers, taken_answers, browsers, descriptors,
           guesses, guesses_from_many, sessions, secrets, copies, lying_peers, a_limit_of_files]
 checks = [check for check in checks if not sys.argv[2:] or check.__name__ in sys.argv[2:]]
 for check in checks:

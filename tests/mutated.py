@@ -12,8 +12,8 @@ again by themselves. 20,000 streams of the seed 1 are sent where no number is gi
 Meanwhile a client asks each 50 ms for a value that no stream names, and has to be answered with it, within a second each time. What the
 program holds in memory is told at each tenth, and has to stay: in the last half no more than 8 MB above what it was at the first tenth,
 and 300 bytes for each record that the archive got. What is answered has to be whole chunks, frames or pages. Behind it the program has
-to live, to end by the signal that stops it, and to have said nothing but how connections ended. Its store has to be opened; each record
-has to be one, by tests/reading.py, their numbers without a gap; and a server over it has to answer the same value. Each line that begins
+to live, to be idle, to have no descriptor more than before, and to end by the signal that stops it; each line of its events has to be one
+of the kinds that docs/OPERATIONS.md has, without controls. Its store has to be opened; each record has to be one, by tests/reading.py, their numbers without a gap; and a server over it has to answer the same value. Each line that begins
 with OTHERWISE is one that didn't hold; the exit status is 1 then. The last line has the numbers.
 """
 import atexit, collections, multiprocessing, os, random, re, select, signal, socket, struct, subprocess, sys, tempfile, threading, time
@@ -32,7 +32,12 @@ TIMES = [NOW + k for k in range(20)]
 LETTERS = [b"HELF", b"OPNF", b"MSGF", b"MSGC", b"MSGA", b"CLOF", b"RXVF", b"RXDF", b"RXEF", b"ERRF", b"GET "]
 COUNTS = [u32(n) for n in (0, 1, 2, 255, 1000, 1001, 65_535, 65_536, 1 << 20, (1 << 31) - 1, 1 << 31, (1 << 32) - 2, (1 << 32) - 1)]
 BYTES = [0, 1, 2, 3, 63, 64, 127, 128, 192, 255]
-SAID = r"uahist: connection ended \([1-4]\)|uahist: exchange ended \(\d+\)"
+HOST = r"uahist: \d{4}-\d\d-\d\dT\d\d:\d\d:\d\d\.\d{7}Z 127\.0\.\d+\.1:\d+ "
+EVENTS = [r"connected to (clients and peers|browsers)", r"ended after \d+ ms and \d+ answers?: .{1,100}", r'(logged in|was refused) as "[^\x00-\x1f\x7f]*"(: [0-9A-F]{8})?',
+          r"was refused as a browser: no such user or password", r'as "[^\x00-\x1f\x7f]*" asked (to (insert|replace|update|delete)|for an update) [^\x00-\x1f\x7f]+: (Good|[0-9A-F]{8})']
+SAID = [r"uahist: connection ended \([1-4]\)", r"uahist: exchange ended \(\d+\)", r"uahist: \d+ events? more weren't told", *(HOST + event for event in EVENTS)]
+SAID = [re.compile(shape) for shape in SAID]
+KINDS = ["a fault", "an exchange's end", "a count of more", "a connection", "an end", "a login", "a browser's refusal", "an update"]
 POINT = (b"\3" + ID + T + b"\0" + struct.pack("<qqI", NOW, NOW + 100, 2) + b"\0\2" + struct.pack("<qHqB", NOW + 1, 0, 0, 0) + u32(0)
          + reading.spelled_vector({1: 5}))
 held = []
@@ -417,21 +422,28 @@ def resident(process):
     return int(re.search(r"VmRSS:\s+(\d+)", open(f"/proc/{process.pid}/status").read())[1])
 
 
+def seconds_of(process):
+    """Seconds of a processor so far."""
+    stat = open(f"/proc/{process.pid}/stat").read().rsplit(")", 1)[1].split()
+    return (int(stat[11]) + int(stat[12])) / os.sysconf("SC_CLK_TCK")
+
+
 def main():
     folder = tempfile.TemporaryDirectory(dir="/dev/shm" if os.path.isdir("/dev/shm") else None)
     port, web, store = free_port(), free_port(), os.path.join(folder.name, "store.db")
     settings = write_settings(os.path.join(folder.name, "settings.toml"), "settings.toml", 1, port, store)
     with open(settings, "a") as more:
-        more.write('\n[[variable]]\nid = "of the healthy client alone"\nname = "own"\ntype = "Int32"\n' + f'\n[web]\nlisten = "127.0.0.1:{web}"\n')
-    process = subprocess.Popen([program, "serve", "--settings", settings], stdin=subprocess.DEVNULL, stdout=subprocess.DEVNULL, stderr=subprocess.PIPE, text=True)
+        more.write('\n[[variable]]\nid = "of the healthy client alone"\nname = "own"\ntype = "Int32"\n\n[log]\nevents = true\n' + f'\n[web]\nlisten = "127.0.0.1:{web}"\n')
+    process = subprocess.Popen([program, "serve", "--settings", settings], stdin=subprocess.DEVNULL, stdout=subprocess.DEVNULL, stderr=subprocess.PIPE, text=True, errors="backslashreplace")
     atexit.register(process.kill)
     said, strange = collections.Counter(), []
 
     def read():
         for line in process.stderr:
             line = line.rstrip("\n")
-            said[line if re.fullmatch(SAID, line) else "another line"] += 1
-            if not re.fullmatch(SAID, line) and len(strange) < 5:
+            shape = next((k for k, shape in enumerate(SAID) if shape.fullmatch(line)), None)
+            said["another line" if shape is None else KINDS[shape]] += 1
+            if shape is None and len(strange) < 5:
                 strange.append(line)
 
     reader = threading.Thread(target=read, daemon=True)
@@ -446,6 +458,7 @@ def main():
     beside.start()
     time.sleep(0.5)
 
+    descriptors = len(os.listdir(f"/proc/{process.pid}/fd"))
     sending, begin, tenths, is_there = Sending((port, web), process), time.monotonic(), [], True
     for tenth in range(1, 11):
         is_there = is_there and sending.until(streams * tenth // 10)
@@ -458,7 +471,14 @@ def main():
     stop.set()
     count, longest, wrong = told.recv() if told.poll(70) else (0, 0, ["nothing told"])
     greatest = peak(process.pid) if is_there and process.poll() is None else 0
-    tell(is_there and process.poll() is None, f"the program lives behind {sending.done} streams", process.poll())
+    is_there = is_there and process.poll() is None
+    tell(is_there, f"the program lives behind {sending.done} streams", process.poll())
+    if is_there:
+        time.sleep(1)
+        used = seconds_of(process)
+        time.sleep(1)
+        used, more = seconds_of(process) - used, len(os.listdir(f"/proc/{process.pid}/fd")) - descriptors
+        tell(used < 0.2 and more <= 0, "then it is idle, and has no descriptor more than before", (used, more))
     process.terminate()
     try:
         ended = process.wait(30)
@@ -469,7 +489,7 @@ def main():
     for what, counts in (("answered", sending.answered), ("ended", sending.ended), ("said", said)):
         print(f"{what}: " + ", ".join(f"{name} {many}" for name, many in sorted(counts.items())), flush=True)
     tell(ended == -signal.SIGTERM, "it ends by the signal that stops it", ended)
-    tell(not strange, "it said nothing but how connections ended", strange)
+    tell(not strange, "each line that it said is one of its kinds", strange)
     tell(not sending.strange, "all that was answered were whole chunks, frames and pages", sending.strange[:3])
     tell(not sending.late, f"no stream whose end was told was kept for {LATE} s", sending.late[:8])
     tell(count and not wrong, f"the healthy client was answered rightly {count} times", wrong[:2])
@@ -494,7 +514,8 @@ def main():
     if line:
         line.socket.close()
     _, words = again.communicate(timeout=30)
-    tell(b"\x06" + opcua.i32(4711) in answer and (again.returncode, words) == (0, ""), "a server over it answers the same value, and ends with status 0", (answer.hex(), again.returncode, words))
+    is_said = all(any(shape.fullmatch(text) for shape in SAID[3:]) for text in words.splitlines())
+    tell(b"\x06" + opcua.i32(4711) in answer and again.returncode == 0 and is_said, "a server over it answers the same value, and ends with status 0", (answer.hex(), again.returncode, words))
     if tenths:
         room = ROOM + RECORD * len(lines) // 1024
         grown = max(tenths[4:] or tenths) - tenths[0]
