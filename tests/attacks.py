@@ -499,7 +499,8 @@ def taken_answers():
         _, size = message(one, one.client.history_read([large], NOW, NOW + 100))
         message(one, one.client.read([(T, 13)]))
         kept.append(one)
-    note(f"8 clients who took {size} bytes each and stay: {(server.resident() - before) / 1024 / 8:.0f} MB more for each, of which none has anything to write")
+    more = (server.resident() - before) / 1024 / 8
+    tell(more < 4, f"8 clients who took {size} bytes each and stay: {more:.0f} MB more for each, so what the answers took was given back", more)
     for one in kept:
         one.socket.close()
     time.sleep(1)
