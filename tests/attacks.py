@@ -19,7 +19,7 @@ from opcua import Client, i32, i64, int32, node, u8, u32, value_at
 
 usage.shown(__doc__, 1)
 from network_line import Line, status
-from running import NOW, free_port, listens, peak, run
+from running import NOW, free_port, listens, peak, run, weighed
 
 here = os.path.dirname(os.path.abspath(__file__))
 program = os.path.abspath(sys.argv[1])
@@ -229,6 +229,24 @@ def small_requests():
     begin = time.monotonic()
     tell(status(line.ask(line.client.read([(T, 13)]))) == 0 and time.monotonic() - begin < 1 and server.lives(), "the next client is answered", "")
     server.stop()
+
+
+def large_exchange():
+    """An exchange of records of 1 MiB, of which a frame takes one."""
+    tables, count = "\n[[variable]]\nid = 'B'\nname = 'B'\ntype = 'ByteString'\n", int(os.environ.get("LARGE_RECORDS", "100"))
+    one, two = Server(1, tables=tables).start(), Server(2, tables=tables)
+    line = one.line()
+    for k in range(count):
+        assert updated(line, [insert(node("B", 1), [value_at(u8(15) + opcua.blob(bytes(1_048_400)), NOW + k)])]) == [[INSERTED]]
+    line.socket.close()
+    before = one.forget_peak()
+    done = weighed([program, "sync", "--settings", two.settings, "--peer", f"127.0.0.1:{one.port}"], most=900)
+    more = (peak(one.process.pid) - before) / 1024
+    tell(done.status == 0 and done.out.decode().startswith(f"learned {count} "), f"{count} records of 1 MiB are brought by `sync` in {done.seconds:.1f} s", (done.status, done.said))
+    tell(more < 64 and done.kilobytes < 64 * 1024, f"for which who has them takes {more:.0f} MB more, and who asks for them {done.kilobytes / 1024:.0f} MB", (more, done.kilobytes))
+    one.stop()
+    weights = [weighed([program, "dump", "--settings", server.settings], most=600) for server in (one, two)]
+    tell(weights[0].out == weights[1].out and weights[0].out.count(b"\n") == count, f"both dumps are equal, and took {max(weight.kilobytes for weight in weights) / 1024:.0f} MB", [len(weight.out) for weight in weights])
 
 
 def a_wide_folder():
@@ -892,7 +910,7 @@ def a_limit_of_files():
 
 
 resource.setrlimit(resource.RLIMIT_NOFILE, (4096, max(4096, resource.getrlimit(resource.RLIMIT_NOFILE)[1])))
-checks = [small_requests, a_wide_folder, long_turns, deep, large_requests, a_flood_of_chunks, places, unread_answers, taken_answers, browsers, descriptors,
+checks = [small_requests, large_exchange, a_wide_folder, long_turns, deep, large_requests, a_flood_of_chunks, places, unread_answers, taken_answers, browsers, descriptors,
           guesses, guesses_from_many, sessions, secrets, copies, lying_peers, a_limit_of_files]
 checks = [check for check in checks if not sys.argv[2:] or check.__name__ in sys.argv[2:]]
 for check in checks:
