@@ -521,7 +521,7 @@ def main():
         room = ROOM + RECORD * len(lines) // 1024
         grown = max(tenths[4:] or tenths) - tenths[0]
         tell(grown <= room, f"in the last half it held no more than {room} kB above the first tenth: {grown} kB", tenths)
-    print(f"{sending.done} streams of seed {seed}, {sending.done / seconds:.0f} a second; the longest of {count} answers to the healthy client {1000 * longest:.0f} ms; "
+    print(f"{sending.done} streams (seed: {seed}), {sending.done / seconds:.0f} a second; the longest of {count} answers to the healthy client {1000 * longest:.0f} ms; "
           f"{(tenths or [0])[0] / 1024:.1f} MB at the first tenth, {(tenths or [0])[-1] / 1024:.1f} MB at the end, {greatest / 1024:.1f} MB at most; "
           f"{len(lines)} records; {held.count(False)} things were otherwise", flush=True)
     forget(store)
