@@ -1,5 +1,5 @@
 -- Deletes of all values of a stretch of time: a listing, and deletes at what it told.
-use Rattle.std.proofs.Common.{◌≡◌, ℕ, ◌≤◌, suc, nat_lt, min, ℤ, Bool, true, false, List, [], ◌∷◌, map, take, length, Option, Some, None, Result, Ok, Err, IfOk, IfSome, ◌||◌, refl, sym, ap, ◌∙◌, subst, inl, arith, not}
+use Rattle.std.proofs.Common.{◌≡◌, ℕ, ◌≤◌, suc, nat_lt, min, ℤ, Bool, true, false, List, [], ◌∷◌, map, take, length, Option, Some, None, Result, Ok, Err, IfOk, IfSome, ◌||◌, refl, sym, ap, ◌∙◌, subst, inl, arith}
 use Rattle.std.specs.Prelude.{if◌then◌else◌}
 use Rattle.std.specs.List.{take-map}
 use Rattle.std.proofs.Math.Bool.{or-false}
@@ -14,10 +14,8 @@ use Rattle.ua_binary.specs.declared.values.NodeId.{NodeId}
 use Rattle.ua_binary.specs.declared.values.Ticks.{Ticks}
 use Rattle.ua_services.specs.declared.updates.HistoryUpdateResult.{HistoryUpdateResult}
 use Rattle.records.specs.Contents.{Content, vec, cut}
-use Rattle.records.specs.Records.{is_beyond}
 use Rattle.records.specs.Moments.{moment}
 use Rattle.records.specs.declared.shown.Held.{Held}
-use Rattle.records.proofs.CutLemmas.{cut_whole}
 use Rattle.archive.specs.declared.fault.StoreFault.{StoreFault}
 use Rattle.archive.specs.declared.reading.Direction.TheVariants.{Forward}
 use Rattle.archive.specs.Fault.{store_fault_status, status_told}
@@ -32,7 +30,7 @@ use Rattle.hist_update.specs.Codes.{first_other}
 use Rattle.hist_update.specs.Outcome.{DeleteAt}
 use Rattle.hist_update.specs.Operating.{Begins, BeginsListed}
 use Rattle.hist_update.specs.Updates.{Updated, refused_update, unless, past, begin, last_moment_of_range, live_times_in, stretch_refusal, listing_refusal, delete_listed, delete_raw, AreEnded, needs_of, needs_of_stretch}
-use Rattle.hist_update.proofs.Asking.{moves-behind}
+use Rattle.hist_update.proofs.Asking.{moves-behind, covers_all}
 use Rattle.hist_update.proofs.Answering.{acts-refused, acts-free, acts-hindered, none-ended}
 
 -- ---- what was listed is enough to judge it
@@ -76,14 +74,6 @@ listed-by-first own request xs R = go (listing_refusal xs) refl
 
 -- ---- the listing
 
-cut_as : (R : Content) (v w : ℕ → ℕ) → ((o : ℕ) → v o ≡ w o) → cut R v ≡ cut R w
-cut_as [] v w same = refl
-cut_as (r ∷ R) v w same =
-    let more = cut_as R v w same in
-    let here : is_beyond v r ≡ is_beyond w r = ap (λ n. nat_lt n r.number) (same r.origin) in
-    ap (λ (x : Bool). if not x then r ∷ cut R v else cut R v) here
-    ∙ ap (λ (S : Content). if not (is_beyond w r) then r ∷ S else S) more
-
 -- a range over all that the archive told of itself
 pub listed : (a b c : Store) (v : List ℕ) (node : NodeId) (from to : ℤ) {B : Type 0}
     (items : B → List Held) (result : Result B StoreFault)
@@ -95,16 +85,8 @@ listed a b c v node from to {B} items result p q =
     asks-then a b c v result (λ w. (replica : ℕ) → number_of w replica ≡ vec a.content replica)
     (λ w. items w ≡ take 1001 (range_of (cut b.content (number_of v)) node from to Forward))
     (λ w. items w ≡ take 1001 (range_of a.content node from to Forward)) p q
-    (λ h same is told. shown result (whole h same is) told)
+    (λ h same is told. shown result (covers_all a b v p (q.leaves.passes.honest h)) told)
   where
-    whole : c.honest → b.content ≡ a.content → ((replica : ℕ)
-        → number_of v replica ≡ vec a.content replica) → cut b.content (number_of v) ≡ a.content
-    whole h same is =
-        let settled = p.leaves.before (p.leaves.passes.honest (q.leaves.passes.honest h))
-        (in_use a b p.leaves) in
-        ap (λ S. cut S (number_of v)) same ∙ (cut_as a.content (number_of v) (vec a.content) is
-        ∙ cut_whole a.content settled.lawful.closed)
-
     shown : (r : Result B StoreFault) → cut b.content (number_of v) ≡ a.content
         → IfOk r (λ w. items w ≡ take 1001 (range_of
         (cut b.content (number_of v)) node from to Forward))

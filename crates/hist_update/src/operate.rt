@@ -1,11 +1,12 @@
 //! One operation: a write of one value, or a delete at one moment.
 
-ghost use Rattle.std.specs.Prelude.{◌≡◌, ◌+◌, ◌≤◌, min, is_some, IfOk, IfSome, IfNone, false, Ok, Err, None};
+ghost use Rattle.std.specs.Prelude.{◌≡◌, ◌+◌, ◌≤◌, min, IfOk, IfSome, IfNone, false, Ok, Err, None};
 ghost use Rattle.stamp.specs.Limits.{greatest, lift};
-ghost use Rattle.records.specs.Records.{held, live_value, is_delete};
+ghost use Rattle.stamp.specs.Numbers.{number_of};
+ghost use Rattle.records.specs.Records.{is_delete};
 ghost use Rattle.records.specs.Spelling.{empty, IsLawfulRecord};
-ghost use Rattle.records.specs.Contents.{vec, top};
-ghost use Rattle.archive.specs.Store.{Store, Asks};
+ghost use Rattle.records.specs.Contents.{cut};
+ghost use Rattle.archive.specs.Store.{Store, Asks, IsAskedWithin};
 ghost use Rattle.archive.specs.declared.setback.StepError.TheVariants as setback;
 ghost use Rattle.ua_variant.specs.DataValue.{IsShortData, IsPicoseconds};
 ghost use Rattle.hist_update.specs.Outcome.{IsRequest, Write, DeleteAt, fits_type, source_time, source_pico, time_judged, conflict, done, is_live, writing, record_by};
@@ -13,12 +14,12 @@ ghost use Rattle.hist_update.specs.Operating.{Operates, IsChangePlace, IsNumber,
 ghost use Rattle.hist_update.specs.declared.operate.OperationError.TheVariants as undone;
 
 use crate::request::Request;
-use archive::{Archive, LearnFault, StepError, StoreFault};
+use archive::{Archive, Direction, LearnFault, StepError, StoreFault};
 use records::{HistoryUpdateType, Moment, Record};
-use stamp::{GREATEST_NUMBER, GREATEST_TICK, ReplicaNo, lift};
+use stamp::{GREATEST_NUMBER, GREATEST_TICK, ReplicaNo, Vector, lift};
 use std::alloc::{AllocError, Global};
 use thiserror::Error;
-use ua_binary::{Status, TryClone};
+use ua_binary::{NodeId, Status, TryClone};
 use ua_variant::{DataValue, ValueType, Variant, same_type};
 
 /// Why an operation was not done.
@@ -82,14 +83,22 @@ struct ChangePlace {
     tick: Option<i64>,
 }
 
-/// Whether a story ends in a write.
-fn is_write_last(story: &[Record]) -> bool
-    ensures { result ≡ is_some (held story.now) }
+/// Whether a value is live at a moment, of what a vector covers. The archive is asked for that value alone,
+/// however many records stand there.
+fn is_live<A: Archive>(
+    alloc: Global,
+    archive: &mut A,
+    node: &NodeId,
+    time: Moment,
+    within: &Vector,
+) -> Result<bool, StoreFault>
+    ensures asks { Asks (A.state archive.old) (A.state archive.new) result
+        (λ live. live
+        ≡ is_live (cut (A.state archive.old).content (number_of within.now)) node.now time) }
+    ensures asked { IsAskedWithin 1 (A.asked archive.old) (A.asked archive.new) }
 {
-    match story.last() {
-        Some(record) => record.asked != HistoryUpdateType::Delete,
-        None => false,
-    }
+    let found = archive.range(alloc, node, time, time, Direction::Forward, 1, within)?;
+    Ok(found.first().is_some())
 }
 
 /// Asks the archive where a change at this moment is to go.
@@ -102,12 +111,13 @@ fn read_state<A: Archive>(
     ensures number { IfOk result IsNumber }
     ensures asks { Asks (A.state archive.old) (A.state archive.new) result
         (IsChangePlace (A.state archive.old) request.now time) }
+    ensures asked { IsAskedWithin 1 (A.asked archive.old) (A.asked archive.new) }
 {
-    let story = archive.at(alloc, &request.node, time)?;
-    let live = is_write_last(&story);
-    let origin = archive.number();
+    let all = archive.vector()?;
+    let live = is_live(alloc, archive, &request.node, time, &all)?;
     let tick = lift(request.reading, archive.top()?);
-    let number = archive.vector()?.get(origin) + 1;
+    let origin = archive.number();
+    let number = all.get(origin) + 1;
     Ok(ChangePlace {
         live,
         origin,
