@@ -22,8 +22,8 @@ pub(crate) const LONGEST_FRAME: usize = 2_097_152;
 /// The most records that the archive is asked for at a time.
 const PORTION: usize = 16;
 
-/// Raises a vector to the numbers of records.
-fn raise_to(known: &mut Vector, records: &[Record])
+/// Raises a vector to the numbers of records, so that it lacks none of them any more.
+pub fn raise_to(known: &mut Vector, records: &[Record])
     ensures { (replica : ℕ)
         → number_of known.new replica ≡ numbers_with (number_of known.old) records.now replica }
 {

@@ -239,8 +239,10 @@ fn read_carrying(alloc: Global, party: &Party, body: &[u8]) -> Result<Message, E
     Ok(Message::Carries(title, Listing::of(records)))
 }
 
-/// What the body of a frame says.
-pub(crate) fn read_message(
+/// What the body of a frame of this kind says to a party. Faults come in this order: `Frame` for a body that can't be read, or
+/// `PeerFormat` where its format is 1; `WrongArchive` and `SelfPeer` where its sender is of another archive, or has the
+/// party's number; `Frame` for a record that can't be read. `OutOfMemory` may come at any of these.
+pub fn read_message(
     alloc: Global,
     party: &Party,
     kind: FrameKind,

@@ -132,11 +132,7 @@ fn put_parts(out: &mut Vec<u8>, message: &Message, body: &[u8]) -> Result<(), Bi
 
 /// Writes a message's frame. Its one error is `OutOfMemory`, and then the vector is as it was.
 #[tactic(auto, using(crate::proofs::FrameLemmas::body_short))]
-pub(crate) fn put_message(
-    alloc: Global,
-    out: &mut Vec<u8>,
-    message: &Message,
-) -> Result<(), ExchangeFault>
+pub fn put_message(alloc: Global, out: &mut Vec<u8>, message: &Message) -> Result<(), ExchangeFault>
     requires { HasFrame message.now }
     ensures { Puts fault.OutOfMemory result out.old.items out.new.items (frame_of message.now) }
 {

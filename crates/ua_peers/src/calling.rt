@@ -2,6 +2,7 @@
 
 ghost use Rattle.std.specs.Prelude.{◌≡◌, IsErrOf};
 ghost use Rattle.counted_io.specs.Bytes.{CountsWhere};
+ghost use Rattle.ua_peers.specs.declared.calling.SyncFault.TheVariants as fault;
 ghost use Rattle.ua_peers.specs.Calling.{synced_by, Syncs, Adds};
 
 use crate::peers::{PeerEnded, run_dialog};
@@ -33,6 +34,26 @@ pub enum SyncFault {
     /// The peer ended the dialog by an `RXE` with this number.
     #[error("the peer ended the exchange by {0}")]
     Peer(u32),
+}
+
+impl From<ServeFault> for SyncFault {
+    ghost use Rattle.std.specs.Prelude.{◌≡◌};
+
+    ghost from_gives = { λ cause told. told ≡ fault.Connection cause };
+
+    fn from(cause: ServeFault) -> SyncFault {
+        SyncFault::Connection(cause)
+    }
+}
+
+impl From<ExchangeFault> for SyncFault {
+    ghost use Rattle.std.specs.Prelude.{◌≡◌};
+
+    ghost from_gives = { λ cause told. told ≡ fault.Exchange cause };
+
+    fn from(cause: ExchangeFault) -> SyncFault {
+        SyncFault::Exchange(cause)
+    }
 }
 
 /// What the end of a dialog is to the one that called.
