@@ -1,0 +1,4 @@
+pub mod Raising
+pub mod Names
+pub mod Hearing
+pub mod Outcomes
