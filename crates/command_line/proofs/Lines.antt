@@ -65,8 +65,8 @@ module _ (m : Option (Text × List Row)) (rows : List Row) where
   no-dump is none _ h = name-differs m (codes "dump") _ rows h.0 is h.1 refl
 
   pub no-sync : m ≡ Some (codes "sync", rows) → NoLine (IsSync rows) → NoLine (IsLine m)
-  no-sync is none (Sync path peer) h = none (Sync path peer)
-      (subst (λ (r : List Row). IsSync r (Sync path peer))
+  no-sync is none (Sync path asked) h = none (Sync path asked)
+      (subst (λ (r : List Row). IsSync r (Sync path asked))
       (one-list m (codes "sync") (codes "sync") rows h.0 is h.1) h.2)
   no-sync is none _ h = name-differs m (codes "sync") _ rows h.0 is h.1 refl
 

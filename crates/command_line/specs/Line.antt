@@ -14,6 +14,7 @@ use Rattle.command_line.specs.declared.line.Line.{Line}
 use Rattle.command_line.specs.declared.line.Line.TheVariants.{Answer, Serve, Dump, Sync, History, Import, Check}
 use Rattle.command_line.specs.declared.line.HistoryWords.{HistoryWords}
 use Rattle.command_line.specs.declared.line.ImportWords.{ImportWords}
+use Rattle.command_line.specs.declared.line.SyncWords.{SyncWords}
 use Rattle.command_line.specs.declared.line.PerformWord.{PerformWord}
 use Rattle.command_line.specs.declared.line.PerformWord.TheVariants.{Insert, Replace, Update}
 use Rattle.command_line.specs.declared.line.Asked.{Asked}
@@ -58,9 +59,11 @@ serve_command = command (codes "serve") (needed (codes "settings") ∷ connectio
 abbrev pub dump_command : App
 dump_command = command (codes "dump") (needed (codes "settings") ∷ [])
 
--- `sync --settings FILE --peer ADDRESS`
+-- `sync --settings FILE --peer ADDRESS [--check]`
 abbrev pub sync_command : App
-sync_command = command (codes "sync") (needed (codes "settings") ∷ needed (codes "peer") ∷ [])
+sync_command =
+    command (codes "sync")
+    (needed (codes "settings") ∷ needed (codes "peer") ∷ flag (codes "check") ∷ [])
 
 -- `history --settings FILE --node ID`
 abbrev pub node_command : App
@@ -155,12 +158,17 @@ abbrev pub IsDump : List Row → Line → Type 0
 IsDump rows line =
     elim line [ Dump path ↦ first_of (codes "settings") rows ≡ Some path.now | _ ↦ ⊥ ]
 
+-- what rows ask of an exchange: whom to call, and whether records are compared before
+pub record AreSyncWords (rows : List Row) (asked : SyncWords) : Type 0 where
+  pub peer : first_of (codes "peer") rows ≡ Some asked.peer.now
+  pub check : IsFlag (one_of (codes "check") rows) asked.check
+
 -- what the rows of `sync` give
 abbrev pub IsSync : List Row → Line → Type 0
 IsSync rows line =
     elim line [
-      | Sync path address ↦ (first_of (codes "settings") rows ≡ Some path.now)
-          × (first_of (codes "peer") rows ≡ Some address.now)
+      | Sync path asked ↦ (first_of (codes "settings") rows ≡ Some path.now)
+          × AreSyncWords rows asked
       | _ ↦ ⊥
     ]
 
@@ -229,7 +237,7 @@ abbrev pub IsLine : Option (Text × List Row) → Line → Type 0
 IsLine m (Answer path hex now) = NamesCommand m (codes "answer") IsAnswer (Answer path hex now)
 IsLine m (Serve path count) = NamesCommand m (codes "serve") IsServe (Serve path count)
 IsLine m (Dump path) = NamesCommand m (codes "dump") IsDump (Dump path)
-IsLine m (Sync path peer) = NamesCommand m (codes "sync") IsSync (Sync path peer)
+IsLine m (Sync path asked) = NamesCommand m (codes "sync") IsSync (Sync path asked)
 IsLine m (History path it) = NamesCommand m (codes "history") IsHistoryCommand (History path it)
 IsLine m (Import path it) = NamesCommand m (codes "import") IsImportCommand (Import path it)
 IsLine m (Check path flag) = NamesCommand m (codes "check") IsCheck (Check path flag)
@@ -249,7 +257,7 @@ abbrev pub usage : List ℕ
 usage =
     codes "usage: uahist answer [--settings FILE] [--hex] [--now N]"
     ++ codes " | serve --settings FILE [--connections N]"
-    ++ codes " | dump --settings FILE | sync --settings FILE --peer ADDRESS"
+    ++ codes " | dump --settings FILE | sync --settings FILE --peer ADDRESS [--check]"
     ++ codes " | history --settings FILE --node ID [--from T] [--to T] [--changes] [--csv] [--html]"
     ++ codes " | import --settings FILE --user NAME [--perform insert|replace|update]"
     ++ codes " | check --settings FILE [--store]"

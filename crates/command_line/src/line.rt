@@ -6,7 +6,7 @@ ghost use Rattle.clap.specs.declared.builder.command.Command.TheViews.{out-Comma
 ghost use Rattle.clap.specs.declared.error.ErrorKind.TheVariants as clap;
 ghost use Rattle.clap.specs.Takes.{takes};
 ghost use Rattle.clap.specs.Faults.{fault_of as fault_kinds};
-ghost use Rattle.command_line.specs.Line.{Asks, AsksForText, AreHistoryWords, IsLine, option, uahist, IsAnswer, IsCheck, IsServe, IsDump, IsHistoryCommand, IsImportCommand, IsMistake, IsSync, IsText, IsTextOf, NoLine, movers, node_command, perform_in, perform_named, servers, span_command};
+ghost use Rattle.command_line.specs.Line.{Asks, AsksForText, AreHistoryWords, IsLine, option, uahist, IsAnswer, IsCheck, IsServe, IsDump, IsHistoryCommand, IsImportCommand, AreSyncWords, IsMistake, IsSync, IsText, IsTextOf, NoLine, movers, node_command, perform_in, perform_named, servers, span_command};
 ghost use Rattle.command_line.specs.Line.{answer_command, check_command, connections, dump_command, flag, histories, history_command, import_command, now, serve_command, sync_command};
 
 use clap::builder::ValueParser;
@@ -46,10 +46,10 @@ pub enum Line<'a> {
     Dump {
         settings: &'a str,
     },
-    /// Call the peer at the address `peer`, by the settings of the file at `settings`, and exchange records with it.
+    /// Call a peer, by the settings of the file at `settings`, and exchange records with it.
     Sync {
         settings: &'a str,
-        peer: &'a str,
+        asked: SyncWords<'a>,
     },
     /// Print a node's history, of the archive that the file at `settings` sets.
     History {
@@ -66,6 +66,15 @@ pub enum Line<'a> {
         settings: &'a str,
         store: bool,
     },
+}
+
+/// What a command line asks of an exchange, in its own words.
+#[derive(Clone, Copy, Debug, PartialEq, Eq)]
+pub struct SyncWords<'a> {
+    /// The address of the peer.
+    pub peer: &'a str,
+    /// Whether the last records that both hold are compared before.
+    pub check: bool,
 }
 
 /// What rows are to do with the values that they name.
@@ -132,7 +141,7 @@ impl LineFault {
     {
         match self {
             LineFault::Words =>
-                "usage: uahist answer [--settings FILE] [--hex] [--now N] | serve --settings FILE [--connections N] | dump --settings FILE | sync --settings FILE --peer ADDRESS | history --settings FILE --node ID [--from T] [--to T] [--changes] [--csv] [--html] | import --settings FILE --user NAME [--perform insert|replace|update] | check --settings FILE [--store]",
+                "usage: uahist answer [--settings FILE] [--hex] [--now N] | serve --settings FILE [--connections N] | dump --settings FILE | sync --settings FILE --peer ADDRESS [--check] | history --settings FILE --node ID [--from T] [--to T] [--changes] [--csv] [--html] | import --settings FILE --user NAME [--perform insert|replace|update] | check --settings FILE [--store]",
             LineFault::OutOfMemory => "memory ran out before the command began",
         }
     }
@@ -250,6 +259,19 @@ fn peer_option<'a>(alloc: Global) -> Arg<'a>
         .action(ArgAction::Set)
 }
 
+/// The option `--check` of `sync`.
+fn check_option<'a>(alloc: Global) -> Arg<'a>
+    ensures rule { rule_of result ≡ flag (codes "check") }
+    ensures local { result.global ≡ false }
+{
+    Arg::new(alloc, "check")
+        .long("check")
+        .help(
+            "Compares the last records that both hold before, and exchanges none where two of one number differ",
+        )
+        .action(ArgAction::SetTrue)
+}
+
 /// The command `sync` and its options.
 fn sync_command<'a>(alloc: Global) -> Result<Command<'a>, AllocError>
     ensures app { IfOk result (λ command. app_of command ≡ sync_command) }
@@ -257,8 +279,9 @@ fn sync_command<'a>(alloc: Global) -> Result<Command<'a>, AllocError>
 {
     let settings = settings_option(alloc).required(true);
     let peer = peer_option(alloc).required(true);
+    let check = check_option(alloc);
     let command = Command::new(alloc, "sync").about("Calls a peer and exchanges records with it");
-    let command = command.arg(settings)?.arg(peer)?;
+    let command = command.arg(settings)?.arg(peer)?.arg(check)?;
     Ok(command)
 }
 
@@ -552,8 +575,12 @@ fn read_sync<'a>(sync: &ArgMatches<'a>) -> Result<Line<'a>, LineFault>
     let Some(settings) = sync.get_str("settings") else {
         return Err(LineFault::Words);
     };
+    let check = sync.get_flag("check");
     match sync.get_str("peer") {
-        Some(peer) => Ok(Line::Sync { settings, peer }),
+        Some(peer) => Ok(Line::Sync {
+            settings,
+            asked: SyncWords { peer, check },
+        }),
         None => Err(LineFault::Words),
     }
 }

@@ -1,3 +1,4 @@
+pub mod Clashes
 pub mod Printing
 pub mod Networks
 pub mod DumpLemmas

@@ -1,5 +1,5 @@
 -- What the clauses of an opening and of a call of a peer need (open_server, sync_over in program.rt).
-use Rattle.std.proofs.Common.{◌≡◌, ℕ, List, Option, None, Err, subst, sym}
+use Rattle.std.proofs.Common.{Bool, ◌≡◌, ℕ, List, Option, None, Err, subst, sym}
 use Rattle.std.specs.Prelude.{Result}
 use Rattle.counted_io.specs.declared.fault.ServeFault.TheVariants.{Read, Write}
 use Rattle.ua_peers.specs.declared.calling.Synced.{Synced}
@@ -7,7 +7,6 @@ use Rattle.ua_peers.specs.declared.calling.SyncFault.{SyncFault}
 use Rattle.ua_peers.specs.declared.calling.SyncFault.TheVariants as sync
 use Rattle.counted_io.specs.Bytes.{counted}
 use Rattle.counted_io.specs.Tally.{Tally}
-use Rattle.ua_peers.specs.Calling.{Syncs}
 use Rattle.ua_server.specs.Host.{KnownMachine}
 use Rattle.ua_server.proofs.Networks.{has-counted}
 use Rattle.std.specs.Result.{result_map_both}
@@ -15,7 +14,10 @@ use Rattle.archive.specs.Store.{Store}
 use Rattle.archive.specs.declared.fault.StoreFault.{StoreFault}
 use Rattle.ua_settings.specs.Settings.{SettingsValues}
 use Rattle.ua_server.specs.Host.{Machine}
-use Rattle.ua_server.specs.Program.{OpensArchive, OpensUnless, SyncsOver}
+use Rattle.ua_server.specs.Program.{OpensArchive, OpensUnless, ExchangesOver}
+use Rattle.ua_server.specs.Calls.{Exchanges}
+use Rattle.ua_server.specs.declared.calls.CallFault.{CallFault}
+use Rattle.ua_server.specs.declared.calls.CallFault.TheVariants as call
 use Rattle.ua_server.specs.declared.program.ProgramFault.{ProgramFault}
 use Rattle.ua_server.specs.declared.program.ProgramFault.TheVariants as program
 use Rattle.ua_server.specs.declared.program.StoreUse.{StoreUse}
@@ -32,31 +34,34 @@ opened-unrefused machine held uses refusal settings result old new opening none 
     subst (λ why. OpensUnless machine held uses why settings result old new) (sym none)
     (opening, opens, is)
 
--- a dialog was had over a connection that had no failed call before
-pub was-synced : (known : KnownMachine) (first last : known.Archive) (reader : known.Reader)
+-- records were exchanged over a connection that had no failed call before
+pub was-called : (known : KnownMachine) (check : Bool) (first last : known.Archive) (reader : known.Reader)
     (writer : known.Writer) (reader_counted read : Tally known.Reader)
     (writer_counted wrote : Tally known.Writer) (between after : known.Host)
-    (old now : Option (List ℕ)) (ending : Result Synced SyncFault)
+    (old now : Option (List ℕ)) (ending : Result Synced CallFault)
     → reader_counted ≡ record { inner = reader; faults = 0 }
     → writer_counted ≡ record { inner = writer; faults = 0 }
-    → Syncs (known.held first) (known.held last) (known.unread reader_counted.inner)
+    → Exchanges known.held check first last (known.unread reader_counted.inner)
     (known.unread read.inner) (known.written writer_counted.inner)
     (known.written wrote.inner) ending
-    → (ending ≡ Err (sync.Connection Read) → read.faults ≡ counted reader_counted.faults)
-    → (ending ≡ Err (sync.Connection Write) → wrote.faults ≡ counted writer_counted.faults)
-    → ((ending ≡ Err (sync.Connection Read) → ⊥) → read.faults ≡ reader_counted.faults)
-    → ((ending ≡ Err (sync.Connection Write) → ⊥) → wrote.faults ≡ writer_counted.faults)
+    → (ending ≡ Err (call.Sync (sync.Connection Read)) → read.faults ≡ counted reader_counted.faults)
+    → (ending ≡ Err (call.Sync (sync.Connection Write))
+    → wrote.faults ≡ counted writer_counted.faults)
+    → ((ending ≡ Err (call.Sync (sync.Connection Read)) → ⊥)
+    → read.faults ≡ reader_counted.faults)
+    → ((ending ≡ Err (call.Sync (sync.Connection Write)) → ⊥)
+    → wrote.faults ≡ writer_counted.faults)
     → known.machine.parts between read wrote after
-    → SyncsOver known reader writer (record { host = between; archive = first; written = old })
+    → ExchangesOver known check reader writer (record { host = between; archive = first; written = old })
     (record { host = after; archive = last; written = now }) ending
-was-synced
-    known first last reader writer reader_counted read writer_counted wrote between after old now
+was-called
+    known check first last reader writer reader_counted read writer_counted wrote between after old now
     ending begins opens syncs read_failed write_failed all_read all_written given =
     let R : Tally known.Reader → Type 0 = λ r.
-    Syncs (known.held first) (known.held last) (known.unread r.inner) (known.unread read.inner)
-    (known.written writer) (known.written wrote.inner) ending in
+    Exchanges known.held check first last (known.unread r.inner)
+    (known.unread read.inner) (known.written writer) (known.written wrote.inner) ending in
     let W : Tally known.Writer → Type 0 = λ w.
-    Syncs (known.held first) (known.held last) (known.unread reader_counted.inner)
+    Exchanges known.held check first last (known.unread reader_counted.inner)
     (known.unread read.inner) (known.written w.inner) (known.written wrote.inner) ending in (
       read,
       wrote,

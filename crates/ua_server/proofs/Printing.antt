@@ -8,6 +8,8 @@ use Rattle.ua_server.specs.declared.program.ProgramFault.{ProgramFault}
 use Rattle.ua_server.specs.declared.program.ProgramFault.TheVariants.{Line, File, Settings, BadHex, Address, DoorAddress, DoorNetwork, PeerAddress, Connection, BadOption, NoText, BadUser, NoStore, NoHeader, UnreadRows, RowsRefused}
 use Rattle.ua_server.specs.declared.program.ProgramFault.TheVariants as program
 use Rattle.ua_peers.specs.declared.calling.Synced.{Synced}
+use Rattle.ua_server.specs.declared.calls.CallFault.{CallFault}
+use Rattle.ua_server.specs.declared.calls.CallFault.TheVariants as call
 use Rattle.ua_peers.specs.declared.calling.SyncFault.{SyncFault}
 use Rattle.ua_peers.specs.declared.calling.SyncFault.TheVariants as sync
 use Rattle.ua_server.specs.declared.dumps.DumpFault.{DumpFault}
@@ -42,7 +44,7 @@ use Rattle.ua_server.specs.Exposing.{IsTaken, JudgesStrict}
 use Rattle.ua_server.specs.Host.{Machine, KnownMachine}
 use Rattle.conversation.specs.declared.door.Door.TheVariants.{Both, Clients, Peers, Browsers}
 use Rattle.ua_server.specs.Network.{Serving}
-use Rattle.ua_server.specs.Program.{SettingsAt, FindsNoPlace, OpensBy, CallsPeer, Calling, Scene, PrintsSynced, Shows, Findings, IsMistaken, DoesCommand, DoesLine, Runs, OpensUnless, line_refusal, settings_path, store_use}
+use Rattle.ua_server.specs.Program.{SettingsAt, FindsNoPlace, OpensBy, CallsPeer, Calling, Scene, PrintsCall, PrintsSynced, Shows, Findings, IsMistaken, DoesCommand, DoesLine, Runs, OpensUnless, line_refusal, settings_path, store_use}
 use Rattle.ua_server.specs.declared.program.StoreUse.{StoreUse}
 use Rattle.ua_server.specs.Telling.{Known, dump_fault, fault_of, report_fault, Readings}
 use Rattle.ua_server.proofs.ProgramParts.{IsUnbegun}
@@ -289,12 +291,20 @@ synced-line old written (Err (sync.Connection fault)) line prints = let same = p
 synced-line old written (Err (sync.Exchange fault)) line prints = let same = prints.0 in cc
 synced-line old written (Err (sync.Peer number)) line prints = let same = prints.0 in cc
 
-called-line : (known : KnownMachine) (text : List ℕ) (old new : Calling known.Host known.Archive)
-    (line : LineFault) → CallsPeer known text old new (Err (Line line)) → ⊥
-called-line known text old new line (inl (unheard, is, stays)) = absurd cc
-called-line known text old new line
-    (inr (address, spells, (reader, writer, between, called, synced, prints, over))) =
-    synced-line old.written new.written synced line prints
+call-line : (old written : Option (List ℕ)) (ending : Result Synced CallFault) (line : LineFault)
+    → PrintsCall old written ending (Err (Line line)) → ⊥
+call-line old written (Ok synced) line prints = synced-line old written (Ok synced) line prints
+call-line old written (Err (call.Sync cause)) line prints =
+    synced-line old written (Err cause) line prints
+call-line old written (Err (call.Clash clash)) line prints = let same = prints.1 in cc
+
+called-line : (known : KnownMachine) (check : Bool) (text : List ℕ)
+    (old new : Calling known.Host known.Archive) (line : LineFault)
+    → CallsPeer known check text old new (Err (Line line)) → ⊥
+called-line known check text old new line (inl (unheard, is, stays)) = absurd cc
+called-line known check text old new line
+    (inr (address, spells, (reader, writer, between, called, ending, prints, over))) =
+    call-line old.written new.written ending line prints
 
 -- that nothing is listened at isn't told as a refused line
 unheard-line : {C E : Type 0} (known : KnownMachine) (settings : SettingsValues)
@@ -323,8 +333,9 @@ never-line known gave told (Serve path count) settings first last old new fault 
     (record { host = new.host; archive = last; clock = new.clock; errors = new.errors }) fault so
 never-line known gave told (Dump path) settings first last old new fault
     (same, (dumped, dumps, is)) = dumped-line dumped fault is
-never-line known gave told (Sync path peer) settings first last old new fault (same, so) =
-    called-line known peer.now (record { host = old.host; archive = first; written = old.written })
+never-line known gave told (Sync path asked) settings first last old new fault (same, so) =
+    called-line known asked.check asked.peer.now
+    (record { host = old.host; archive = first; written = old.written })
     (record { host = new.host; archive = last; written = new.written }) fault so
 never-line known gave told (History path words) settings first last old new fault (same, so) =
     history-line known.held words first last old.written new.written fault so

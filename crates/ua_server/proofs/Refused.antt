@@ -47,6 +47,7 @@ module _ {C E : Type 0} (known : KnownMachine) (gave : Readings C) (told : Known
   no-address (program.Call fault) none same stays = absurd none
   no-address (program.Exchange fault) none same stays = absurd none
   no-address (program.Peer number) none same stays = absurd none
+  no-address (program.NumberTwice number) none same stays = absurd none
   no-address (program.BadOption fault) none same stays = absurd none
   no-address program.NoText none same stays = absurd none
   no-address program.BadUser none same stays = absurd none
@@ -98,6 +99,7 @@ none-serving settings (program.Connection fault) none = absurd none
 none-serving settings (program.Call fault) none = absurd none
 none-serving settings (program.Exchange fault) none = absurd none
 none-serving settings (program.Peer number) none = absurd none
+none-serving settings (program.NumberTwice number) none = absurd none
 none-serving settings (program.BadOption fault) none = absurd none
 none-serving settings program.NoText none = absurd none
 none-serving settings program.BadUser none = absurd none

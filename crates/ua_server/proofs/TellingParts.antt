@@ -13,7 +13,7 @@ use Rattle.counted_io.specs.declared.fault.ServeFault.{ServeFault}
 use Rattle.ua_peers.specs.declared.calling.SyncFault.{SyncFault}
 use Rattle.ua_server.specs.declared.log.ErrorLog.{ErrorLog}
 use Rattle.ua_server.specs.declared.program.ProgramFault.{ProgramFault}
-use Rattle.ua_server.specs.declared.program.ProgramFault.TheVariants.{Line, File, Settings, Store, BadHex, Address, DoorAddress, DoorNetwork, PeerAddress, WebAddress, StoreBroken, Connection, Call, Exchange, Peer, BadOption, NoText, BadUser, NoStore, NoHeader, UnreadRows, RowsRefused}
+use Rattle.ua_server.specs.declared.program.ProgramFault.TheVariants.{Line, File, Settings, Store, BadHex, Address, DoorAddress, DoorNetwork, PeerAddress, WebAddress, StoreBroken, Connection, Call, Exchange, Peer, NumberTwice, BadOption, NoText, BadUser, NoStore, NoHeader, UnreadRows, RowsRefused}
 use Rattle.ua_server.specs.Telling.{Known, words_of, number_told, numbered, fault_text, failed_text, outcome_text, call_lines, told_line, place_line, KeepsLast, LogsCall, LogsLine}
 
 -- the text of a fault without a number, and of one with it
@@ -45,6 +45,7 @@ short-words (Connection fault) number e = omega arith
 short-words (Call fault) number e = omega arith
 short-words (Exchange fault) number e = omega arith
 short-words (Peer told) number e = omega arith
+short-words (NumberTwice told) number e = omega arith
 short-words (BadOption fault) number e = absurd cc
 short-words NoText number e = absurd cc
 short-words BadUser number e = absurd cc
@@ -141,6 +142,7 @@ second-line (Connection fault) = refl
 second-line (Call fault) = refl
 second-line (Exchange fault) = refl
 second-line (Peer number) = refl
+second-line (NumberTwice number) = refl
 second-line (BadOption fault) = refl
 second-line NoText = refl
 second-line BadUser = refl

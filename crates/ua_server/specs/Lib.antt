@@ -13,4 +13,5 @@ pub mod Network
 pub mod Dumping
 pub mod Passwords
 pub mod Exposing
+pub mod Calls
 pub mod Program

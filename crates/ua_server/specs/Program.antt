@@ -29,7 +29,9 @@ use Rattle.archive.specs.Beginning.{HoldsNothing}
 use Rattle.ua_connection.specs.Environments.{Environment}
 use Rattle.ua_server.specs.Single.{AnswersAt}
 use Rattle.ua_server.specs.Dumping.{Dumps}
-use Rattle.ua_peers.specs.Calling.{Syncs}
+use Rattle.ua_server.specs.Calls.{Exchanges, PrintsClash}
+use Rattle.ua_server.specs.declared.calls.CallFault.{CallFault}
+use Rattle.ua_server.specs.declared.calls.CallFault.TheVariants as call
 use Rattle.ua_server.specs.Telling.{Known, synced_line, fault_of, dump_fault, sync_fault, Readings}
 use Rattle.ua_peers.specs.declared.calling.Synced.{Synced}
 use Rattle.ua_peers.specs.declared.calling.SyncFault.{SyncFault}
@@ -47,6 +49,7 @@ use Rattle.clap.specs.declared.error.ErrorKind.{ErrorKind}
 use Rattle.command_line.specs.declared.line.Line.{Line as CommandLine}
 use Rattle.command_line.specs.declared.line.Line.TheVariants.{Answer, Serve, Dump, Sync, History, Import, Check}
 use Rattle.command_line.specs.declared.line.HistoryWords.{HistoryWords}
+use Rattle.command_line.specs.declared.line.SyncWords.{SyncWords}
 use Rattle.command_line.specs.declared.line.ImportWords.{ImportWords}
 use Rattle.ua_server.specs.Histories.{PrintsHistory}
 use Rattle.ua_server.specs.Importing.{Importing, WritesRows, import_refusal}
@@ -243,37 +246,49 @@ PrintsSynced old written (Ok synced) (Err fault) =
     (fault ≡ Connection OutOfMemory) × (written ≡ old)
 PrintsSynced old written (Err cause) result = (result ≡ Err (sync_fault cause)) × (written ≡ old)
 
+-- Of a call that came to its end the line was printed, and of another one its fault is told; of two
+-- records of one number these were printed.
+abbrev pub PrintsCall : (old written : Option (List ℕ)) → Result Synced CallFault
+    → Result (Unit {0}) ProgramFault → Type 0
+PrintsCall old written ending result = elim ending [
+  | Ok synced ↦ PrintsSynced old written (Ok synced) result
+  | Err (call.Sync cause) ↦ PrintsSynced old written (Err cause) result
+  | Err (call.Clash clash) ↦ PrintsClash clash old written
+      × (result ≡ Err (program.NumberTwice clash.brought.number))
+]
+
 -- what a peer is called over: the machine, the archive, and what is written to the output
 abbrev pub Calling : (H A : Type 0) → Type 0
 Calling H A = record { host : H; archive : A; written : Option (List ℕ) }
 
--- a dialog was had over a connection, which was given back
-abbrev pub SyncsOver : (known : KnownMachine) → known.Reader → known.Writer
-    → (old new : Calling known.Host known.Archive) → Result Synced SyncFault → Type 0
-SyncsOver known reader writer old new synced =
-    Counts (λ fault. synced ≡ Err (sync.Connection fault))
+-- records were exchanged over a connection, which was given back
+abbrev pub ExchangesOver : (known : KnownMachine) → (check : Bool) → known.Reader → known.Writer
+    → (old new : Calling known.Host known.Archive) → Result Synced CallFault → Type 0
+ExchangesOver known check reader writer old new ending =
+    Counts (λ fault. ending ≡ Err (call.Sync (sync.Connection fault)))
     (λ read wrote. known.machine.parts old.host read wrote new.host
-    × Syncs (known.held old.archive) (known.held new.archive) (known.unread reader)
-    (known.unread read.inner) (known.written writer) (known.written wrote.inner) synced)
+    × Exchanges known.held check old.archive new.archive (known.unread reader)
+    (known.unread read.inner) (known.written writer) (known.written wrote.inner) ending)
 
 -- the peer at an address was called, as the initiator of a dialog, and what came of it is printed,
 -- or its fault told
-abbrev pub CallsAt : (known : KnownMachine) → SocketAddr
+abbrev pub CallsAt : (known : KnownMachine) → (check : Bool) → SocketAddr
     → (old new : Calling known.Host known.Archive) → Result (Unit {0}) ProgramFault → Type 0
-CallsAt known address old new result =
+CallsAt known check address old new result =
     (reader : known.Reader) × (writer : known.Writer) × (between : known.Host)
     × known.machine.calls old.host address (Some (reader, writer)) between
-    × (synced : Result Synced SyncFault) × PrintsSynced old.written new.written synced result
-    × SyncsOver known reader writer (record old { host = between }) new synced
+    × (ending : Result Synced CallFault) × PrintsCall old.written new.written ending result
+    × ExchangesOver known check reader writer (record old { host = between }) new ending
 
 -- The peer at an address was called; or nothing is had there, or the text is no address, and the
 -- archive and the output stay.
-abbrev pub CallsPeer : (known : KnownMachine) → List ℕ
+abbrev pub CallsPeer : (known : KnownMachine) → (check : Bool) → List ℕ
     → (old new : Calling known.Host known.Archive) → Result (Unit {0}) ProgramFault → Type 0
-CallsPeer known text old new result =
+CallsPeer known check text old new result =
     (IsUnreachable (known.machine.calls old.host) text old.host new.host × (result ≡ Err Address)
     × (new ≡ record old { host = new.host }))
-    ⊎ ((address : SocketAddr) × IsSocketText text address × CallsAt known address old new result)
+    ⊎ ((address : SocketAddr) × IsSocketText text address
+    × CallsAt known check address old new result)
 
 -- ---- what each command does over the archive of its settings; what it doesn't name stays as it
 -- was
@@ -330,12 +345,13 @@ DoesDumping first last old new result =
     × (result ≡ result_map_both (λ done. done) dump_fault dumped))
 
 -- `sync`: a peer is called
-abbrev pub DoesSyncing : {C E : Type 0} → (known : KnownMachine) → List ℕ
+abbrev pub DoesSyncing : {C E : Type 0} → (known : KnownMachine) → SyncWords
     → (first last : known.Archive) → (old new : Scene known.Host C E)
     → Result (Unit {0}) ProgramFault → Type 0
-DoesSyncing known peer first last old new result =
+DoesSyncing known asked first last old new result =
     (new ≡ record old { host = new.host; written = new.written })
-    × CallsPeer known peer (record { host = old.host; archive = first; written = old.written })
+    × CallsPeer known asked.check asked.peer.now
+    (record { host = old.host; archive = first; written = old.written })
     (record { host = new.host; archive = last; written = new.written }) result
 
 -- `history`: the history that its words ask for is printed, or why it isn't is told
@@ -379,7 +395,7 @@ settings_path line =
       | Answer path hex now ↦ option_copied path
       | Serve path count ↦ Some path.now
       | Dump path ↦ Some path.now
-      | Sync path peer ↦ Some path.now
+      | Sync path asked ↦ Some path.now
       | History path words ↦ Some path.now
       | Import path words ↦ Some path.now
       | Check path store ↦ Some path.now
@@ -415,7 +431,7 @@ DoesCommand known gave told line settings first last old new result =
           DoesAnswering gave settings hex now (known.held first) (known.held last) old new result
       | Serve path count ↦ DoesServing known gave told settings count first last old new result
       | Dump path ↦ DoesDumping (known.held first) (known.held last) old new result
-      | Sync path peer ↦ DoesSyncing known peer.now first last old new result
+      | Sync path asked ↦ DoesSyncing known asked first last old new result
       | History path words ↦ DoesHistory known words first last old new result
       | Import path words ↦ DoesImporting known gave settings words first last old new result
       | Check path store ↦ DoesChecking known settings store first last old new result

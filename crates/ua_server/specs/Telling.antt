@@ -8,7 +8,7 @@ use Rattle.std.specs.Result.{result_err}
 use Rattle.std.specs.Io.KnownBytes.{Appends}
 use Rattle.counted_io.specs.Fault.{serve_fault_number as connection_number}
 use Rattle.ua_server.specs.declared.program.ProgramFault.{ProgramFault}
-use Rattle.ua_server.specs.declared.program.ProgramFault.TheVariants.{Line, File, Settings, Store, BadHex, Address, DoorAddress, DoorNetwork, PeerAddress, WebAddress, StoreBroken, Connection, Call, Exchange, Peer, BadOption, NoText, BadUser, NoStore, NoHeader, UnreadRows, RowsRefused}
+use Rattle.ua_server.specs.declared.program.ProgramFault.TheVariants.{Line, File, Settings, Store, BadHex, Address, DoorAddress, DoorNetwork, PeerAddress, WebAddress, StoreBroken, Connection, Call, Exchange, Peer, NumberTwice, BadOption, NoText, BadUser, NoStore, NoHeader, UnreadRows, RowsRefused}
 use Rattle.ua_peers.specs.declared.calling.Synced.{Synced}
 use Rattle.command_line.specs.Line.{line_text_of}
 use Rattle.counted_io.specs.Bytes.{AppendsPart, counted}
@@ -73,6 +73,7 @@ words_of (Connection fault) = codes "connection ended"
 words_of (Call fault) = codes "connection ended"
 words_of (Exchange fault) = codes "exchange ended"
 words_of (Peer number) = codes "exchange ended"
+words_of (NumberTwice number) = codes "a number was given to two records"
 words_of (BadOption fault) = option_text fault
 words_of NoText = codes "history ended: a value of a type that has no text"
 words_of BadUser = codes "--user: want a user of the settings who may write"
@@ -93,6 +94,7 @@ number_told (Connection fault) = Some (connection_number fault)
 number_told (Call fault) = Some (connection_number fault)
 number_told (Exchange fault) = Some (exchange_number fault)
 number_told (Peer number) = Some number
+number_told (NumberTwice number) = Some number
 number_told fault = None
 
 -- words, and a number in brackets behind them

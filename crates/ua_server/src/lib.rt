@@ -1,6 +1,7 @@
 //! An OPC UA server over any reader, writer, clock and archive: connections of clients and of peers, and the program.
 #![tactic(auto)]
 
+mod calls;
 mod checks;
 mod connections;
 mod dumps;
@@ -20,7 +21,9 @@ mod recent;
 mod single;
 mod starting;
 
-pub use command_line::{Asked, HistoryWords, ImportWords, Line, LineFault, PerformWord, read_line};
+pub use command_line::{
+    Asked, HistoryWords, ImportWords, Line, LineFault, PerformWord, SyncWords, read_line,
+};
 pub use conversation::{
     Conversation, Door, Ended, Log, World, a_client_alone_is_answered, a_clients_door_takes_no_peer,
 };

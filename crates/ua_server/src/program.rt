@@ -9,9 +9,10 @@ ghost use Rattle.ua_connection.specs.Environments.{Environment};
 ghost use Rattle.ua_server.specs.Single.{AnswersAt};
 ghost use Rattle.ua_server.specs.Telling.{fresh_log, exit_status, LogsLine, fault_text, numbered, told_line, error_lines, synced_line, fault_of, dump_fault, sync_fault, place_line};
 ghost use Rattle.ua_server.specs.Host.{known_machine};
-ghost use Rattle.ua_server.specs.Program.{OpensArchive, OpensBy, PrintsSynced, PrintsText, CallsPeer, DoesCommand, DoesAndCloses, DoesLine, HasUserName, Runs, findings_in, line_refusal, scene_of, settings_path, store_use};
+ghost use Rattle.ua_server.specs.Program.{OpensArchive, OpensBy, PrintsCall, PrintsSynced, PrintsText, CallsPeer, DoesCommand, DoesAndCloses, DoesLine, HasUserName, Runs, findings_in, line_refusal, scene_of, settings_path, store_use};
 ghost use Rattle.ua_server.specs.Dumping.{Dumps};
 
+use crate::calls::{CallFault, exchange_over, print_clash};
 use crate::checks::check_over;
 use crate::connections::serve_at;
 use crate::dumps::{DumpFault, dump};
@@ -23,7 +24,7 @@ use crate::imports::{import_over, import_refusal};
 use crate::log::ErrorLog;
 use crate::single::answer_at;
 use archive::{Archive, StoreFault};
-use command_line::{Asked, Line, LineFault, read_line};
+use command_line::{Asked, Line, LineFault, SyncWords, read_line};
 use conversation::World;
 use counted_io::{Counted, ServeFault};
 use exchange::ExchangeFault;
@@ -38,7 +39,7 @@ use std::io::{Read, Write};
 use std::net::SocketAddr;
 use ua_binary::Text;
 use ua_connection::Clock;
-use ua_peers::{SyncFault, Synced, sync};
+use ua_peers::{SyncFault, Synced};
 use ua_settings::{Settings, SettingsFault};
 
 /// What went wrong in a run of the program.
@@ -74,6 +75,8 @@ pub enum ProgramFault {
     Exchange(ExchangeFault),
     /// The peer ended the exchange by this number.
     Peer(u32),
+    /// This number of a replica was given to two records, of which a peer holds the one.
+    NumberTwice(u64),
     /// What a history is asked by is none.
     BadOption(OptionFault),
     /// A history has a value that has no text.
@@ -112,6 +115,7 @@ impl ProgramFault {
             ProgramFault::StoreBroken => "store broken",
             ProgramFault::Connection(_) | ProgramFault::Call(_) => "connection ended",
             ProgramFault::Exchange(_) | ProgramFault::Peer(_) => "exchange ended",
+            ProgramFault::NumberTwice(_) => "a number was given to two records",
             ProgramFault::BadOption(fault) => fault.text(),
             ProgramFault::NoText => "history ended: a value of a type that has no text",
             ProgramFault::BadUser => "--user: want a user of the settings who may write",
@@ -136,6 +140,7 @@ impl ProgramFault {
             ProgramFault::Peer(number) => Some(u64::from(*number)),
             ProgramFault::DoorNetwork(number)
             | ProgramFault::PeerAddress(number)
+            | ProgramFault::NumberTwice(number)
             | ProgramFault::RowsRefused(number) => Some(*number),
             ProgramFault::Line(_)
             | ProgramFault::File
@@ -175,6 +180,7 @@ impl ProgramFault {
             | ProgramFault::Call(_)
             | ProgramFault::Exchange(_)
             | ProgramFault::Peer(_)
+            | ProgramFault::NumberTwice(_)
             | ProgramFault::BadOption(_)
             | ProgramFault::NoText
             | ProgramFault::BadUser
@@ -364,25 +370,34 @@ fn print_synced<W: Write>(
         .map_err(|_| ProgramFault::Connection(ServeFault::Write))
 }
 
-/// Prints the line of a dialog that came to its end; of another one its fault is told.
-fn report_synced<W: Write>(
+/// Prints the line of a call that came to its end. Of another one its fault is told, and behind two records of one number these
+/// are printed.
+fn report_call<W: Write>(
     alloc: Global,
-    ending: Result<Synced, SyncFault>,
+    ending: Result<Synced, CallFault>,
     output: &mut Counted<W>,
 ) -> Result<(), ProgramFault>
-    ensures prints { PrintsSynced (W.contents output.old.inner)
+    ensures prints { PrintsCall (W.contents output.old.inner)
         (W.contents output.new.inner) ending result }
     ensures read { IsErrOf result (ProgramFault.Connection ServeFault.Read) → ⊥ }
     ensures write { IsErrOf result (ProgramFault.Connection ServeFault.Write)
         → output.new.faults ≡ counted output.old.faults }
 {
-    print_synced(alloc, ending.map_err(sync_fault)?, output)
+    match ending {
+        Ok(synced) => print_synced(alloc, synced, output),
+        Err(CallFault::Sync(fault)) => Err(sync_fault(fault)),
+        Err(CallFault::Clash(clash)) => {
+            print_clash(alloc, &clash, output);
+            Err(ProgramFault::NumberTwice(clash.brought.number))
+        }
+    }
 }
 
-/// Calls the peer at an address, exchanges records with it, and prints how many were moved.
+/// Calls the peer at an address, exchanges records with it, and prints how many were moved; where that is asked for, the last
+/// records that both hold are compared before.
 fn sync_over<H: Host, W: Write>(
     server: &mut Server<H::Archive>,
-    peer: &str,
+    asked: SyncWords<'_>,
     host: &mut H,
     output: &mut Counted<W>,
 ) -> Result<(), ProgramFault>
@@ -392,7 +407,7 @@ fn sync_over<H: Host, W: Write>(
     ensures calls { CallsPeer
         (known_machine H.means H.Archive.state H.Source.effects H.Source.Reader.input
         H.Source.Writer.output H.Reader.remaining H.Writer.contents)
-        peer.now
+        asked.entry.check asked.entry.peer.now
         (record {
           host = host.old;
           archive = server.old.replica.archive;
@@ -404,7 +419,7 @@ fn sync_over<H: Host, W: Write>(
           written = W.contents output.new.inner;
         }) result }
 {
-    let Ok(address) = peer.parse::<SocketAddr>() else {
+    let Ok(address) = asked.peer.parse::<SocketAddr>() else {
         return Err(ProgramFault::Address);
     };
     let Some((reader, writer)) = host.call(address) else {
@@ -412,9 +427,9 @@ fn sync_over<H: Host, W: Write>(
     };
     let mut reader = Counted::new(reader);
     let mut writer = Counted::new(writer);
-    let ending = sync(server.alloc, &mut server.replica, &mut reader, &mut writer);
+    let ending = exchange_over(server, asked.check, &mut reader, &mut writer);
     host.part(reader, writer);
-    report_synced(server.alloc, ending, output)
+    report_call(server.alloc, ending, output)
 }
 
 /// The path of a command's settings.
@@ -506,7 +521,7 @@ fn do_command<H: Host, C: Clock, R: Read, W: Write, E: Write>(
         }
         Line::Serve { connections, .. } => serve_at(world, connections, host),
         Line::Dump { .. } => dump_over(&mut world.server, output),
-        Line::Sync { peer, .. } => sync_over(&mut world.server, peer, host, output),
+        Line::Sync { asked, .. } => sync_over(&mut world.server, asked, host, output),
         Line::History { asked, .. } => history_over(&mut world.server, asked, output),
         Line::Import { asked, .. } => {
             import_over(&mut world.server, &mut world.clock, asked, input, output)
@@ -607,16 +622,24 @@ fn print_text<W: Write>(text: &[u8], output: &mut Counted<W>) -> Result<(), Prog
 /// name is opened; where it gives a moment, the clock isn't read. What a connection over the network ended by is told on
 /// `errors` when it ends. The clock and `errors` are given back.
 ///
-/// Errors: `Line` where the words are no command, `File` and `Settings` where the settings file can't be read or is refused,
-/// `Store` where the settings' store can't be opened, or can't be read for a dump, `Address` where the settings' address, or
-/// that of the peer to be called, is none, or can't be listened at or called, `DoorAddress`, `PeerAddress` and `WebAddress` the same of
-/// the settings' door, of a peer that the server is to call, and of where browsers come to, `BadHex` where the input is to be hex and
-/// isn't, `Connection` where the connection of standard input met a fault, or a dump's writer did, or that of the line of a
-/// call of a peer, and of such a call
-/// `Call` where its connection met a fault, `Exchange` where the exchange met one here, and `Peer` where the peer ended it
-/// by a number; `BadOption` where an option of `history` says nothing of its kind, and `NoText` where a value of it has no text; of an import
-/// `BadUser` where its user isn't one who may write, `NoStore` where the settings name no store, `NoHeader` where its rows don't begin by their header, `UnreadRows` where
-/// they can't be read, and `RowsRefused` where some were refused. What went out before it stands, and what was learned or written.
+/// Errors; what went out before one stands, and what was learned or written:
+///
+/// | Error | Where |
+/// |---|---|
+/// | `Line` | the words are no command |
+/// | `File`, `Settings` | the settings file can't be read, or is refused |
+/// | `Store` | the settings' store can't be opened, or can't be read for what is printed |
+/// | `StoreBroken` | the store broke while it was served, and the settings say that this ends it |
+/// | `Address` | the settings' address, or that of the peer to be called, is none, or can't be listened at or called |
+/// | `DoorAddress`, `WebAddress` | the same of the settings' door, and of where browsers come to |
+/// | `DoorNetwork`, `PeerAddress` | the text of a network of the door, or of a peer that the server is to call, is none |
+/// | `BadHex` | the input is to be hex, and isn't |
+/// | `Connection` | the connection of standard input met a fault, or the writer of what is printed did |
+/// | `Call`, `Exchange`, `Peer` | the call of a peer: its connection met a fault, the exchange met one here, or the peer ended it by a number |
+/// | `NumberTwice` | the peer that was called holds another record of a number than this archive |
+/// | `BadOption`, `NoText` | an option of `history` says nothing of its kind; a value of the history has no text |
+/// | `BadUser`, `NoStore` | the user of an import isn't one who may write; its settings name no store |
+/// | `NoHeader`, `UnreadRows`, `RowsRefused` | the rows of an import don't begin by their header, can't be read, or some were refused |
 #[tactic(auto, using(crate::proofs::Printing::lines))]
 pub fn run<S: AsStr, H: Host, C: Clock + Copy, R: Read, W: Write, E: Write>(
     alloc: Global,
@@ -670,10 +693,15 @@ pub(crate) fn tell<W: Write>(text: &[u8], errors: &mut Counted<W>) -> Result<(),
     }
 }
 
-/// Tells on `errors` what went wrong, in a line that begins with `uahist: `, and where settings are refused in a second one;
-/// answers the exit status: 0 where nothing went wrong, 1 where a connection ended by a fault, a value has no text or rows were
-/// refused, 2 where the command line, the settings or the input was refused, 3 where the store was. Of a line that can't be written whole a first part stands, and the failed call is
-/// counted.
+/// Tells on `errors` what went wrong, in a line that begins with `uahist: `, and where settings are refused in a second one.
+/// Of a line that can't be written whole a first part stands, and the failed call is counted. Answers the exit status:
+///
+/// | Status | Where |
+/// |---|---|
+/// | 0 | nothing went wrong |
+/// | 1 | an address can't be listened at or called; a connection or an exchange ended by a fault, or a number was given to two records; a value has no text; rows can't be read or were refused |
+/// | 2 | the command line, the settings, an option or the input was refused, or the settings name no store |
+/// | 3 | the store was refused, or it broke |
 pub fn report<W: Write>(ending: Result<(), ProgramFault>, errors: &mut Counted<W>) -> u8
     ensures status { result ≡ exit_status ending }
     ensures silent { OnOk ending (errors.new ≡ errors.old) }
@@ -703,6 +731,7 @@ pub fn report<W: Write>(ending: Result<(), ProgramFault>, errors: &mut Counted<W
         | ProgramFault::Call(_)
         | ProgramFault::Exchange(_)
         | ProgramFault::Peer(_)
+        | ProgramFault::NumberTwice(_)
         | ProgramFault::NoText
         | ProgramFault::UnreadRows
         | ProgramFault::RowsRefused(_) => 1,

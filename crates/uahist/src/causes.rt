@@ -194,6 +194,9 @@ pub(crate) fn of_ending(
             said.or(Some("not an address: want one as 127.0.0.1:4840"))
         }
         ProgramFault::DoorNetwork(_) => Some("not a network: want one as 10.1.0.0/16"),
+        ProgramFault::NumberTwice(_) => {
+            Some("an old copy of a store was put back, or two machines have one number")
+        }
         _ => None,
     }
 }

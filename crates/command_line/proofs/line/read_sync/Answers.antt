@@ -1,19 +1,19 @@
 use Rattle.std.proofs.Common.{◌≡◌, List, Some, None, ◌∙◌, ap, sym, codes}
 use Rattle.std.specs.Prelude.{Option, option_map}
 use Rattle.clap.specs.Matches.{first_value}
-use Rattle.clap.specs.Words.{Row, first_of, found_of, rows_of}
-use Rattle.command_line.specs.Line.{IsSync, NoLine}
+use Rattle.clap.specs.Words.{Row, first_of, one_of, found_of, rows_of}
+use Rattle.command_line.specs.Line.{IsSync, IsFlag, NoLine}
 use Rattle.command_line.specs.declared.line.Line.TheVariants.{Sync}
-use Rattle.clap.proofs.WalkLemmas.{first_value-rows}
+use Rattle.clap.proofs.WalkLemmas.{first_value-rows, one_text-rows}
 use Rattle.command_line.proofs.Lines.{mapped}
 use Rattle.command_line.proofs.line.read_sync.Goals as goal
 
 not_set : (rows : List Row) → first_of (codes "settings") rows ≡ None → NoLine (IsSync rows)
-not_set rows none (Sync path address) h = let wrong = sym none ∙ h.0 in cc
+not_set rows none (Sync path asked) h = let wrong = sym none ∙ h.0 in cc
 not_set rows none _ h = absurd h
 
 not_told : (rows : List Row) → first_of (codes "peer") rows ≡ None → NoLine (IsSync rows)
-not_told rows none (Sync path address) h = let wrong = sym none ∙ h.1 in cc
+not_told rows none (Sync path asked) h = let wrong = sym none ∙ h.1.peer in cc
 not_told rows none _ h = absurd h
 
 pub returns-in_default-clause-words : goal.returns-in_default-clause-words
@@ -25,13 +25,21 @@ returns-in_default-clause-words c =
 
 pub returns-in-Some-get_str-clause-ok : goal.returns-in-Some-get_str-clause-ok
 returns-in-Some-get_str-clause-ok c =
-    let found = found_of c.args.sync.now in (
+    let found = found_of c.args.sync.now in
+    let check : IsFlag (one_of (codes "check") (rows_of found)) c.get_flag-check.result = (
+      λ e. c.get_flag-check.ensures.value (one_text-rows found (codes "check") ∙ e),
+      λ e. c.get_flag-check.ensures.other (one_text-rows found (codes "check") ∙ e),
+      λ e. c.get_flag-check.ensures.none (one_text-rows found (codes "check") ∙ e),
+    ) in (
       sym (first_value-rows found (codes "settings"))
           ∙ mapped _ c.get_str.result (Some c.in-Some.settings)
           (first_value found (codes "settings")) c.get_str.ensures c.in-Some.is,
-      sym (first_value-rows found (codes "peer"))
-          ∙ mapped _ c.get_str-2.result (Some c.in-Some-get_str.peer)
-          (first_value found (codes "peer")) c.get_str-2.ensures c.in-Some-get_str.is,
+      record {
+        peer = sym (first_value-rows found (codes "peer"))
+            ∙ mapped _ c.get_str-2.result (Some c.in-Some-get_str.peer)
+            (first_value found (codes "peer")) c.get_str-2.ensures c.in-Some-get_str.is;
+        check = check;
+      },
     )
 
 pub returns-in-None-clause-words : goal.returns-in-None-clause-words

@@ -1,6 +1,6 @@
 use Rattle.std.proofs.Common.{rules, refl, inl, inr}
 use Rattle.ua_server.specs.Host.{known_machine}
-use Rattle.ua_server.proofs.Opened.{was-synced}
+use Rattle.ua_server.proofs.Opened.{was-called}
 use Rattle.ua_server.proofs.program.sync_over.Goals as goal
 
 pub returns-in_default-clause-calls : goal.returns-in_default-clause-calls
@@ -20,15 +20,17 @@ returns-clause-calls g c =
     known_machine g.H.Host.means g.H.Archive.Archive.state g.H.Source.Source.effects
     g.H.Source.Reader.NonBlockingRead.input g.H.Source.Writer.NonBlockingWrite.output
     g.H.Reader.Read.remaining g.H.Writer.Write.contents in
-    let ends = c.sync-ending.ensures in
+    let ends = c.exchange_over-ending.ensures in
     let over =
-    was-synced known c.args.server.now.replica.archive c.sync-ending.new.replica.archive
-    c.in-Some.reader c.in-Some.writer c.new-reader.result c.sync-ending.new.reader
+    was-called known c.args.asked.check c.args.server.now.replica.archive
+    c.exchange_over-ending.new.server.replica.archive
+    c.in-Some.reader c.in-Some.writer c.new-reader.result c.exchange_over-ending.new.reader
     c.new-writer.result
-    c.sync-ending.new.writer c.call.new.self c.part.new.self
+    c.exchange_over-ending.new.writer c.call.new.self c.part.new.self
     (g.W.Write.contents c.args.output.now.inner)
-    (g.W.Write.contents c.report_synced.new.output.inner)
-    c.sync-ending.result c.new-reader.ensures c.new-writer.ensures ends.syncs ends.reads.counts
+    (g.W.Write.contents c.report_call.new.output.inner)
+    c.exchange_over-ending.result c.new-reader.ensures c.new-writer.ensures ends.exchanges
+    ends.reads.counts
     ends.writes.counts ends.reads.keeps ends.writes.keeps c.part.ensures in
     inr (
       c.in-Ok.address,
@@ -38,8 +40,8 @@ returns-clause-calls g c =
         c.in-Some.writer,
         c.call.new.self,
         rw (← c.in-Some.is) c.call.ensures,
-        c.sync-ending.result,
-        c.report_synced.ensures.prints,
+        c.exchange_over-ending.result,
+        c.report_call.ensures.prints,
         over,
       ),
     )

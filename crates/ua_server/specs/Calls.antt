@@ -1,0 +1,108 @@
+-- A peer that is called by hand: what is exchanged with it, and what is told of a number that was
+-- given twice.
+use Rattle.std.specs.Prelude.{◌≡◌, ◌⊎◌, ℕ, List, [], ◌∷◌, ◌++◌, Bool, true, false, Option, None, Some, Result, Ok, Err, IfOk, codes}
+use Rattle.std.specs.Fmt.{decimal}
+use Rattle.std.specs.Result.{result_map_both}
+use Rattle.csv.specs.Writing.{default_writer, row_text}
+use Rattle.records.specs.declared.record.Record.{Record}
+use Rattle.records.specs.declared.shown.Entry.{Entry}
+use Rattle.archive.specs.Store.{Store}
+use Rattle.counted_io.specs.Bytes.{AppendsPart}
+use Rattle.exchange.specs.Dialogs.{party_of}
+use Rattle.history_csv.specs.Rows.{AreChangeFields}
+use Rattle.peer_check.specs.Comparing.{ComparesWith, AsksAlone, AsksOnly}
+use Rattle.peer_check.specs.declared.comparing.Clash.{Clash}
+use Rattle.ua_peers.specs.Calling.{Syncs}
+use Rattle.ua_peers.specs.declared.calling.Synced.{Synced}
+use Rattle.ua_peers.specs.declared.calling.SyncFault.{SyncFault}
+use Rattle.ua_server.specs.declared.calls.CallFault.{CallFault}
+use Rattle.ua_server.specs.declared.calls.CallFault.TheVariants as call
+
+-- ---- the call
+
+-- a fault of a comparison or of a dialog, as one of a call
+abbrev pub dialog_fault : SyncFault → CallFault
+dialog_fault fault = call.Sync fault
+
+-- the last records that both hold were compared over a connection, and this was found
+pub record Compares (old new : Store) (unread left before after : Option (List ℕ))
+    (found : Result (Option Clash) SyncFault) : Type 0 where
+  pub alone : AsksAlone old new found
+  pub says : AsksOnly (party_of old) before after
+  pub finds : IfOk found (ComparesWith old new unread left before after)
+
+-- a dialog was had over a connection, and the call ended as it did
+abbrev pub HasDialog : (old new : Store) → (unread left before after : Option (List ℕ))
+    → Result Synced CallFault → Type 0
+HasDialog old new unread left before after ending =
+    (synced : Result Synced SyncFault) × Syncs old new unread left before after synced
+    × (ending ≡ result_map_both (λ moved. moved) dialog_fault synced)
+
+-- nothing clashed, and a dialog was had behind it; held tells what an archive holds
+pub record AgreesFirst {A : Type 0} (held : A → Store) (old new : A)
+    (unread left before after : Option (List ℕ)) (ending : Result Synced CallFault) : Type 0 where
+  pub middle : A
+  pub rest : Option (List ℕ)
+  pub between : Option (List ℕ)
+  pub agrees : Compares (held old) (held middle) unread rest before between (Ok None)
+  pub dialog : HasDialog (held middle) (held new) rest left between after ending
+
+-- a clash was found, or comparing met a fault, and no record moved
+abbrev pub EndsCompared : (old new : Store) → (unread left before after : Option (List ℕ))
+    → Result Synced CallFault → Type 0
+EndsCompared old new unread left before after ending =
+    ((clash : Clash) × Compares old new unread left before after (Ok (Some clash))
+    × (ending ≡ Err (call.Clash clash)))
+    ⊎ ((fault : SyncFault) × Compares old new unread left before after (Err fault)
+    × (ending ≡ Err (dialog_fault fault)))
+
+-- records were exchanged with a peer; where that is asked for the last ones were compared before
+abbrev pub Exchanges : {A : Type 0} → (held : A → Store) → (check : Bool) → (old new : A)
+    → (unread left before after : Option (List ℕ)) → Result Synced CallFault → Type 0
+Exchanges held false old new unread left before after ending =
+    HasDialog (held old) (held new) unread left before after ending
+Exchanges held true old new unread left before after ending =
+    AgreesFirst held old new unread left before after ending
+    ⊎ EndsCompared (held old) (held new) unread left before after ending
+
+-- ---- what is told of a clash
+
+-- a record as a modification that shows its own value
+abbrev pub entry_of : Record → Entry
+entry_of r = record {
+  time = r.time;
+  value = Some r.value;
+  kind = r.asked;
+  tick = r.tick;
+  origin = r.origin;
+  user = r.user;
+}
+
+-- what stands in front of a record's row: where it is held, its replica and its number
+abbrev pub row_front : (place : List ℕ) → Record → List ℕ
+row_front place r =
+    place ++ (codes "," ++ (decimal r.origin ++ (codes "," ++ (decimal r.number ++ codes ","))))
+
+-- a row of the table, and behind that what the record is
+abbrev pub IsClashRow : (place : List ℕ) → Record → List ℕ → Type 0
+IsClashRow place r row =
+    (fields : List (List ℕ)) × AreChangeFields r.node (entry_of r) fields
+    × (row ≡ row_front place r ++ row_text default_writer fields)
+
+-- the names of its columns
+abbrev pub clash_names : List ℕ
+clash_names = codes "held,replica,number,node,time,value,status,change,changed,user" ++ 10 ∷ []
+
+-- a table of two records of one number, as CSV
+abbrev pub IsClashTable : Clash → List ℕ → Type 0
+IsClashTable clash table =
+    (held : List ℕ) × (brought : List ℕ) × IsClashRow (codes "here") clash.held held
+    × IsClashRow (codes "there") clash.brought brought
+    × (table ≡ clash_names ++ (held ++ brought))
+
+-- such a table was printed, or a first part of it; nothing where memory for it was wanting, or a
+-- value has no text
+abbrev pub PrintsClash : Clash → (before after : Option (List ℕ)) → Type 0
+PrintsClash clash before after =
+    (after ≡ before)
+    ⊎ ((table : List ℕ) × IsClashTable clash table × AppendsPart before after table)
