@@ -177,7 +177,7 @@ static MANY: [Stretch; 4] = [
     (false, 1, 2000, TOO_MANY, 0),
     (false, 1, 1002, TOO_MANY, 0),
     (false, 1001, 1001, GOOD, 1),
-    (false, 1, 2000, GOOD, 1000),
+    (false, 1, 201, GOOD, 200),
 ];
 
 #[test]

@@ -10,12 +10,12 @@ use std::alloc::Global;
 use std::net::SocketAddr;
 use ua_server::{
     Asked, ConstantClock, Counted, Door, HistoryWords, Host, ImportWords, Line, LineFault,
-    Listening, PerformWord, ProgramFault, ServeFault, read_line, report, run,
+    Listening, PerformWord, ProgramFault, ServeFault, SyncWords, read_line, report, run,
 };
 use uuid::Uuid;
 
 /// Command lines, and what they are.
-static LINES: [(&[&str], Result<Line<'static>, LineFault>); 50] = [
+static LINES: [(&[&str], Result<Line<'static>, LineFault>); 52] = [
     (
         &[
             "uahist",
@@ -27,8 +27,25 @@ static LINES: [(&[&str], Result<Line<'static>, LineFault>); 50] = [
         ],
         Ok(Line::Sync {
             settings: "plant.toml",
-            peer: "10.0.0.2:4840",
+            asked: SyncWords {
+                peer: "10.0.0.2:4840",
+                check: false,
+            },
         }),
+    ),
+    (
+        &["uahist", "sync", "--check", "--settings=a", "--peer=b"],
+        Ok(Line::Sync {
+            settings: "a",
+            asked: SyncWords {
+                peer: "b",
+                check: true,
+            },
+        }),
+    ),
+    (
+        &["uahist", "sync", "--settings=a", "--peer=b", "--check=yes"],
+        Err(LineFault::Words),
     ),
     (&["uahist", "sync"], Err(LineFault::Words)),
     (
@@ -640,7 +657,7 @@ static RUNS: [(&[&str], &[u8], usize, &str, &str, u8); 62] = [
         b"",
         1000,
         "",
-        "uahist: usage: uahist answer [--settings FILE] [--hex] [--now N] | serve --settings FILE [--connections N] | dump --settings FILE | sync --settings FILE --peer ADDRESS | history --settings FILE --node ID [--from T] [--to T] [--changes] [--csv] [--html] | import --settings FILE --user NAME [--perform insert|replace|update] | check --settings FILE [--store]\n",
+        "uahist: usage: uahist answer [--settings FILE] [--hex] [--now N] | serve --settings FILE [--connections N] | dump --settings FILE | sync --settings FILE --peer ADDRESS [--check] | history --settings FILE --node ID [--from T] [--to T] [--changes] [--csv] [--html] | import --settings FILE --user NAME [--perform insert|replace|update] | check --settings FILE [--store]\n",
         2,
     ),
     (
@@ -1533,6 +1550,11 @@ fn tells_each_fault(rt: HostRuntime) {
         (
             ProgramFault::UnreadRows,
             "uahist: import ended: the rows can't be read\n",
+            1,
+        ),
+        (
+            ProgramFault::NumberTwice(17),
+            "uahist: a number was given to two records (17)\n",
             1,
         ),
         (
