@@ -784,6 +784,15 @@ def copies():
         called.stop()
         return (done.out.decode() + done.said).strip().replace("uahist: ", "")
 
+    def checked(caller, called, replica=1):
+        called.start()
+        done = run([program, "sync", "--check", "--settings", caller.settings, "--peer", f"127.0.0.1:{called.port}"], most=30)
+        called.stop()
+        rows = done.out.decode().splitlines()
+        found = done.status == 1 and "a number was given to two records" in done.said
+        whole = len(rows) == 3 and rows[0].startswith("held,replica,number,") and rows[1].startswith(f"here,{replica},") and rows[2].startswith(f"there,{replica},")
+        return "found, and both are printed" if found and whole else (done.out.decode() + done.said).strip()
+
     def files(server):
         return [server.store + end for end in ("", "-wal") if os.path.exists(server.store + end)]
 
@@ -804,18 +813,42 @@ def copies():
         for path, copy in kept:
             shutil.copy(copy, path)
         writes(one, range(NOW + 200, NOW + 200 + new), 3)
+        before = [server.dump() for server in (one, two)]
+        looked = [checked(one, two), checked(two, one)] if new else []
+        stays = before == [server.dump() for server in (one, two)]
         first, second = exchanged(one, two), exchanged(one, two)
         what = f"an old copy of 5 records, put back where 5 more were exchanged, and {new} written since"
+        if new:
+            tell(looked == 2 * ["found, and both are printed"] and stays, f"{what}: `sync --check` finds it from either machine, prints both, and changes nothing", looked)
         if new == 0:
             tell(first == "learned 5 sent 0" and one.dump() == two.dump(), f"{what}: {first}, and the dumps are equal", first)
         elif new < 5:
             tell("exchange ended (3)" in first, f"{what}: {first}", first)
         else:
-            note(f"{what}: {first}, then {second}; {apart(one, two)} of {len(one.dump().splitlines())} records differ, and nothing tells of it")
+            note(f"{what}: without `--check` {first}, then {second}; {apart(one, two)} of {len(one.dump().splitlines())} records differ, and nothing tells of it")
+    one, two, hub = Server(3), Server(4), Server(2)
+    writes(one, range(NOW, NOW + 3), 1)
+    exchanged(one, two)
+    kept = [(path, path + ".kept") for path in files(one)]
+    for path, copy in kept:
+        shutil.copy(path, copy)
+    writes(one, range(NOW + 100, NOW + 103), 2)
+    exchanged(one, two)
+    for path in files(one):
+        os.remove(path)
+    for path, copy in kept:
+        shutil.copy(copy, path)
+    writes(one, range(NOW + 200, NOW + 203), 3)
+    writes(hub, range(NOW + 1000, NOW + 3500), 4)
+    exchanged(hub, two)
+    looked = [checked(one, two, 3), checked(two, one, 3)]
+    tell(looked == 2 * ["found, and both are printed"], "an old copy, put back behind 2,500 records of another machine, which fill frames: `sync --check` finds it from either machine", looked)
     one, two, hub = Server(2), Server(2), Server(1)
     writes(one, range(NOW, NOW + 3), 1)
     writes(two, range(NOW + 10, NOW + 13), 2)
     told = [exchanged(hub, one), exchanged(hub, two), exchanged(one, two)]
+    looked = checked(hub, two, 2)
+    tell(looked == "found, and both are printed", "one number at two machines, behind a third: `sync --check` from there finds it", looked)
     note(f"one number at two machines, behind a third: {told[0]}, then {told[1]}; {apart(one, two)} of 3 records differ, and nothing tells of it")
     tell("exchange ended (5)" in told[2], f"the two themselves: {told[2]}", told[2])
     shutil.copy(one.store, two.store)

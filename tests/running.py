@@ -20,6 +20,7 @@ STATED = [
     (1, r"(door's |page's |)address refused\nuahist: [^\n]{1,80}\n"),
     (1, r"peer's address refused \(\d+\)\nuahist: [^\n]{1,80}\n"),
     (1, r"exchange ended \(\d+\)\n"),
+    (1, r"a number was given to two records \(\d+\)\nuahist: [^\n]{1,80}\n"),
     (2, r"--(node|from|to): want a .*\n"),
     (1, r"history ended: a value of a type that has no text\n"),
     (2, r"--user: want a user of the settings who may write\n"),
