@@ -122,7 +122,10 @@ fn found_with(
 ) -> (usize, Result<Option<Clash>, SyncFault>) {
     let (mut questions, mut found) = compared(alloc, one, &[]);
     let mut asked = 1;
-    while is_unanswered(&found) && asked < 8 {
+    for _ in 0..8 {
+        if !is_unanswered(&found) {
+            break;
+        }
         let back = answered(alloc, two, questions.as_slice());
         let (more, then) = compared(alloc, one, back.as_slice());
         if more.len() > questions.len() {
