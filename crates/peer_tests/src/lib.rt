@@ -2,8 +2,6 @@
 #![tactic(auto)]
 
 #[cfg(test)]
-mod comparing;
-#[cfg(test)]
 mod network;
 #[cfg(test)]
 mod peers;
