@@ -389,7 +389,7 @@ static RUNS: [(&[&str], &[u8], usize, &str, &str, u8); 62] = [
         &["uahist", "help", "sync"],
         b"",
         9000,
-        "Calls a peer and exchanges records with it\n\nUsage: uahist sync --settings <FILE> --peer <ADDRESS>\n",
+        "Calls a peer and exchanges records with it\n\nUsage: uahist sync [OPTIONS] --settings <FILE> --peer <ADDRESS>\n",
         "",
         0,
     ),
