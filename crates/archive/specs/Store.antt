@@ -138,7 +138,7 @@ answer_to finding =
 
 -- a record is learned: what it meets is answered, and the content is the old one, with the record
 -- where that is added; a fault of the store leaves the content as it was. Behind Ok the record is
--- durable: by `leaves` a crash leaves the new content alone, as long as the store isn't broken
+-- durable: a crash leaves the new content alone, as long as the store isn't broken (`leaves`)
 pub record Learns (old new : Store) (r : Record) (result : Result Bool LearnFault) : Type 0 where
   pub answered : new.honest → store_fault_in result ≡ None
       → (result ≡ answer_to (finding old.content r))

@@ -14,7 +14,7 @@ use Rattle.hist_update.specs.declared.request.Request.{Request}
 use Rattle.hist_update.specs.Outcome.{Operation, outcome, content_after}
 use Rattle.exchange.specs.declared.world.Halted.{Halted}
 use Rattle.exchange.specs.Worlds.{ReplicaState, World, Event, Operates, Sends, Delivers, Restarts, after_event, run, operated, sent, delivered}
-use Rattle.exchange.specs.Running.{IsSiteOf, world_of, Halts, AreSites, AreHonest, IsBroken, Comes, Happens, RunsWorld, Turned, Turns, IsSame, IsSameOr, HasFirst, Gives, came_in, HasSome, place_of, reads_store, turned, pooled, IsHalf, Became, TurnsBy}
+use Rattle.exchange.specs.Running.{IsSiteOf, world_of, Halts, AreSites, AreHonest, IsBroken, Comes, Happens, RunsWorld, Turned, Turns, IsSame, IsSameOr, HasLearnedFirst, Gives, came_in, HasSome, place_of, reads_store, turned, pooled, IsHalf, Became, TurnsBy}
 use Rattle.std.proofs.lemmas.List.{take_all, set-set}
 use Rattle.std.specs.List.{list_any}
 use Rattle.std.proofs.lemmas.Bool.{cases_eq, cases_lt}
@@ -60,7 +60,7 @@ came_none a pool place count none = record {
 
 pub came_some : (a b : Store) (pool : List (List Record)) (place count : ℕ) (rs first : List Record)
     (result : Result (Unit {0}) Halted) → slice_get pool place ≡ Some rs → first ≡ take count rs
-    → Turns a b (merged first) (HasFirst first) result
+    → Turns a b (merged first) (HasLearnedFirst first) result
     → Turns a b (came_in pool place count) (HasSome pool place count) result
 came_some a b pool place count rs first result some is turns = record {
   faults = turns.faults;
@@ -74,7 +74,7 @@ came_some a b pool place count rs first result some is turns = record {
         option_map_or (λ batch. merged (take k batch) R) o R) some
 
     by_result : (res : Result (Unit {0}) Halted) (R S : Content)
-        → Turned (merged first) (HasFirst first) res R S
+        → Turned (merged first) (HasLearnedFirst first) res R S
         → Turned (came_in pool place count) (HasSome pool place count) res R S
     by_result (Ok u) R S so = so ∙ (ap (λ l. merged l R) is ∙ sym (came_at count R))
     by_result (Err end) R S so =

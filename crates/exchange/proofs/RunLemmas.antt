@@ -36,7 +36,7 @@ use Rattle.hist_update.proofs.UpdatesParts.{all_good}
 use Rattle.hist_update.proofs.Answered.{bad_kept}
 use Rattle.exchange.specs.declared.world.Halted.{Halted}
 use Rattle.exchange.specs.Merging.{AreLearned, Meets, IsRefusal}
-use Rattle.exchange.specs.Running.{Turns, IsSame, IsSameOr, HasFirst, EndsBy, IsClear, update_status}
+use Rattle.exchange.specs.Running.{Turns, IsSame, IsSameOr, HasLearnedFirst, EndsBy, IsClear, update_status}
 use Rattle.exchange.proofs.MergeLemmas.{are_learned_push, learned_told, refused_left, merged_stops}
 
 -- ---- an update
@@ -334,7 +334,7 @@ module _ (a b c : Store) (xs : List Record) (i : ℕ) (d r : Record)
 
   -- the store met a fault; where that broke it, the record may stand
   pub learned_halted : (fault : StoreFault) (end : Halted)
-      → Learns b c r (Err (refused.Store fault)) → Turns a c (merged xs) (HasFirst xs) (Err end)
+      → Learns b c r (Err (refused.Store fault)) → Turns a c (merged xs) (HasLearnedFirst xs) (Err end)
   learned_halted fault end learns = record {
     faults = so_far.faults ++ option_to_list (Some fault);
     passes = passes-then a b c so_far.faults
@@ -360,7 +360,7 @@ module _ (a b c : Store) (xs : List Record) (i : ℕ) (d r : Record)
 
   -- the record was refused
   pub learned_refused : (cause : LearnFault) → IsRefusal cause → Learns b c r (Err cause)
-      → Turns a c (merged xs) (HasFirst xs) (Ok tt)
+      → Turns a c (merged xs) (HasLearnedFirst xs) (Ok tt)
   learned_refused cause is_refusal learns =
       let quiet = no_fault cause is_refusal in
       record {
@@ -412,26 +412,26 @@ pub learned_stopped : (a b c : Store) (xs : List Record) (i : ℕ) (d r : Record
     → Learned a b (take i xs) → i < length xs → r ≡ get_or xs i d
     → (cause : LearnFault) (result : Result (Unit {0}) Halted) → EndsBy cause result
     → Learns b c r (Err cause)
-    → Turns a c (merged xs) (HasFirst xs) result
+    → Turns a c (merged xs) (HasLearnedFirst xs) result
 learned_stopped a b c xs i d r so lt is (refused.Store fault) (Ok u) ends learns = absurd ends
 learned_stopped a b c xs i d r so lt is (refused.Store fault) (Err end) ends learns =
     learned_halted a b c xs i d r so lt is fault end learns
 learned_stopped a b c xs i d r so lt is (refused.Gap held got) result ends learns =
-    subst (Turns a c (merged xs) (HasFirst xs)) (sym ends)
+    subst (Turns a c (merged xs) (HasLearnedFirst xs)) (sym ends)
     (learned_refused a b c xs i d r so lt is (refused.Gap held got) tt learns)
 learned_stopped a b c xs i d r so lt is refused.Clash result ends learns =
-    subst (Turns a c (merged xs) (HasFirst xs)) (sym ends)
+    subst (Turns a c (merged xs) (HasLearnedFirst xs)) (sym ends)
     (learned_refused a b c xs i d r so lt is refused.Clash tt learns)
 learned_stopped a b c xs i d r so lt is refused.TickNotRising result ends learns =
-    subst (Turns a c (merged xs) (HasFirst xs)) (sym ends)
+    subst (Turns a c (merged xs) (HasLearnedFirst xs)) (sym ends)
     (learned_refused a b c xs i d r so lt is refused.TickNotRising tt learns)
 learned_stopped a b c xs i d r so lt is refused.TickTooFar result ends learns =
-    subst (Turns a c (merged xs) (HasFirst xs)) (sym ends)
+    subst (Turns a c (merged xs) (HasLearnedFirst xs)) (sym ends)
     (learned_refused a b c xs i d r so lt is refused.TickTooFar tt learns)
 
 -- all were learned, and none is left
 pub learned_all : (a b : Store) (rs : List Record) → Learned a b rs
-    → Turns a b (merged rs) (HasFirst rs) (Ok tt)
+    → Turns a b (merged rs) (HasLearnedFirst rs) (Ok tt)
 learned_all a b rs learned = record {
   faults = learned.faults;
   passes = learned.passes;
@@ -440,7 +440,7 @@ learned_all a b rs learned = record {
 
 -- or one that isn't lawful came
 pub learned_ended : (a b : Store) (rs : List Record) (i : ℕ) (end : Halted)
-    → Learned a b (take i rs) → Turns a b (merged rs) (HasFirst rs) (Err end)
+    → Learned a b (take i rs) → Turns a b (merged rs) (HasLearnedFirst rs) (Err end)
 learned_ended a b rs i end learned = record {
   faults = learned.faults;
   passes = learned.passes;

@@ -155,9 +155,9 @@ IsSame R S = S ≡ R
 abbrev pub IsSameOr : (broken : Bool) → (Content → Content) → Content → Content → Type 0
 IsSameOr broken change R S = (S ≡ R) ⊎ ((broken ≡ true) × (S ≡ change R))
 
--- some first records more
-abbrev pub HasFirst : List Record → Content → Content → Type 0
-HasFirst rs R S = (k : ℕ) × (S ≡ merged (take k rs) R)
+-- some of these records, from the first on, were learned more
+abbrev pub HasLearnedFirst : List Record → Content → Content → Type 0
+HasLearnedFirst rs R S = (k : ℕ) × (S ≡ merged (take k rs) R)
 
 -- how a delivery ends by a record that isn't learned: a fault of the store ends the world, and a
 -- refusal doesn't

@@ -9,7 +9,7 @@ ghost use Rattle.archive.specs.Store.{StepResult};
 ghost use Rattle.archive.specs.Steps.{Refines};
 ghost use Rattle.hist_update.specs.Outcome.{IsRequest, content_after, outcome};
 ghost use Rattle.hist_update.specs.Updates.{begin};
-ghost use Rattle.exchange.specs.Running.{operation_of, event_of, IsAsked, IsEvent, Turns, TurnsBy, IsSame, IsSameOr, HasFirst, HasSome, EndsBy, came_in, Puts, Gives, Happens, RunsWorld, IsClear, update_status};
+ghost use Rattle.exchange.specs.Running.{operation_of, event_of, IsAsked, IsEvent, Turns, TurnsBy, IsSame, IsSameOr, HasLearnedFirst, HasSome, EndsBy, came_in, Puts, Gives, Happens, RunsWorld, IsClear, update_status};
 ghost use Rattle.hist_update.specs.Laws.{IsBad};
 
 use crate::replica::Batch;
@@ -221,7 +221,7 @@ fn ended_by(cause: LearnFault) -> Result<(), Halted>
 /// Learns records, in order, up to the first that is refused.
 fn deliver<A: Archive>(archive: &mut A, records: &[Record]) -> Result<(), Halted>
     ensures { Turns (A.state archive.old) (A.state archive.new) (merged records.now)
-        (HasFirst records.now) result }
+        (HasLearnedFirst records.now) result }
 {
     for held in records {
         if !held.is_lawful() {

@@ -448,9 +448,9 @@ fn short_page<A: Archive>(
 /// a point whose vector the archive's own isn't at least is refused with the same code; a fault is told by
 /// `BAD_OUT_OF_MEMORY`, as is want of memory here, or by `BAD_RESOURCE_UNAVAILABLE`. A bad status has neither
 /// items nor a point, and no call changes the content. Of a broken archive each read that isn't refused
-/// before is `BAD_RESOURCE_UNAVAILABLE`. An empty page is `GOOD_NO_DATA`. Each result can be written. No query
-/// of the archive is given a limit above the page's items and one, so above 1,001, or above the count and one
-/// where a count is given. The node's id has less than 2^31 bytes.
+/// before is `BAD_RESOURCE_UNAVAILABLE`. An empty page is `GOOD_NO_DATA`. Each result can be written. A page
+/// has at most 1,000 items, or as many as are asked for, and a query asks the archive for one row more at most.
+/// The node's id has less than 2^31 bytes.
 #[tactic(auto, using(crate::proofs::Sizes::page_most))]
 pub fn read_node<A: Archive>(
     alloc: Global,

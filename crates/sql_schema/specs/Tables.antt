@@ -173,9 +173,11 @@ third_index = index_of (codes "sqlite_autoindex_currents2_1") 5 4 (1 ∷ 2 ∷ 3
 abbrev pub key_indexes : List Index
 key_indexes = first_index ∷ second_index ∷ third_index ∷ []
 
+-- its records, with the tree that they get
 abbrev pub second_table1 : Table
 second_table1 = record records1 { tree = 1 }
 
+-- and its current values, with theirs
 abbrev pub third_table1 : Table
 third_table1 = record currents1 { tree = 4 }
 

@@ -18,7 +18,7 @@ use Rattle.ua_space.specs.declared.plan.VariablePlan.{VariablePlan}
 use Rattle.ua_space.specs.Plan.{Entry, planned}
 use Rattle.ua_space.specs.Lent.{planned_by, HasPlannedId, HasFolder, HasShortPlan, folder_of, entry_of, variable_of}
 use Rattle.ua_space.specs.declared.node.Folder.{Folder as SpaceFolder}
-use Rattle.ua_space.specs.Space.{IsCountable, HasShortTexts, HasShortName}
+use Rattle.ua_space.specs.Space.{IsCountable, HasShortTexts, HasCountableName}
 use Rattle.ua_settings.specs.declared.fault.SettingsFault.{SettingsFault}
 use Rattle.ua_settings.specs.declared.fault.SettingsFault.TheVariants.{OutOfMemory, Space}
 use Rattle.ua_settings.specs.declared.keys.Section.TheVariants.{User, Folder, Variable, Peer}
@@ -127,10 +127,10 @@ module _ (lines : List PasswordLine) (document : Members) (sound : IsSound lines
       (λ members held. (short_length _ held.id, short_length _ held.name))
       (tables document Folder) sound.folders))
 
-  variables_short : AllByRecursion (λ variable. HasShortName (variable_of variable)) variables
+  variables_short : AllByRecursion (λ variable. HasCountableName (variable_of variable)) variables
   unfolding HasCountable
   variables_short =
-      all_from entry_of (λ variable. HasShortName (variable_of variable)) HasCountable
+      all_from entry_of (λ variable. HasCountableName (variable_of variable)) HasCountable
       (λ variable held. held) variables
       (subst (AllByRecursion HasCountable) (sym same_variables)
       (all_to variable_in (IsSoundVariable (names_in lines document).folders) HasCountable
@@ -143,7 +143,7 @@ module _ (lines : List PasswordLine) (document : Members) (sound : IsSound lines
     namespace = subst IsCountable (sym n) (short_length _ sound.server.namespace);
     folders = subst (AllByRecursion (λ folder. HasShortTexts (folder_of folder)))
         (sym f) folders_short;
-    variables = subst (AllByRecursion (λ variable. HasShortName (variable_of variable)))
+    variables = subst (AllByRecursion (λ variable. HasCountableName (variable_of variable)))
         (sym v) variables_short;
   }
 

@@ -25,7 +25,7 @@ use Rattle.ua_space.specs.declared.fault.BuildFault.{BuildFault}
 use Rattle.ua_space.specs.declared.plan.VariablePlan.{VariablePlan}
 use Rattle.ua_space.specs.Lent.{HasShortPlan, HasPlannedId, folder_of, variable_of, layout_of, judged_by}
 use Rattle.ua_space.proofs.PlanParts.{is_too_large}
-use Rattle.ua_space.specs.Space.{Node, Root, Objects, NamespaceArray, State, OfFolder, OfVariable, FolderType, BaseDataVariableType, node_at, is_same_id, HasShortId, HasShortTexts, HasShortName, IsShortLayout, browse_name_of, display_name_of}
+use Rattle.ua_space.specs.Space.{Node, Root, Objects, NamespaceArray, State, OfFolder, OfVariable, FolderType, BaseDataVariableType, node_at, is_same_id, HasShortId, HasShortTexts, HasCountableName, IsShortLayout, browse_name_of, display_name_of}
 use Rattle.ua_space.specs.Nodes.{id_of, name_of}
 use Rattle.ua_space.specs.Index.{has_folder_id}
 use Rattle.ua_space.proofs.SpaceParts.{nodes}
@@ -37,7 +37,7 @@ use Rattle.ua_space.proofs.ReferencesParts.{type_id, definition_id, folder_node,
 -- its texts can be counted
 abbrev pub IsShort : Node → Type 0
 IsShort (OfFolder folder) = HasShortTexts folder
-IsShort (OfVariable variable) = HasShortId variable × HasShortName variable
+IsShort (OfVariable variable) = HasShortId variable × HasCountableName variable
 IsShort node = Unit {0}
 
 -- ---- lists
@@ -95,7 +95,7 @@ all_both P Q (x ∷ xs) a b = ((a.0, b.0), all_both P Q xs a.1 b.1)
 variables_short : (space : Layout) → IsShortLayout space
     → AllByRecursion IsShort (map OfVariable space.variables)
 variables_short space short = all_map OfVariable IsShort space.variables
-    (all_both HasShortId HasShortName space.variables short.ids short.names)
+    (all_both HasShortId HasCountableName space.variables short.ids short.names)
 
 folders_short : (space : Layout) → IsShortLayout space
     → AllByRecursion IsShort (map OfFolder space.folders)
@@ -209,11 +209,11 @@ below_short space short BaseDataVariableType = tt
 children_short : (space : Layout) → IsShortLayout space → (node : Node)
     → AllByRecursion IsShort (children space node)
 children_short space short node =
-    let both = all_both HasShortId HasShortName space.variables short.ids short.names in
+    let both = all_both HasShortId HasCountableName space.variables short.ids short.names in
     all_append IsShort (objects_below space node) (map OfVariable
     (filter (holds node) space.variables)) (below_short space short node)
     (all_map OfVariable IsShort (filter (holds node) space.variables)
-    (all_filter (holds node) (λ v. HasShortId v × HasShortName v) space.variables both))
+    (all_filter (holds node) (λ v. HasShortId v × HasCountableName v) space.variables both))
 
 listed_short : (o : Option Node) → IfSome o IsShort → AllByRecursion IsShort (option_to_list o)
 listed_short None is = tt
@@ -382,7 +382,7 @@ plan_short plan short ids few = record {
   namespace = short.namespace;
   folders = all_map folder_of HasShortTexts plan.folders.now short.folders;
   ids = all_map variable_of HasShortId plan.variables.now (each plan.variables.now ids);
-  names = all_map variable_of HasShortName plan.variables.now short.variables;
+  names = all_map variable_of HasCountableName plan.variables.now short.variables;
   few = omega (
     arith,
     few,

@@ -11,7 +11,7 @@ use Rattle.ua_space.specs.declared.node.Folder.{Folder}
 use Rattle.ua_space.specs.declared.node.Variable.{Variable}
 use Rattle.ua_space.specs.declared.layout.Layout.{Layout}
 use Rattle.ua_space.specs.Plan.{Entry, variable_for, type_number, have_equal, planned}
-use Rattle.ua_space.specs.Space.{IsCountable, HasShortTexts, HasShortName}
+use Rattle.ua_space.specs.Space.{IsCountable, HasShortTexts, HasCountableName}
 
 -- ---- what a plan asks for
 
@@ -73,4 +73,4 @@ pub record HasShortPlan (plan : Plan) : Type 0 where
   pub namespace : IsCountable plan.namespace.now
   pub folders : AllByRecursion (λ folder. HasShortTexts (folder_of folder)) plan.folders.now
   pub variables : AllByRecursion
-      (λ variable. HasShortName (variable_of variable)) plan.variables.now
+      (λ variable. HasCountableName (variable_of variable)) plan.variables.now

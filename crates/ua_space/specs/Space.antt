@@ -108,13 +108,13 @@ abbrev pub HasShortTexts : Folder → Type 0
 HasShortTexts folder = IsCountable folder.id × IsCountable folder.name
 
 -- the variable's name can be counted in 31 bits
-abbrev pub HasShortName : Variable → Type 0
-HasShortName variable = IsCountable variable.name
+abbrev pub HasCountableName : Variable → Type 0
+HasCountableName variable = IsCountable variable.name
 
 -- what the types and the settings' rules promise of a layout
 pub record IsShortLayout (space : Layout) : Type 0 where
   pub namespace : IsCountable space.namespace
   pub folders : AllByRecursion HasShortTexts space.folders
   pub ids : AllByRecursion HasShortId space.variables
-  pub names : AllByRecursion HasShortName space.variables
+  pub names : AllByRecursion HasCountableName space.variables
   pub few : length space.folders + length space.variables ≤ 1000

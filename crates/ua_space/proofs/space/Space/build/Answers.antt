@@ -1,6 +1,6 @@
 use Rattle.std.proofs.Common.{sym, ap, subst, length, arith, rules}
 use Rattle.std.specs.List.{AllByRecursion}
-use Rattle.ua_space.specs.Space.{IsCountable, HasShortId, HasShortTexts, HasShortName}
+use Rattle.ua_space.specs.Space.{IsCountable, HasShortId, HasShortTexts, HasCountableName}
 use Rattle.ua_space.specs.declared.fault.BuildFault.TheVariants.{OutOfMemory}
 use Rattle.ua_space.proofs.Planned.{as_planned}
 use Rattle.ua_space.proofs.Short.{judged_short}
@@ -16,7 +16,7 @@ invariant_of-result c =
         namespace = subst IsCountable (sym c.in_ok-namespace.ensures) base.namespace;
         folders = subst (AllByRecursion HasShortTexts) (sym folders) base.folders;
         ids = subst (AllByRecursion HasShortId) (sym variables) base.ids;
-        names = subst (AllByRecursion HasShortName) (sym variables) base.names;
+        names = subst (AllByRecursion HasCountableName) (sym variables) base.names;
         few = omega (arith, base.few, ap length folders, ap length variables);
       },
       c.in_ok-places.ensures,
