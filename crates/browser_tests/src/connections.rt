@@ -28,10 +28,10 @@ fn settings_of(alloc: Global, anonymous: bool) -> Option<Settings> {
     Settings::read(alloc, if anonymous { OPEN } else { CLOSED }).ok()
 }
 
-/// An archive takes 250 values of one variable, and an array of the other.
+/// An archive takes 40 values of one variable, and an array of the other.
 fn is_planted<A: Archive>(alloc: Global, archive: &mut A) -> bool {
-    learn_many(alloc, archive, 1, 250, 1).is_ok()
-        && learn(alloc, archive, &(251, "list", 1, Written::Many)).is_ok()
+    learn_many(alloc, archive, 1, 40, 1).is_ok()
+        && learn(alloc, archive, &(41, "list", 1, Written::Many)).is_ok()
 }
 
 /// How many steps went on, and the last step; absent where the test is at fault.
@@ -202,14 +202,14 @@ static ANSWERED: [Row; 10] = [
     (
         true,
         "GET /status.json HTTP/1.1\r\nHost: a\r\n\r\n",
-        "HTTP/1.1 200 OK\r\nContent-Type: application/json\r\nContent-Length: 83\r\nConnection: close\r\n",
-        "\r\n\r\n{\"archive\":\"12345678-9abc-def0-1234-56789abcdef0\",\"replica\":7,\"records\":{\"7\":251}}\n",
+        "HTTP/1.1 200 OK\r\nContent-Type: application/json\r\nContent-Length: 82\r\nConnection: close\r\n",
+        "\r\n\r\n{\"archive\":\"12345678-9abc-def0-1234-56789abcdef0\",\"replica\":7,\"records\":{\"7\":41}}\n",
         0,
     ),
     (
         true,
         "HEAD /status.json HTTP/1.1\r\nHost: a\r\n\r\n",
-        "HTTP/1.1 200 OK\r\nContent-Type: application/json\r\nContent-Length: 83\r\nConnection: close\r\n",
+        "HTTP/1.1 200 OK\r\nContent-Type: application/json\r\nContent-Length: 82\r\nConnection: close\r\n",
         "\r\nReferrer-Policy: no-referrer\r\n\r\n",
         0,
     ),
@@ -224,14 +224,14 @@ static ANSWERED: [Row; 10] = [
         true,
         "GET /history.csv?node=ns%3D1%3Bs%3Dn HTTP/1.1\r\nHost: a\r\n\r\n",
         "HTTP/1.1 200 OK\r\nContent-Type: text/csv; charset=utf-8\r\nTransfer-Encoding: chunked\r\nConnection: close\r\n",
-        ",250,Good\n\r\n0\r\n\r\n",
+        ",40,Good\n\r\n0\r\n\r\n",
         4,
     ),
     (
         true,
         "GET /history.csv?node=ns%3D1%3Bs%3Dn HTTP/1.0\r\n\r\n",
         "HTTP/1.1 200 OK\r\nContent-Type: text/csv; charset=utf-8\r\nConnection: close\r\n",
-        "\nns=1;s=n,2026-03-01T12:04:10.0000000Z,250,Good\n",
+        "\nns=1;s=n,2026-03-01T12:00:40.0000000Z,40,Good\n",
         4,
     ),
     (
@@ -386,7 +386,7 @@ static STEPS: [Row; 1] = [(
     true,
     CHUNKED,
     "HTTP/1.1 200 OK\r\nContent-Type: text/csv; charset=utf-8\r\nTransfer-Encoding: chunked\r\nConnection: close\r\n",
-    ",250,Good\n\r\n0\r\n\r\n",
+    ",40,Good\n\r\n0\r\n\r\n",
     4,
 )];
 

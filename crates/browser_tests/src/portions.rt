@@ -336,17 +336,17 @@ static CHANGES: [(&str, Case); 2] = [
     ("modifications as a table", (true, Table)),
 ];
 
-/// The portions of 250 updates.
+/// The portions of 40 updates.
 const THREE: &[(usize, Result<bool, ReportFault>)] = &[
-    (100, Ok(true)),
-    (100, Ok(true)),
-    (50, Ok(true)),
+    (16, Ok(true)),
+    (16, Ok(true)),
+    (8, Ok(true)),
     (0, Ok(false)),
 ];
 
-/// 250 updates, one at each second.
+/// 40 updates, one at each second.
 static SINGLE: Tried = Tried {
-    count: 250,
+    count: 40,
     at_once: 1,
     array: None,
     between: &[],
@@ -358,19 +358,19 @@ fn portions_join(rt: HostRuntime) -> Result<(), Fail> {
     are_parted(rt.alloc(), &CASES, &SINGLE)
 }
 
-/// 250 updates, seven at each second.
+/// 40 updates, seven at each second.
 static SEVENS: Tried = Tried {
-    count: 250,
+    count: 40,
     at_once: 7,
     array: None,
     between: &[],
     wanted: THREE,
 };
 
-/// 250 updates at one second.
+/// 40 updates at one second.
 static AT_ONCE: Tried = Tried {
-    count: 250,
-    at_once: 250,
+    count: 40,
+    at_once: 40,
     array: None,
     between: &[],
     wanted: THREE,
@@ -386,26 +386,26 @@ fn modifications_of_one_moment_are_parted(rt: HostRuntime) -> Result<(), Fail> {
 /// still to come.
 const BETWEEN: &[[Update; 2]] = &[
     [
-        (251, "n", 50, Written::Number(-1)),
-        (252, "n", 0, Written::Number(-2)),
+        (41, "n", 8, Written::Number(-1)),
+        (42, "n", 0, Written::Number(-2)),
     ],
     [
-        (253, "n", 150, Written::Number(-3)),
-        (254, "n", 300, Written::Many),
+        (43, "n", 24, Written::Number(-3)),
+        (44, "n", 60, Written::Many),
     ],
     [
-        (255, "n", 250, Written::Many),
-        (256, "n", 10, Written::Number(-6)),
+        (45, "n", 40, Written::Many),
+        (46, "n", 2, Written::Number(-6)),
     ],
     [
-        (257, "n", 251, Written::Number(-7)),
-        (258, "n", 5, Written::Many),
+        (47, "n", 41, Written::Number(-7)),
+        (48, "n", 1, Written::Many),
     ],
 ];
 
-/// 250 updates, one at each second, while these come.
+/// 40 updates, one at each second, while these come.
 static GROWING: Tried = Tried {
-    count: 250,
+    count: 40,
     at_once: 1,
     array: None,
     between: BETWEEN,
@@ -417,13 +417,13 @@ fn portions_are_of_one_state(rt: HostRuntime) -> Result<(), Fail> {
     are_parted(rt.alloc(), &CASES, &GROWING)
 }
 
-/// A history that ends before the 150th of 250 updates, an array.
+/// A history that ends before the 25th of 40 updates, an array.
 static WITHOUT_TEXT: Tried = Tried {
-    count: 250,
+    count: 40,
     at_once: 1,
-    array: Some(150),
+    array: Some(25),
     between: &[],
-    wanted: &[(100, Ok(true)), (49, Err(ReportFault::NoText))],
+    wanted: &[(16, Ok(true)), (8, Err(ReportFault::NoText))],
 };
 
 #[test]

@@ -196,11 +196,11 @@ IsPast o from to new_from new_to =
 
 module _ (t u : Store) (node : NodeId) (old new : Pages) (page : List Held)
     (asks : Transitions t u [] (λ marks R S. (S ≡ R) × IsLawfulContent R
-    × (page ≡ take 100 (values_left node old R)))) where
+    × (page ≡ take 16 (values_left node old R)))) where
   -- what is still to come behind the page
   values-rest : new.within ≡ old.within
       → IsBehind page old.span.from old.span.to new.span.from new.span.to → (R : Content)
-      → page ≡ take 100 (values_left node old R)
+      → page ≡ take 16 (values_left node old R)
       → IsPageOf page (values_left node new R) (values_left node old R)
   values-rest within behind R is = go (last page) refl behind
     where
@@ -218,14 +218,14 @@ module _ (t u : Store) (node : NodeId) (old new : Pages) (page : List Held)
       go None none kept =
           subst (λ (l : List Held). IsPageOf page l (values_left node old R))
           (sym (same new.within within new.span.from new.span.to kept.0 kept.1))
-          (page-none 99 page (values_left node old R) is (no-last page none))
-      go (Some h) at past = page-last 99 page (values_left node new R) (values_left node old R) h is
+          (page-none 15 page (values_left node old R) is (no-last page none))
+      go (Some h) at past = page-last 15 page (values_left node new R) (values_left node old R) h is
           at
           (ap (λ (v : List ℕ). range_of (cut R (number_of v)) node new.span.from new.span.to
           Forward) within
           ∙ (range_on (cut R (number_of old.within)) node old.span.from old.span.to new.span.from
           new.span.to (length page - 1) h past
-          (of_take 100 (length page - 1) (values_left node old R) h
+          (of_take 16 (length page - 1) (values_left node old R) h
           (ap (λ (l : List Held). slice_get l (length page - 1)) (sym is) ∙ at))
           ∙ ap (λ n. drop n (values_left node old R)) (sym (add-one (length page - 1)))))
 
@@ -234,7 +234,7 @@ module _ (t u : Store) (node : NodeId) (old new : Pages) (page : List Held)
       → GivesPage t u page (values_left node new) (values_left node old)
   values-page within behind =
       moves-as t u [] (λ marks R S. (S ≡ R) × IsLawfulContent R
-      × (page ≡ take 100 (values_left node old R)))
+      × (page ≡ take 16 (values_left node old R)))
       (λ marks R S. (S ≡ R) × IsPageOf page (values_left node new R) (values_left node old R))
       (λ ms R S p. (p.0, values-rest within behind R p.2)) asks
 
@@ -242,24 +242,24 @@ module _ (t u : Store) (node : NodeId) (old new : Pages) (page : List Held)
 
 module _ (t u : Store) (node : NodeId) (old new : Pages) (page : List Entry)
     (asks : Transitions t u [] (λ marks R S. (S ≡ R) × IsLawfulContent R
-    × (page ≡ take 100 (changes_left node old R)))) where
+    × (page ≡ take 16 (changes_left node old R)))) where
   abbrev left_behind : Content → Option LogPlace → List Entry
   left_behind R place =
       log_of (cut R (number_of old.within)) node old.span.from old.span.to place Forward
 
-  changes-rest : (R : Content) → IsLawfulContent R → page ≡ take 100 (changes_left node old R)
+  changes-rest : (R : Content) → IsLawfulContent R → page ≡ take 16 (changes_left node old R)
       → IsPageOf page (left_behind R (place_behind old.after page)) (changes_left node old R)
   changes-rest R lawful is = go (last page) refl
     where
       go : (o : Option Entry) → last page ≡ o → IsPageOf page
           (left_behind R (elim o [ None ↦ old.after | Some e ↦ Some (place_of e) ]))
           (changes_left node old R)
-      go None none = page-none 99 page (changes_left node old R) is (no-last page none)
-      go (Some e) at = page-last 99 page (left_behind R (Some (place_of e)))
+      go None none = page-none 15 page (changes_left node old R) is (no-last page none)
+      go (Some e) at = page-last 15 page (left_behind R (Some (place_of e)))
           (changes_left node old R) e is at
           (log_resumes (cut R (number_of old.within)) node old.span.from old.span.to old.after
           Forward (length page - 1) e (closed_cut R (number_of old.within) lawful.closed)
-          (of_take 100 (length page - 1) (changes_left node old R) e
+          (of_take 16 (length page - 1) (changes_left node old R) e
           (ap (λ (l : List Entry). slice_get l (length page - 1)) (sym is) ∙ at)))
 
   pub changes-page : new ≡ record old { after = place_behind old.after page }
@@ -267,7 +267,7 @@ module _ (t u : Store) (node : NodeId) (old new : Pages) (page : List Entry)
   changes-page same =
       subst (λ p. GivesPage t u page (changes_left node p) (changes_left node old)) (sym same)
       (moves-as t u [] (λ marks R S. (S ≡ R) × IsLawfulContent R
-      × (page ≡ take 100 (changes_left node old R)))
+      × (page ≡ take 16 (changes_left node old R)))
       (λ marks R S. (S ≡ R) × IsPageOf page (left_behind R (place_behind old.after page))
       (changes_left node old R))
       (λ ms R S p. (p.0, changes-rest R p.1 p.2)) asks)

@@ -13,7 +13,7 @@ use stamp::{Stamp, Vector};
 use std::alloc::Global;
 
 /// The most items of a page.
-const MOST: usize = 100;
+const MOST: usize = 16;
 
 /// What is still to come of a node's history.
 #[derive(Debug, Drop)]
@@ -48,7 +48,7 @@ pub(crate) fn next_values<A: Archive>(
         (values_left report.now.node pages.new) (values_left report.now.node pages.old))
         (λ why. Fails (A.state archive.old) (A.state archive.new) why) }
     ensures same { pages.new.within ≡ pages.old.within }
-    ensures asked { IsAskedWithin 100 (A.asked archive.old) (A.asked archive.new) }
+    ensures asked { IsAskedWithin 16 (A.asked archive.old) (A.asked archive.new) }
 {
     let Span { from, to } = pages.span;
     let way = Direction::Forward;
@@ -95,7 +95,7 @@ pub(crate) fn next_changes<A: Archive>(
         (changes_left report.now.node pages.new) (changes_left report.now.node pages.old))
         (λ why. Fails (A.state archive.old) (A.state archive.new) why) }
     ensures same { pages.new.within ≡ pages.old.within }
-    ensures asked { IsAskedWithin 100 (A.asked archive.old) (A.asked archive.new) }
+    ensures asked { IsAskedWithin 16 (A.asked archive.old) (A.asked archive.new) }
 {
     let Span { from, to } = pages.span;
     let (after, way) = (pages.after, Direction::Forward);

@@ -160,7 +160,7 @@ fn append_report<A: Archive>(
         (λ R. HasTextless R report.now)
         (λ done R. IsPut out.old.items out.new.items (IsPrinted R report.now)) }
     ensures kept { OnErr result (out.new.items ≡ out.old.items) }
-    ensures asked { IsAskedWithin 100 (A.asked archive.old) (A.asked archive.new) }
+    ensures asked { IsAskedWithin 16 (A.asked archive.old) (A.asked archive.new) }
 {
     let mut output = Counted::new(Vec::new(alloc));
     match print_report(alloc, archive, report, &mut output) {

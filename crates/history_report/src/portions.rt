@@ -109,7 +109,7 @@ fn append_values<A: Archive>(
         (λ R. PutsValues report.now (values_left report.now.node pages.old R)
         (values_left report.now.node pages.new R) out.old.items out.new.items result) }
     ensures same { pages.new.within ≡ pages.old.within }
-    ensures asked { IsAskedWithin 100 (A.asked archive.old) (A.asked archive.new) }
+    ensures asked { IsAskedWithin 16 (A.asked archive.old) (A.asked archive.new) }
     ensures own { IsErrOf result ReportFault.Write → ⊥ }
 {
     let page = match next_values(alloc, archive, report, pages) {
@@ -138,7 +138,7 @@ fn append_changes<A: Archive>(
         (λ R. PutsChanges report.now (changes_left report.now.node pages.old R)
         (changes_left report.now.node pages.new R) out.old.items out.new.items result) }
     ensures same { pages.new.within ≡ pages.old.within }
-    ensures asked { IsAskedWithin 100 (A.asked archive.old) (A.asked archive.new) }
+    ensures asked { IsAskedWithin 16 (A.asked archive.old) (A.asked archive.new) }
     ensures own { IsErrOf result ReportFault.Write → ⊥ }
 {
     let page = match next_changes(alloc, archive, report, pages) {
@@ -166,7 +166,7 @@ fn append_page<A: Archive>(
     ensures takes { TakesPortion (left_of report.now pages.old) (left_of report.now pages.new)
         (A.state archive.old) (A.state archive.new) out.old.items out.new.items result }
     ensures same { pages.new.within ≡ pages.old.within }
-    ensures asked { IsAskedWithin 100 (A.asked archive.old) (A.asked archive.new) }
+    ensures asked { IsAskedWithin 16 (A.asked archive.old) (A.asked archive.new) }
     ensures own { IsErrOf result ReportFault.Write → ⊥ }
 {
     if report.changes {
@@ -219,7 +219,7 @@ impl Portions {
         }
     }
 
-    /// Appends the lines of the next page of at most a hundred values or modifications, and tells
+    /// Appends the lines of the next page of at most sixteen values or modifications, and tells
     /// whether there was one; where none was left, it appends the footer. The archive stays as it
     /// is.
     ///
@@ -236,7 +236,7 @@ impl Portions {
             out.old.items out.new.items result }
         ensures same { IsOfSame self.old self.new }
         ensures kept { OnErr result (self.new ≡ self.old) }
-        ensures asked { IsAskedWithin 100 (A.asked archive.old) (A.asked archive.new) }
+        ensures asked { IsAskedWithin 16 (A.asked archive.old) (A.asked archive.new) }
         ensures own { IsErrOf result ReportFault.Write → ⊥ }
     {
         let (span, after) = (self.pages.span, self.pages.after);

@@ -526,8 +526,8 @@ fn has_lines(alloc: Global, count: u64, lines: usize) -> Result<bool, LearnFault
 #[test]
 fn pages_join(rt: HostRuntime) {
     let alloc = rt.alloc();
-    let one = has_lines(alloc, 100, 101);
+    let one = has_lines(alloc, 16, 17);
     assert!(rt; one == Ok(true));
-    let more = has_lines(alloc, 205, 206);
+    let more = has_lines(alloc, 35, 36);
     assert!(rt; more == Ok(true));
 }

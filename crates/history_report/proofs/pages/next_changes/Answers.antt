@@ -10,7 +10,7 @@ pub returns-in-Err-clause-pages : goal.returns-in-Err-clause-pages
 returns-in-Err-clause-pages g c =
     let state = g.A.Archive.state in
     unanswered (state c.args.archive.now) (state c.log.new.self) c.in-Err.fault
-    (λ v. v.items ≡ take 100 (changes_left c.args.report.now.node c.args.pages.now
+    (λ v. v.items ≡ take 16 (changes_left c.args.report.now.node c.args.pages.now
     (state c.args.archive.now).content)) c.in-Err.ensures.asks
 
 pub returns-clause-pages : goal.returns-clause-pages
@@ -21,7 +21,7 @@ returns-clause-pages g c =
     changes-page (state c.args.archive.now) (state c.log.new.self) c.args.report.now.node old
     c.go_behind.new.pages page.items
     (answered (state c.args.archive.now) (state c.log.new.self)
-    (λ (R : Content) v. v.items ≡ take 100 (changes_left c.args.report.now.node old R)) page
+    (λ (R : Content) v. v.items ≡ take 16 (changes_left c.args.report.now.node old R)) page
     c.in-Ok.ensures.asks)
     (c.go_behind.ensures
     ∙ ap (λ (l : List Entry). let new : Pages =
