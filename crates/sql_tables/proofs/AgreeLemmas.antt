@@ -47,12 +47,12 @@ use Rattle.sqlite_catalog.specs.Listing.{IsSound}
 use Rattle.sqlite_schema.specs.declared.schema.Constraint.TheVariants.{Datatype}
 use Rattle.sql_schema.specs.Tables.{archive_schema, third_table, fourth_table}
 use Rattle.sql_tables.specs.Words.{cells, columns_of}
-use Rattle.sql_tables.specs.Derived.{AreNumbered, IsCells, is_later, is_other, is_newer, same, above, flag, current_of, currents_of, current_columns, last_of, vectors_of, vector_columns}
+use Rattle.sql_tables.specs.Derived.{AreNumbered, IsCells, is_later, is_other, same, flag, current_of, currents_of, current_columns}
 use Rattle.sql_tables.specs.Agreeing.{command_in, AreUncountable, ShowsOf, AreRising, HasCounted, HasEach, HasRisen}
 use Rattle.sqlite_schema.specs.declared.schema.Schema.{Schema}
-use Rattle.sql_tables.proofs.Texts.{currents_lack_text, currents_wanted_text, currents_held_text, vectors_lack_text, vectors_wanted_text, vectors_held_text}
+use Rattle.sql_tables.proofs.Texts.{currents_lack_text, currents_wanted_text, currents_held_text, vectors_held_text}
 use Rattle.sql_tables.proofs.ApartLemmas.{apart-permuted, all-permuted}
-use Rattle.sql_tables.proofs.MadeLemmas.{later_tests, other_tests, newer_tests, eq, exists_is, not_flag, counted_is, one_true, two_true, picked, later_alike, other_alike}
+use Rattle.sql_tables.proofs.MadeLemmas.{later_tests, other_tests, eq, exists_is, not_flag, counted_is, one_true, picked, later_alike, other_alike}
 
 -- ---- what a query answers, in order and to a limit
 
@@ -177,11 +177,6 @@ pub currents_wanted_is : command_in (understood archive_schema currents_wanted_t
 unfolding understood everything
 currents_wanted_is = refl
 
-pub vectors_wanted_is : command_in (understood archive_schema vectors_wanted_text)
-    ≡ Select (record { lets = []; body = wanted_by newer_tests }) (codes "rowid" ∷ [])
-unfolding understood everything
-vectors_wanted_is = refl
-
 abbrev pub current_fits : List Term
 current_fits = eq (col 3 1) (col 1 4) ∷ eq (col 3 2) (col 1 5) ∷ eq (col 3 3) (col 1 6)
     ∷ eq (col 3 4) (col 1 3) ∷ eq (col 3 5) (col 1 1)
@@ -198,19 +193,6 @@ pub currents_lack_is : command_in (understood archive_schema currents_lack_text)
     ≡ Select (record { lets = []; body = lacks_current }) (codes "origin" ∷ [])
 unfolding understood everything
 currents_lack_is = refl
-
-abbrev pub vector_fits : List Term
-vector_fits = eq (col 3 0) (col 1 1) ∷ eq (col 3 2) (col 1 2) ∷ eq (col 3 3) (col 1 3) ∷ []
-
-abbrev pub lacks_vector : Query
-lacks_vector = listing (inner 1
-    (counted 1 (inner 1 end) (newer_tests 2) (counted 1 (inner 6 end) vector_fits end)))
-    (op1 Not (col 2 0) ∷ op1 Not (col 3 0) ∷ []) (col 1 1 ∷ []) [] first_only
-
-pub vectors_lack_is : command_in (understood archive_schema vectors_lack_text)
-    ≡ Select (record { lets = []; body = lacks_vector }) (codes "origin" ∷ [])
-unfolding understood everything
-vectors_lack_is = refl
 
 -- ---- the rows that are held
 
@@ -280,40 +262,6 @@ module _ (db : Trees) where
       (db 1)) ∙ length-map (filter last (db 1)) columns_of)
       ∙ sym (length-map (filter (λ c. not (list_any (is_later c) (cells (db 1)))) (cells (db 1)))
       (current_of (cells (db 1))))
-
-  abbrev pub newer_than : Row → Value
-  newer_than r = Int (pos
-      (min 1 (length (flat_map (λ s.
-      cond (list_all (holds ([] ∷ r ∷ s ∷ [])) (newer_tests 2)) (([] ∷ r ∷ s ∷ []) ∷ []) [])
-      (db 1)))))
-
-  pub no_newer : (r : Row) → is_true (unary Not (newer_than r))
-      ≡ not (list_any (is_newer (columns_of r)) (cells (db 1)))
-  no_newer r = ap (λ n. is_true (unary Not (Int (pos n))))
-      (exists_is (λ s. list_all (holds ([] ∷ r ∷ s ∷ [])) (newer_tests 2)) (λ s. [] ∷ r ∷ s ∷ [])
-      (is_newer (columns_of r)) (λ s.
-      two_true (same (column s 1) (column r 1)) (above (column s 2) (column r 2))) (db 1))
-      ∙ not_flag (list_any (is_newer (columns_of r)) (cells (db 1)))
-
-  wanted_vectors : (rows : List Row) → IsAnswer (wanted_by newer_tests) (overlay db []) [] rows
-      → length rows ≡ length (vectors_of (cells (db 1)))
-  wanted_vectors rows a =
-      let keep = λ (r : Row). list_all (holds ([] ∷ r ∷ (newer_than r ∷ []) ∷ []))
-      (op1 Not (col 2 0) ∷ []) in
-      let last = λ (r : Row). not (list_any (is_newer (columns_of r)) (cells (db 1))) in
-      let got = listed (inner 1 (counted 1 (inner 1 end) (newer_tests 2) end))
-      (op1 Not (col 2 0) ∷ []) (col 1 0 ∷ []) by_id all_of_them [] (overlay db []) (db 1) keep
-      (λ r. [] ∷ r ∷ (newer_than r ∷ []) ∷ []) refl rows a in
-      let shown : rows ≡ got.0 = got.2 in
-      let kept : filter keep (db 1) ≡ filter last (db 1) =
-      filter_same keep last (λ r. one_true (is_true (unary Not (newer_than r))) ∙ no_newer r)
-      (db 1) in
-      ap length shown ∙ length_permutation _ _ got.1
-      ∙ length-map (filter keep (db 1)) (λ r. column r 0 ∷ []) ∙ ap length kept
-      ∙ sym (ap length (filter-map (λ c. not (list_any (is_newer c) (cells (db 1)))) columns_of
-      (db 1)) ∙ length-map (filter last (db 1)) columns_of)
-      ∙ sym (length-map (filter (λ c. not (list_any (is_newer c) (cells (db 1)))) (cells (db 1)))
-      last_of)
 
 -- ---- that each row that follows is there
 
@@ -391,7 +339,7 @@ column_behind : (r : Row) (i : ℕ) → column r (suc i) ≡ column (drop 1 r) i
 column_behind [] i = refl
 column_behind (v ∷ vs) i = refl
 
-any_has : {A : Type 0} (p : A → Bool) (xs : List A) → list_any p xs ≡ true
+pub any_has : {A : Type 0} (p : A → Bool) (xs : List A) → list_any p xs ≡ true
     → (x : A) × Has xs x × (p x ≡ true)
 any_has p [] e = absurd (true≢false (sym e))
 any_has {A} p (x ∷ xs) e = go (p x) refl e (any_has p xs)
@@ -402,7 +350,7 @@ any_has {A} p (x ∷ xs) e = go (p x) refl e (any_has p xs)
     go true is e more = (x, inl refl, is)
     go false is e more = let it = more e in (it.0, inr it.1, it.2)
 
-has_mapped : {A B : Type 0} (f : A → B) (xs : List A) (x : A) → Has xs x → Has (map f xs) (f x)
+pub has_mapped : {A B : Type 0} (f : A → B) (xs : List A) (x : A) → Has xs x → Has (map f xs) (f x)
 has_mapped f [] x h = absurd h
 has_mapped f (y ∷ ys) x (inl e) = inl (ap f e)
 has_mapped f (y ∷ ys) x (inr h) = inr (has_mapped f ys x h)
@@ -445,14 +393,14 @@ eight_parts true true false d e f g h all = absurd (true≢false (sym all))
 eight_parts true false c d e f g h all = absurd (true≢false (sym all))
 eight_parts false b c d e f g h all = absurd (true≢false (sym all))
 
-three_parts : (a b c : Bool) → (a && (b && (c && true))) ≡ true
+pub three_parts : (a b c : Bool) → (a && (b && (c && true))) ≡ true
     → (a ≡ true) × (b ≡ true) × (c ≡ true)
 three_parts true true true all = (refl, refl, refl)
 three_parts true true false all = absurd (true≢false (sym all))
 three_parts true false c all = absurd (true≢false (sym all))
 three_parts false b c all = absurd (true≢false (sym all))
 
-int_equal : (v w : Value) (n : ℤ) → w ≡ Int n → is_of kind.Integer v ≡ true → same v w ≡ true
+pub int_equal : (v w : Value) (n : ℤ) → w ≡ Int n → is_of kind.Integer v ≡ true → same v w ≡ true
     → v ≡ w
 int_equal v w n is kind e = int_same v n kind (subst (λ x. same v x ≡ true) is e) ∙ sym is
 
@@ -588,98 +536,11 @@ module _ (db : Trees) where
           by true first more = more
           by false first more = (first refl, more)
 
--- ---- and of vectors
-
 -- the columns of vectors have whole numbers
 pub record HasNumbers (c : Row) : Type 0 where
   pub origin : is_of kind.Integer (column c 0) ≡ true
   pub number : is_of kind.Integer (column c 2) ≡ true
   pub tick : is_of kind.Integer (column c 3) ≡ true
-
-module _ (db : Trees) where
-  abbrev pub fits_vector : Row → Row → Bool
-  fits_vector r c = list_all (holds ([] ∷ r ∷ (newer_than db r ∷ []) ∷ c ∷ [])) vector_fits
-
-  abbrev pub vector_count : Row → Value
-  vector_count r = Int (pos
-      (min 1 (length (flat_map (λ c.
-      cond (fits_vector r c) (([] ∷ r ∷ (newer_than db r ∷ []) ∷ c ∷ []) ∷ []) []) (db 6)))))
-
-  fitting_vector : (r c : Row) → IsCells (columns_of r) → HasNumbers c → fits_vector r c ≡ true
-      → vector_columns c ≡ last_of (columns_of r)
-  fitting_vector r c it kinds fits =
-      let all = three_parts (same (column c 0) (column r 1)) (same (column c 2) (column r 2))
-      (same (column c 3) (column r 3)) fits in
-      ap₂ ◌∷◌ (int_equal (column c 0) (column r 1) it.origin
-      (ap (λ x. column x 0) it.is) kinds.origin all.0)
-      (ap₂ ◌∷◌ (int_equal (column c 2) (column r 2) it.number
-      (ap (λ x. column x 1) it.is) kinds.number all.1)
-      (ap (λ y. y ∷ []) (int_equal (column c 3) (column r 3) it.tick
-      (ap (λ x. column x 2) it.is) kinds.tick all.2)))
-
-  abbrev pub lacked_vector : Row → Bool
-  lacked_vector r = is_true (unary Not (newer_than db r))
-      && (is_true (unary Not (vector_count r)) && true)
-
-  no_vector_lacked : IsAnswer lacks_vector (overlay db []) [] []
-      → AllByRecursion (λ r. lacked_vector r ≡ false) (db 1)
-  no_vector_lacked a =
-      let got = listed (inner 1 (counted 1 (inner 1 end) (newer_tests 2)
-      (counted 1 (inner 6 end) vector_fits end))) (op1 Not (col 2 0) ∷ op1 Not (col 3 0) ∷ [])
-      (col 1 1 ∷ []) [] first_only [] (overlay db []) (db 1) lacked_vector
-      (λ r. [] ∷ r ∷ (newer_than db r ∷ []) ∷ (vector_count r ∷ []) ∷ []) refl [] a in
-      none_passes lacked_vector (db 1) (none_of (λ r. column r 1 ∷ []) (filter lacked_vector (db 1))
-      (subst (IsPermutation (map (λ r. column r 1 ∷ []) (filter lacked_vector (db 1))))
-      (none_first got.0 (sym got.2)) got.1))
-
-  pub vectors_there : IsAnswer lacks_vector (overlay db []) [] []
-      → AllByRecursion IsCells (cells (db 1)) → AllByRecursion HasNumbers (db 6)
-      → AllByRecursion (Has (map vector_columns (db 6))) (vectors_of (cells (db 1)))
-  vectors_there a typed kinds = go (db 1) (no_vector_lacked a) typed
-    where
-      kinds_of : (xs : List Row) (x : Row) → AllByRecursion HasNumbers xs → Has xs x → HasNumbers x
-      kinds_of [] x all h = absurd h
-      kinds_of (y ∷ ys) x all (inl e) = subst HasNumbers (sym e) all.0
-      kinds_of (y ∷ ys) x all (inr h) = kinds_of ys x all.1 h
-
-      one : (r : Row) → lacked_vector r ≡ false → IsCells (columns_of r)
-          → list_any (is_newer (columns_of r)) (cells (db 1)) ≡ false
-          → Has (map vector_columns (db 6)) (last_of (columns_of r))
-      one r miss it last =
-          let off : is_true (unary Not (vector_count r)) ≡ false =
-          refuted _ _ (no_newer db r ∙ ap not last) miss in
-          let some : list_any (fits_vector r) (db 6) ≡ true =
-          back (list_any (fits_vector r) (db 6))
-          (sym (ap (λ n. is_true (unary Not (Int (pos n))))
-          (counted_is (fits_vector r) (λ c. [] ∷ r ∷ (newer_than db r ∷ []) ∷ c ∷ []) (db 6))
-          ∙ not_flag (list_any (fits_vector r) (db 6))) ∙ off) in
-          let found = any_has (fits_vector r) (db 6) some in
-          subst (Has (map vector_columns (db 6))) (fitting_vector r found.0 it
-          (kinds_of (db 6) found.0 kinds found.1) found.2)
-          (has_mapped vector_columns (db 6) found.0 found.1)
-        where
-          back : (b : Bool) → not b ≡ false → b ≡ true
-          back true e = refl
-          back false e = absurd (true≢false e)
-
-      go : (rs : List Row) → AllByRecursion (λ r. lacked_vector r ≡ false) rs
-          → AllByRecursion IsCells (map columns_of rs)
-          → AllByRecursion (Has (map vector_columns (db 6)))
-          (map last_of (filter (λ c. not (list_any (is_newer c) (cells (db 1))))
-          (map columns_of rs)))
-      go [] none typed = tt
-      go (r ∷ rs) none typed = by (list_any (is_newer (columns_of r)) (cells (db 1)))
-          (one r none.0 typed.0) (go rs none.1 typed.1)
-        where
-          more_rows : List Row
-          more_rows = filter (λ c. not (list_any (is_newer c) (cells (db 1)))) (map columns_of rs)
-
-          by : (b : Bool) → (b ≡ false → Has (map vector_columns (db 6)) (last_of (columns_of r)))
-              → AllByRecursion (Has (map vector_columns (db 6))) (map last_of more_rows)
-              → AllByRecursion (Has (map vector_columns (db 6)))
-              (map last_of (cond (not b) (columns_of r ∷ more_rows) more_rows))
-          by true first more = more
-          by false first more = (first refl, more)
 
 -- ---- what a database that obeys its schema has in their columns
 
@@ -708,7 +569,7 @@ typed_currents db sound = go (db 4) (sound.obeys.rules Datatype).1.1.0
     go [] all = tt
     go (r ∷ rs) all = (one r all.0, go rs all.1)
 
-typed_vectors : (db : Trees) → IsSound archive_schema db → AreNumbered (db 6)
+pub typed_vectors : (db : Trees) → IsSound archive_schema db → AreNumbered (db 6)
     → AllByRecursion HasNumbers (db 6)
 typed_vectors db sound ids = go (db 6) (sound.obeys.rules Datatype).1.1.1.0 ids.keyed
   where
@@ -787,23 +648,6 @@ module _ (d : Database) (has : d.schema ≡ archive_schema) where
       (codes "rowid" ∷ []) d.trees have.rows currents_held_is have.shown) have.rise in
       (have.many ∙ some.1, some.0)
 
-  pub vectors_fit_of : IsSound d.schema d.trees → AllByRecursion IsCells (cells (d.trees 1))
-      → ShowsOf vectors_lack_text d [] → AreNumbered (d.trees 6)
-      → HasEach (map vector_columns (d.trees 6)) (vectors_of (cells (d.trees 1)))
-  vectors_fit_of sound typed none ids =
-      vectors_there d.trees (shown_is vectors_lack_text lacks_vector
-      (codes "origin" ∷ []) d.trees [] vectors_lack_is
-      (subst (λ x. ShowsOf vectors_lack_text x []) whole_is none)) typed
-      (typed_vectors d.trees (subst (λ s. IsSound s d.trees) has sound) ids)
-
-  pub vectors_wanted_of : (n : ℕ) → HasCounted vectors_wanted_text d n
-      → n ≡ length (vectors_of (cells (d.trees 1)))
-  vectors_wanted_of n counts =
-      let want = counted_in vectors_wanted_text n counts in
-      want.many ∙ wanted_vectors d.trees want.rows
-      (shown_is vectors_wanted_text (wanted_by newer_tests)
-      (codes "rowid" ∷ []) d.trees want.rows vectors_wanted_is want.shown)
-
   pub vectors_held_of : (n : ℕ) → HasCounted vectors_held_text d n
       → (n ≡ length (d.trees 6)) × AreNumbered (d.trees 6)
   vectors_held_of n counts =
@@ -838,7 +682,7 @@ begins_of sql s rows has plain unlisted h =
 
 -- ---- one row more
 
-all_has : {X : Type 0} (P : X → Type 0) (xs : List X) (x : X) → AllByRecursion P xs → Has xs x → P x
+pub all_has : {X : Type 0} (P : X → Type 0) (xs : List X) (x : X) → AllByRecursion P xs → Has xs x → P x
 all_has P [] x all none = absurd none
 all_has P (y ∷ xs) x all (inl e) = subst P (sym e) all.0
 all_has P (y ∷ xs) x all (inr has) = all_has P xs x all.1 has

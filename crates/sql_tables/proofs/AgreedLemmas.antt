@@ -13,17 +13,18 @@ use Rattle.records.specs.Records.{name_cmp, record_stamp_cmp}
 use Rattle.records.specs.declared.record.Record.{Record}
 use Rattle.records.proofs.CloseLemmas.{closed_names, closed_stamps}
 use Rattle.sql_tables.specs.Words.{cells}
-use Rattle.sql_tables.specs.Derived.{current_of, currents_of, current_columns, is_later, is_newer, last_of, vectors_of, vector_columns, int_in}
+use Rattle.sql_tables.specs.Derived.{current_of, currents_of, current_columns, is_later, is_newer, last_of, int_in}
 use Rattle.sql_tables.specs.Rows.{row_of, IsFilled}
 use Rattle.sqlite.specs.State.{State, HasCleanDisk}
 use Rattle.archive.specs.declared.fault.StoreFault.{StoreFault}
 use Rattle.sql_tables.specs.State.{LeavesUnchanged}
-use Rattle.sql_tables.specs.Agreeing.{HasEach, HasCurrents, HasVectors}
+use Rattle.sql_tables.specs.Agreeing.{HasEach, AreOfRecords, AreReached, HasCurrents, HasVectors}
 use Rattle.sql_tables.proofs.AskLemmas.{passed_ok, passed_then, passed_told, passed_asked, passed_fault, early, same_trees}
 use Rattle.archive.specs.Store.{IsOfOpening}
 use Rattle.std.proofs.lemmas.List.{length-map}
 use Rattle.sql_tables.specs.Derived.{AreKept, AreNumbered}
-use Rattle.sql_tables.proofs.DerivedLemmas.{currents_permuted, vectors_permuted, filled_by}
+use Rattle.sql_tables.proofs.DerivedLemmas.{currents_permuted, filled_by}
+use Rattle.sql_tables.proofs.LastLemmas.{vectors_follow}
 
 ascends : {X : Type 0} (R : X → X → Type 0) (xs : List X) → IsPairwise R xs → IsAscending R xs
 ascends R [] all = tt
@@ -97,17 +98,11 @@ has_currents db (R, l, stand) there many numbered =
     (there_too _ _ _ follow there) (sym (length_permutation _ _ follow) ∙ many) in
     (IsPermutation-trans _ _ _ (IsPermutation-sym _ _ follow) is, numbered)
 
-pub has_vectors : (db : Trees) → IsFilled db
-    → AllByRecursion (Has (map vector_columns (db 6))) (vectors_of (cells (db 1)))
-    → length (vectors_of (cells (db 1))) ≡ length (map vector_columns (db 6)) → AreNumbered (db 6)
-    → HasVectors db
-has_vectors db (R, l, stand) there many numbered =
-    let follow = vectors_permuted (map row_of R) (cells (db 1)) stand in
-    let differ = rows_differ name_cmp last_of (λ r. not (list_any (is_newer r) (map row_of R))) R
-    (closed_names R l.closed) same_name in
-    let is = filled_by (vectors_of (map row_of R)) (map vector_columns (db 6)) differ
-    (there_too _ _ _ follow there) (sym (length_permutation _ _ follow) ∙ many) in
-    (IsPermutation-trans _ _ _ (IsPermutation-sym _ _ follow) is, numbered)
+pub has_vectors : (db : Trees) → IsFilled db → AreOfRecords db → AreReached db
+    → AreNumbered (db 6) → HasVectors db
+has_vectors db (R, l, stand) =
+    vectors_follow db R l.closed stand (rows_differ name_cmp last_of
+    (λ r. not (list_any (is_newer r) (map row_of R))) R (closed_names R l.closed) same_name)
 
 -- ---- one question behind the other
 
@@ -161,51 +156,42 @@ checked_currents a b c d fit wanted held filled one two three (Ok tt) (fits, sam
     has_currents a.now.trees (filled start) ((one.answer mid).0 fits)
     (sym many ∙ (same_count ∙ (have.0 ∙ sym (length-map (a.now.trees 4) current_columns)))) ids)
 
-pub checked_vectors : (a b c d : State) (fit : Bool) (wanted held : ℕ)
+pub checked_vectors : (a b c d : State) (stand reach : Bool) (held : ℕ)
     → (HasCleanDisk a → IsFilled a.now.trees)
-    → LeavesUnchanged a b (Ok fit) (λ f. (IsTrue f → AreNumbered (a.now.trees 6)
-    → HasEach (map vector_columns (a.now.trees 6)) (vectors_of (cells (a.now.trees 1))))
-    × (f ≡ false → HasVectors a.now.trees → ⊥))
-    → LeavesUnchanged b c (Ok wanted) (λ n. n ≡ length (vectors_of (cells (b.now.trees 1))))
+    → LeavesUnchanged a b (Ok stand) (λ s. (IsTrue s → AreNumbered (a.now.trees 6)
+    → AreOfRecords a.now.trees) × (s ≡ false → HasVectors a.now.trees → ⊥))
+    → LeavesUnchanged b c (Ok reach) (λ s. (IsTrue s → AreReached b.now.trees)
+    × (s ≡ false → HasVectors b.now.trees → ⊥))
     → LeavesUnchanged c d (Ok held) (λ n. (n ≡ length (c.now.trees 6))
     × AreNumbered (c.now.trees 6)) → (r : Result Unit StoreFault)
-    → OnOk r (IsTrue fit × (wanted ≡ held)) → IfErr r (λ f. IsOfOpening f → ⊥)
-    → IfErr r (λ _. IsTrue fit → wanted ≡ held → ⊥)
+    → OnOk r (IsTrue stand × IsTrue reach) → IfErr r (λ f. IsOfOpening f → ⊥)
+    → IfErr r (λ _. IsTrue stand → IsTrue reach → ⊥)
     → LeavesUnchanged a d r (λ _. HasVectors a.now.trees)
-checked_vectors a b c d fit wanted held filled one two three (Err fault) same met why =
-    let first = passed_ok a b fit _ one in
-    let second = passed_then a b c first (passed_ok b c wanted _ two) in
+checked_vectors a b c d stand reach held filled one two three (Err fault) same met why =
+    let first = passed_ok a b stand _ one in
+    let second = passed_then a b c first (passed_ok b c reach _ two) in
     let third = passed_then a c d second (passed_ok c d held _ three) in
     passed_fault a d fault (λ _. HasVectors a.now.trees) third met (λ clean is whole.
     let late = early c d (passed_ok c d held _ three) clean in
-    let mid = early b c (passed_ok b c wanted _ two) late in
+    let mid = early b c (passed_ok b c reach _ two) late in
     let at_b : b.now.trees ≡ a.now.trees = same_trees a b first mid in
-    let at_c : c.now.trees ≡ a.now.trees = same_trees a c second late in
-    let many = subst (λ (t : Trees). wanted ≡ length (vectors_of (cells (t 1)))) at_b
-    (two.answer late) in
-    let have = subst (λ (t : Trees). (held ≡ length (t 6)) × AreNumbered (t 6)) at_c
-    (three.answer clean) in
     let kept : HasVectors a.now.trees = (whole.kept.vectors, whole.kept.numbered.1) in
-    why (fits_where fit (λ e. (one.answer mid).1 e kept))
-    (many ∙ sym (length_permutation _ _ whole.kept.vectors)
-    ∙ length-map (a.now.trees 6) vector_columns ∙ sym have.0))
-checked_vectors a b c d fit wanted held filled one two three (Ok tt) (fits, same_count) met why =
-    let first = passed_ok a b fit _ one in
-    let second = passed_then a b c first (passed_ok b c wanted _ two) in
+    why (fits_where stand (λ e. (one.answer mid).1 e kept))
+    (fits_where reach (λ e. (two.answer late).1 e (subst HasVectors (sym at_b) kept))))
+checked_vectors a b c d stand reach held filled one two three (Ok tt) (stands, reaches) met why =
+    let first = passed_ok a b stand _ one in
+    let second = passed_then a b c first (passed_ok b c reach _ two) in
     let third = passed_then a c d second (passed_ok c d held _ three) in
     passed_told a d tt (λ _. HasVectors a.now.trees) third (λ clean.
     let late = early c d (passed_ok c d held _ three) clean in
-    let mid = early b c (passed_ok b c wanted _ two) late in
+    let mid = early b c (passed_ok b c reach _ two) late in
     let start = early a b first mid in
     let at_b : b.now.trees ≡ a.now.trees = same_trees a b first mid in
     let at_c : c.now.trees ≡ a.now.trees = same_trees a c second late in
-    let many = subst (λ (t : Trees). wanted ≡ length (vectors_of (cells (t 1)))) at_b
-    (two.answer late) in
     let have = subst (λ (t : Trees). (held ≡ length (t 6)) × AreNumbered (t 6)) at_c
     (three.answer clean) in
-    let ids = have.1 in
-    has_vectors a.now.trees (filled start) ((one.answer mid).0 fits ids)
-    (sym many ∙ (same_count ∙ (have.0 ∙ sym (length-map (a.now.trees 6) vector_columns)))) ids)
+    has_vectors a.now.trees (filled start) ((one.answer mid).0 stands have.1)
+    (subst AreReached at_b ((two.answer late).0 reaches)) have.1)
 
 pub checked_both : (a b c : State) (r : Result Unit StoreFault)
     → LeavesUnchanged {A = Unit {0}} a b (Ok tt) (λ _. HasCurrents a.now.trees)

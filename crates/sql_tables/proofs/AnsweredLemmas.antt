@@ -34,7 +34,7 @@ use Rattle.sqlite_schema.specs.declared.schema.Index.{Index}
 use Rattle.sqlite_schema.specs.declared.schema.View.{View}
 use Rattle.sql_schema.specs.Tables.{archive_schema, schema1, first_table, HasMeta}
 use Rattle.sql_tables.specs.Asking.{IsAnswered}
-use Rattle.sql_tables.proofs.Texts.{at_text, all_text, whose_text, named_text, last_text, since_text, after_text, before_text, some_at_text, currents_lack_text, currents_wanted_text, currents_held_text, vectors_lack_text, vectors_wanted_text, vectors_held_text, lives_after_text, lives_before_text, records1_text, currents1_text, all_vectors_text}
+use Rattle.sql_tables.proofs.Texts.{at_text, all_text, whose_text, named_text, last_text, since_text, after_text, before_text, some_at_text, currents_lack_text, currents_wanted_text, currents_held_text, vectors_stray_text, vectors_behind_text, vectors_held_text, lives_after_text, lives_before_text, records1_text, currents1_text, all_vectors_text}
 
 abbrev pub has_no_table : List Table → Bool
 has_no_table [] = true
@@ -292,21 +292,21 @@ pub currents_held_answered : IsAnswered archive_schema currents_held_text []
 currents_held_answered =
     let s = currents_held_suits in answered_by archive_schema currents_held_text _ s.0 s.1
 
-vectors_lack_suits : MayAsk archive_schema vectors_lack_text []
+vectors_stray_suits : MayAsk archive_schema vectors_stray_text []
 unfolding understood everything
-vectors_lack_suits = (refl, ((refl, refl), refl, refl, refl))
+vectors_stray_suits = (refl, ((refl, refl), refl, refl, refl))
 
-pub vectors_lack_answered : IsAnswered archive_schema vectors_lack_text []
-vectors_lack_answered =
-    let s = vectors_lack_suits in answered_by archive_schema vectors_lack_text _ s.0 s.1
+pub vectors_stray_answered : IsAnswered archive_schema vectors_stray_text []
+vectors_stray_answered =
+    let s = vectors_stray_suits in answered_by archive_schema vectors_stray_text _ s.0 s.1
 
-vectors_wanted_suits : MayAsk archive_schema vectors_wanted_text []
+vectors_behind_suits : MayAsk archive_schema vectors_behind_text []
 unfolding understood everything
-vectors_wanted_suits = (refl, ((refl, refl), refl, refl, refl))
+vectors_behind_suits = (refl, ((refl, refl), refl, refl, refl))
 
-pub vectors_wanted_answered : IsAnswered archive_schema vectors_wanted_text []
-vectors_wanted_answered =
-    let s = vectors_wanted_suits in answered_by archive_schema vectors_wanted_text _ s.0 s.1
+pub vectors_behind_answered : IsAnswered archive_schema vectors_behind_text []
+vectors_behind_answered =
+    let s = vectors_behind_suits in answered_by archive_schema vectors_behind_text _ s.0 s.1
 
 vectors_held_suits : MayAsk archive_schema vectors_held_text []
 unfolding understood everything

@@ -12,6 +12,8 @@ pub mod KeptLemmas
 pub mod RenewLemmas
 pub mod AgreeLemmas
 pub mod WholeLemmas
+pub mod LackLemmas
+pub mod LastLemmas
 pub mod AgreedLemmas
 pub mod FreeLemmas
 pub mod QueryLemmas

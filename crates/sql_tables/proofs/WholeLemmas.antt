@@ -37,15 +37,15 @@ use Rattle.records.specs.Lists.{IsPairwise}
 use Rattle.records.proofs.Sorting.{sorted_is, rises-sort_by}
 use Rattle.sql_schema.specs.Tables.{archive_schema}
 use Rattle.sql_tables.specs.Words.{cells, columns_of}
-use Rattle.sql_tables.specs.Derived.{AreNumbered, IsCells, is_later, is_newer, same, current_of, currents_of, current_columns, last_of, vectors_of, vector_columns}
+use Rattle.sql_tables.specs.Derived.{AreNumbered, IsCells, is_later, is_newer, same, current_of, currents_of, current_columns, last_of, vector_columns}
 use Rattle.sql_tables.specs.State.{AreWhole}
-use Rattle.sql_tables.specs.Agreeing.{command_in, AreUncountable, BeginsUncountable, AreRising, ShowsOf, ShowsSome, HasCurrents, HasVectors}
-use Rattle.sql_tables.proofs.Texts.{currents_lack_text, currents_wanted_text, currents_held_text, vectors_lack_text, vectors_wanted_text, vectors_held_text}
+use Rattle.sql_tables.specs.Agreeing.{command_in, AreUncountable, BeginsUncountable, AreRising, ShowsOf, ShowsSome, HasCurrents}
+use Rattle.sql_tables.proofs.Texts.{currents_lack_text, currents_wanted_text, currents_held_text, vectors_held_text}
 use Rattle.sql_tables.proofs.ApartLemmas.{all-permuted}
-use Rattle.sql_tables.proofs.MadeLemmas.{later_tests, newer_tests, other_tests, counted_is, not_flag, picked}
+use Rattle.sql_tables.proofs.MadeLemmas.{later_tests, other_tests, counted_is, not_flag, picked}
 use Rattle.sql_tables.proofs.KeepLemmas.{empty_by}
 use Rattle.sql_tables.proofs.QueryLemmas.{equals, repaired}
-use Rattle.sql_tables.proofs.AgreeLemmas.{listing, listed, all_of_them, by_id, first_only, held_in, wanted_by, currents_held_is, vectors_held_is, currents_wanted_is, vectors_wanted_is, currents_lack_is, vectors_lack_is, shown_is, numeric_int, live_is, current_fits, vector_fits, lacks_current, lacks_vector, later_than, newer_than, no_later, no_newer, others_of, others_is, fits_current, current_count, lacked, fits_vector, vector_count, lacked_vector}
+use Rattle.sql_tables.proofs.AgreeLemmas.{listing, listed, all_of_them, by_id, first_only, held_in, wanted_by, currents_held_is, vectors_held_is, currents_wanted_is, currents_lack_is, shown_is, numeric_int, live_is, current_fits, lacks_current, later_than, no_later, others_of, others_is, fits_current, current_count, lacked}
 
 -- ---- numbers that rise
 
@@ -237,7 +237,7 @@ module _ (d : Database) (has : d.schema ≡ archive_schema) where
   abbrev as_archive : Database
   as_archive = record { schema = archive_schema; trees = d.trees }
 
-  as_archive_is : d ≡ as_archive
+  pub as_archive_is : d ≡ as_archive
   as_archive_is =
       ap (λ (s : Schema). let w : Database = record { schema = s; trees = d.trees } in w) has
 
@@ -269,20 +269,9 @@ module _ (d : Database) (has : d.schema ≡ archive_schema) where
       (λ r. list_all (holds ([] ∷ r ∷ (later_than d.trees r ∷ []) ∷ [])) (op1 Not (col 2 0) ∷ []))
       (λ r. [] ∷ r ∷ (later_than d.trees r ∷ []) ∷ []) refl (λ r. refl) it.rows a.0 a.1 ids few it.so
 
-  pub vectors_wanted_whole : AreNumbered (d.trees 1) → length (d.trees 1) < 2 ^ 64 - 1
-      → BeginsUncountable vectors_wanted_text d → ⊥
-  vectors_wanted_whole ids few b =
-      let it = begun_in vectors_wanted_text b in
-      let a = first_is vectors_wanted_text (wanted_by newer_tests) _ d.trees it.rows
-      vectors_wanted_is it.shown in
-      countable (inner 1 (counted 1 (inner 1 end) (newer_tests 2) end)) (op1 Not (col 2 0) ∷ [])
-      (overlay d.trees []) (d.trees 1)
-      (λ r. list_all (holds ([] ∷ r ∷ (newer_than d.trees r ∷ []) ∷ [])) (op1 Not (col 2 0) ∷ []))
-      (λ r. [] ∷ r ∷ (newer_than d.trees r ∷ []) ∷ []) refl (λ r. refl) it.rows a.0 a.1 ids few it.so
-
 -- ---- that no row that follows is missing
 
-same_int : (v w : Value) (n : ℤ) → v ≡ w → w ≡ Int n → same v w ≡ true
+pub same_int : (v w : Value) (n : ℤ) → v ≡ w → w ≡ Int n → same v w ≡ true
 same_int v w n e is = rw (e, is) (equals (Int n) (Int n) refl ∙ ap (λ k. is_eq k) (itself (Int n)))
   where
     itself : (x : Value) → value_cmp x x ≡ Equal
@@ -295,14 +284,14 @@ same_blob v w b e is =
     itself : (x : Value) → value_cmp x x ≡ Equal
     itself x = tied_itself value_cmp_total x
 
-has_from_map : {A B : Type 0} (f : A → B) (xs : List A) (y : B) → Has (map f xs) y
+pub has_from_map : {A B : Type 0} (f : A → B) (xs : List A) (y : B) → Has (map f xs) y
     → (x : A) × Has xs x × (y ≡ f x)
 has_from_map f [] y h = absurd h
 has_from_map f (x ∷ xs) y (inl e) = (x, inl refl, e)
 has_from_map f (x ∷ xs) y (inr h) =
     let it = has_from_map f xs y h in (it.0, inr it.1, it.2)
 
-all_has_permuted : (xs ys : List Row) → IsPermutation xs ys → AllByRecursion (Has ys) xs
+pub all_has_permuted : (xs ys : List Row) → IsPermutation xs ys → AllByRecursion (Has ys) xs
 all_has_permuted xs ys same_rows =
     recursion_from_All (Has ys) xs (All-permutation (Has ys) ys xs (IsPermutation-sym xs ys same_rows)
     (All-from_recursion (Has ys) ys (each_itself ys)))
@@ -316,7 +305,7 @@ all_has_permuted xs ys same_rows =
     each_itself [] = tt
     each_itself (z ∷ zs) = (inl refl, weaken z zs zs (each_itself zs))
 
-any_by : {A : Type 0} (p : A → Bool) (xs : List A) (x : A) → Has xs x → p x ≡ true
+pub any_by : {A : Type 0} (p : A → Bool) (xs : List A) (x : A) → Has xs x → p x ≡ true
     → list_any p xs ≡ true
 any_by p [] x h is = absurd h
 any_by p (y ∷ xs) x (inl e) is = rw (subst (λ z. p z ≡ true) e is) refl
@@ -331,7 +320,7 @@ eight_true : {a b c d e f g h : Bool} → a ≡ true → b ≡ true → c ≡ tr
     → (a && (b && (c && (d && (e && (f && (g && (h && true)))))))) ≡ true
 eight_true p q r s t u v w = rw (p, q, r, s, t, u, v, w) refl
 
-three_true : {a b c : Bool} → a ≡ true → b ≡ true → c ≡ true → (a && (b && (c && true))) ≡ true
+pub three_true : {a b c : Bool} → a ≡ true → b ≡ true → c ≡ true → (a && (b && (c && true))) ≡ true
 three_true p q r = rw (p, q, r) refl
 
 -- where one fits, none is missing
@@ -346,7 +335,7 @@ both_off false b e = refl
 first_off : (a b : Bool) → a ≡ false → (a && b) ≡ false
 first_off a b e = rw e refl
 
-none_listed : (key : Row → Row) (miss : Row → Bool) (rs all rows : List Row)
+pub none_listed : (key : Row → Row) (miss : Row → Bool) (rs all rows : List Row)
     → AllByRecursion (λ r. miss r ≡ false) rs → IsPermutation (map key (filter miss rs)) all
     → rows ≡ take 1 all → rows ≡ []
 none_listed key miss rs all rows off same_rows shown =
@@ -431,68 +420,6 @@ module _ (db : Trees) where
       none_listed (λ r. column r 1 ∷ []) (lacked db) (db 1) got.0 rows
       (no_current_lacked kept typed) got.1 got.2
 
-  vector_fits_it : (r c : Row) → IsCells (columns_of r) → last_of (columns_of r) ≡ vector_columns c
-      → fits_vector db r c ≡ true
-  vector_fits_it r c it same_row =
-      let at = λ (i : ℕ). ap (λ (x : Row). column x i) (sym same_row) in
-      three_true
-      (same_int (column c 0) (column r 1) it.origin (at 0) (ap (λ x. column x 0) it.is))
-      (same_int (column c 2) (column r 2) it.number (at 1) (ap (λ x. column x 1) it.is))
-      (same_int (column c 3) (column r 3) it.tick (at 2) (ap (λ x. column x 2) it.is))
-
-  no_vector_missing : HasVectors db → AllByRecursion IsCells (cells (db 1))
-      → AllByRecursion (λ r. lacked_vector db r ≡ false) (db 1)
-  no_vector_missing kept typed = go (db 1) there typed
-    where
-      top : Row → Bool
-      top c = not (list_any (is_newer c) (cells (db 1)))
-
-      there : AllByRecursion (Has (map vector_columns (db 6))) (vectors_of (cells (db 1)))
-      there = all_has_permuted (vectors_of (cells (db 1))) (map vector_columns (db 6)) kept.0
-
-      one : (r : Row) → IsCells (columns_of r)
-          → Has (map vector_columns (db 6)) (last_of (columns_of r)) → lacked_vector db r ≡ false
-      one r it h =
-          let found = has_from_map vector_columns (db 6) _ h in
-          let some = any_by (fits_vector db r) (db 6) found.0 found.1
-          (vector_fits_it r found.0 it found.2) in
-          both_off (is_true (unary Not (newer_than db r))) _
-          (off_by (list_any (fits_vector db r) (db 6)) _ (counted_is (fits_vector db r)
-          (λ c. [] ∷ r ∷ (newer_than db r ∷ []) ∷ c ∷ []) (db 6)) some)
-
-      go : (rs : List Row) → AllByRecursion (Has (map vector_columns (db 6)))
-          (map last_of (filter top (map columns_of rs)))
-          → AllByRecursion IsCells (map columns_of rs)
-          → AllByRecursion (λ r. lacked_vector db r ≡ false) rs
-      go [] h cs = tt
-      go (r ∷ rs) h cs = by (list_any (is_newer (columns_of r)) (cells (db 1))) refl h
-          (λ more. go rs more cs.1) (λ has. one r cs.0 has)
-        where
-          rest : List Row
-          rest = map last_of (filter top (map columns_of rs))
-
-          by : (b : Bool) → list_any (is_newer (columns_of r)) (cells (db 1)) ≡ b
-              → AllByRecursion (Has (map vector_columns (db 6)))
-              (map last_of (cond (not b) (columns_of r ∷ filter top (map columns_of rs))
-              (filter top (map columns_of rs))))
-              → (AllByRecursion (Has (map vector_columns (db 6))) rest
-              → AllByRecursion (λ x. lacked_vector db x ≡ false) rs)
-              → (Has (map vector_columns (db 6)) (last_of (columns_of r))
-              → lacked_vector db r ≡ false)
-              → (lacked_vector db r ≡ false) × AllByRecursion (λ x. lacked_vector db x ≡ false) rs
-          by true newer more on it = (first_off _ _ (no_newer db r ∙ ap not newer), on more)
-          by false last more on it = (it more.0, on more.1)
-
-  pub vectors_none : (rows : List Row) → HasVectors db → AllByRecursion IsCells (cells (db 1))
-      → IsAnswer lacks_vector (overlay db []) [] rows → rows ≡ []
-  vectors_none rows kept typed a =
-      let got = listed (inner 1 (counted 1 (inner 1 end) (newer_tests 2)
-      (counted 1 (inner 6 end) vector_fits end))) (op1 Not (col 2 0) ∷ op1 Not (col 3 0) ∷ [])
-      (col 1 1 ∷ []) [] first_only [] (overlay db []) (db 1) (lacked_vector db)
-      (λ r. [] ∷ r ∷ (newer_than db r ∷ []) ∷ (vector_count db r ∷ []) ∷ []) refl rows a in
-      none_listed (λ r. column r 1 ∷ []) (lacked_vector db) (db 1) got.0 rows
-      (no_vector_missing kept typed) got.1 got.2
-
 module _ (d : Database) (has : d.schema ≡ archive_schema) where
   shown_in : (sql : List ℕ) (rows : List Row) → ShowsOf sql d rows → ShowsOf sql (as_archive d has) rows
   shown_in sql rows = subst (λ x. ShowsOf sql x rows) (as_archive_is d has)
@@ -503,13 +430,6 @@ module _ (d : Database) (has : d.schema ≡ archive_schema) where
       let none = currents_none d.trees (row ∷ rows) kept typed
       (shown_is currents_lack_text lacks_current _ d.trees (row ∷ rows) currents_lack_is
       (shown_in currents_lack_text (row ∷ rows) shown)) in cc
-
-  pub vectors_show_none : AllByRecursion IsCells (cells (d.trees 1))
-      → ShowsSome vectors_lack_text d → HasVectors d.trees → ⊥
-  vectors_show_none typed (row, rows, shown) kept =
-      let none = vectors_none d.trees (row ∷ rows) kept typed
-      (shown_is vectors_lack_text lacks_vector _ d.trees (row ∷ rows) vectors_lack_is
-      (shown_in vectors_lack_text (row ∷ rows) shown)) in cc
 
 -- ---- there are no more of them than records
 

@@ -1,9 +1,13 @@
 -- Whether currents2 and vectors hold the rows that follow from those of records2, as an opening
 -- finds out.
-use Rattle.std.specs.Prelude.{◌≡◌, ◌⊎◌, ℕ, ◌-◌, ◌^◌, ◌≤◌, ℤ, ◌<ℤ◌, ◌≤ℤ◌, List, [], ◌∷◌, length, map, IsPermutation, None, IfSome, Result, Ok, Err}
-use Rattle.std.specs.List.{AllByRecursion}
+use Rattle.std.specs.Prelude.{◌≡◌, ◌⊎◌, ℕ, ◌-◌, ◌^◌, ◌≤◌, ℤ, ◌<ℤ◌, ◌≤ℤ◌, Bool, true, ◌&&◌, List, [], ◌∷◌, length, map, IsPermutation, None, IfSome, Result, Ok, Err}
+use Rattle.std.specs.List.{list_any, AllByRecursion}
 use Rattle.sqlite_value.specs.declared.value.Value.TheVariants.{Int}
 use Rattle.sqlite_value.specs.Order.{Row, column}
+use Rattle.sqlite_value.specs.declared.keys.Collation.TheVariants.{Binary}
+use Rattle.sqlite_sql.specs.Ops.{binary, is_true}
+use Rattle.sqlite_sql.specs.declared.ops.BinaryOp.TheVariants.{Compare}
+use Rattle.sqlite_sql.specs.declared.ops.CompareOp.TheVariants.{Ge}
 use Rattle.sqlite_schema.specs.declared.command.Command.{Command}
 use Rattle.sqlite_schema.specs.declared.command.Command.TheVariants.{Nothing}
 use Rattle.sqlite_resolve.specs.declared.compiled.Compiled.{Compiled}
@@ -15,7 +19,7 @@ use Rattle.sqlite.specs.Listing.{understood}
 use Rattle.sql_tables.specs.declared.integrity.Ids.{Ids}
 use Rattle.sql_schema.specs.Tables.{archive_schema}
 use Rattle.sql_tables.specs.Words.{cells}
-use Rattle.sql_tables.specs.Derived.{AreNumbered, currents_of, current_columns, vectors_of, vector_columns}
+use Rattle.sql_tables.specs.Derived.{AreNumbered, currents_of, current_columns, same, last_of, vectors_of, vector_columns}
 
 abbrev pub command_in : Result Compiled CompileError → Command
 command_in (Ok c) = c.command
@@ -70,7 +74,22 @@ abbrev pub HasCurrents : Trees → Type 0
 HasCurrents db =
     IsPermutation (currents_of (cells (db 1))) (map current_columns (db 4)) × AreNumbered (db 4)
 
--- and so does vectors
+-- a row of vectors, by its columns, is of the origin of a row of records2, and its number isn't
+-- less
+abbrev pub reaches : Row → Row → Bool
+reaches r v =
+    same (column v 0) (column r 0) && is_true (binary (Compare Ge Binary) (column v 1) (column r 1))
+
+-- each row of vectors has the origin, the number and the tick of a row of records2
+abbrev pub AreOfRecords : Trees → Type 0
+AreOfRecords db = HasEach (map last_of (cells (db 1))) (map vector_columns (db 6))
+
+-- each row of records2 is reached by a row of vectors
+abbrev pub AreReached : Trees → Type 0
+AreReached db =
+    AllByRecursion (λ r. list_any (reaches r) (map vector_columns (db 6)) ≡ true) (cells (db 1))
+
+-- vectors holds what follows from records2
 abbrev pub HasVectors : Trees → Type 0
 HasVectors db =
     IsPermutation (vectors_of (cells (db 1))) (map vector_columns (db 6)) × AreNumbered (db 6)

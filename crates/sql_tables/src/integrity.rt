@@ -7,11 +7,11 @@ ghost use Rattle.sqlite_value.specs.Order.{Row as Columns};
 ghost use Rattle.archive.specs.Store.{IsOfOpening};
 ghost use Rattle.sql_schema.specs.Tables.{archive_schema};
 ghost use Rattle.sql_tables.specs.Words.{cells};
-ghost use Rattle.sql_tables.specs.Derived.{AreKept, AreNumbered, currents_of, current_columns, vectors_of, vector_columns};
+ghost use Rattle.sql_tables.specs.Derived.{AreKept, AreNumbered, currents_of, current_columns};
 ghost use Rattle.sql_tables.specs.Rows.{IsFilled};
 ghost use Rattle.sql_tables.specs.Asking.{IsAnswered};
 ghost use Rattle.sql_tables.specs.State.{MayBeStopped, LeavesUnchanged, LeavesUnchangedOr, Holds, Idles};
-ghost use Rattle.sql_tables.specs.Agreeing.{ShowsOf, HasRisen, HasCounted, AreUncountable, BeginsUncountable, ShowsSome, HasEach, HasCurrents, HasVectors};
+ghost use Rattle.sql_tables.specs.Agreeing.{ShowsOf, HasRisen, HasCounted, AreUncountable, BeginsUncountable, ShowsSome, HasEach, AreOfRecords, AreReached, HasCurrents, HasVectors};
 ghost use Rattle.sql_tables.specs.Connections.{WhereClean, Sees, tables_of, CommitsNothing};
 
 use crate::decoding::int_at;
@@ -213,32 +213,33 @@ fn check_currents<S: Alter>(conn: &mut Connection<S>) -> Result<(), StoreFault>
     agree(fit, wanted, held)
 }
 
-/// Whether each last number that follows from the records is there, as it is where they are kept.
-fn vectors_fit<S: Alter>(conn: &mut Connection<S>) -> Result<bool, StoreFault>
+/// Whether each last number is a record's, as it is where they are kept.
+fn vectors_stand<S: Alter>(conn: &mut Connection<S>) -> Result<bool, StoreFault>
     requires idles { WhereClean S.Store conn.old Idles }
     requires filled { WhereClean S.Store conn.old (Sees IsFilled) }
     ensures { LeavesUnchanged (state S.Store conn.old) (state S.Store conn.new) result
-        (λ fit. (IsTrue fit → AreNumbered (tables_of S.Store conn.old 6)
-        → HasEach (map vector_columns (tables_of S.Store conn.old 6))
-        (vectors_of (cells (tables_of S.Store conn.old 1))))
-        × (fit ≡ false → HasVectors (tables_of S.Store conn.old) → ⊥)) }
+        (λ stand. (IsTrue stand → AreNumbered (tables_of S.Store conn.old 6)
+        → AreOfRecords (tables_of S.Store conn.old))
+        × (stand ≡ false → HasVectors (tables_of S.Store conn.old) → ⊥)) }
 {
     let _schema = conn.schema();
     shows_none(
         conn,
-        "SELECT r.origin FROM records2 AS r WHERE NOT EXISTS (SELECT 1 FROM records2 AS s WHERE s.origin = r.origin AND s.number > r.number) AND NOT EXISTS (SELECT 1 FROM vectors AS v WHERE v.origin = r.origin AND v.number = r.number AND v.tick = r.tick) LIMIT 1",
+        "SELECT v.origin FROM vectors AS v WHERE NOT EXISTS (SELECT 1 FROM records2 AS r WHERE r.origin = v.origin AND r.number = v.number AND r.tick = v.tick) LIMIT 1",
     )
 }
 
-/// How many last numbers follow from the records.
-fn vectors_wanted<S: Alter>(conn: &mut Connection<S>) -> Result<u64, StoreFault>
+/// Whether each record's origin has a last number that isn't below the record's, as it is where they are kept.
+fn vectors_reach<S: Alter>(conn: &mut Connection<S>) -> Result<bool, StoreFault>
     requires idles { WhereClean S.Store conn.old Idles }
+    requires filled { WhereClean S.Store conn.old (Sees IsFilled) }
     ensures { LeavesUnchanged (state S.Store conn.old) (state S.Store conn.new) result
-        (λ n. n ≡ length (vectors_of (cells (tables_of S.Store conn.old 1)))) }
+        (λ reach. (IsTrue reach → AreReached (tables_of S.Store conn.old))
+        × (reach ≡ false → HasVectors (tables_of S.Store conn.old) → ⊥)) }
 {
-    ids_in(
+    shows_none(
         conn,
-        "SELECT r.rowid FROM records2 AS r WHERE NOT EXISTS (SELECT 1 FROM records2 AS s WHERE s.origin = r.origin AND s.number > r.number) ORDER BY r.rowid",
+        "SELECT r.origin FROM records2 AS r WHERE NOT EXISTS (SELECT 1 FROM vectors AS v WHERE v.origin = r.origin AND v.number >= r.number) LIMIT 1",
     )
 }
 
@@ -251,21 +252,35 @@ fn vectors_held<S: Alter>(conn: &mut Connection<S>) -> Result<u64, StoreFault>
     ids_in(conn, "SELECT origin FROM vectors ORDER BY origin")
 }
 
-/// Refuses last numbers that aren't those of the records.
+/// Nothing, where both are so.
+fn both_hold(one: bool, other: bool) -> Result<(), StoreFault>
+    ensures same { OnOk result (IsTrue one × IsTrue other) }
+    ensures met { IfErr result (λ fault. IsOfOpening fault → ⊥) }
+    ensures refused { IfErr result (λ _. IsTrue one → IsTrue other → ⊥) }
+{
+    if one && other {
+        return Ok(());
+    }
+    Err(StoreFault::Refused)
+}
+
+/// Refuses last numbers that aren't those of the records: each has to be a record's, each record's origin has to have one that isn't
+/// below it, and no origin two.
 fn check_vectors<S: Alter>(conn: &mut Connection<S>) -> Result<(), StoreFault>
     requires idles { WhereClean S.Store conn.old Idles }
     requires filled { WhereClean S.Store conn.old (Sees IsFilled) }
     ensures { LeavesUnchanged (state S.Store conn.old) (state S.Store conn.new) result
         (λ _. HasVectors (tables_of S.Store conn.old)) }
 {
-    let fit = vectors_fit(conn)?;
-    let wanted = vectors_wanted(conn)?;
-    let held = vectors_held(conn)?;
-    agree(fit, wanted, held)
+    let stand = vectors_stand(conn)?;
+    let reach = vectors_reach(conn)?;
+    let _held = vectors_held(conn)?;
+    both_hold(stand, reach)
 }
 
 /// Refuses tables of current values and of vectors whose rows aren't those that follow from the records. Nothing is changed, and no
-/// row is kept in memory: each table is asked whether all that follow are there, how many follow, and how many there are.
+/// row is kept in memory: of current values it is asked whether all that follow are there, how many follow, and how many there are; of
+/// last numbers whether each is a record's, and reaches the records of its origin.
 pub fn check_kept<S: Alter>(conn: &mut Connection<S>) -> Result<(), StoreFault>
     requires idles { WhereClean S.Store conn.old Idles }
     requires filled { WhereClean S.Store conn.old (Sees IsFilled) }

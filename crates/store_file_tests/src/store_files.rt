@@ -389,20 +389,95 @@ static OTHER_RECORDS: [&[&str]; 2] = [
     &["UPDATE records2 SET value = x'' WHERE number = 2"],
 ];
 
-/// Current values that aren't those of the records.
-static OTHER_VALUES: [&[&str]; 5] = [
+/// Current values that aren't those of the records: of another stamp, of no record, of the one before the last, with another flag or
+/// another value, none, one of another moment, and one that tells of others where its record is alone.
+static OTHER_VALUES: [&[&str]; 15] = [
     &["UPDATE currents2 SET tick = 100"],
+    &["UPDATE currents2 SET tick = 103"],
+    &["UPDATE currents2 SET origin = 2"],
     &["UPDATE currents2 SET live = 1"],
+    &["UPDATE currents2 SET live = 2"],
     &["UPDATE currents2 SET extra = 0"],
+    &["UPDATE currents2 SET extra = 2"],
+    &["UPDATE currents2 SET value = x''"],
+    &["UPDATE currents2 SET time = 11"],
+    &["UPDATE currents2 SET node = x'00'"],
     &["DELETE FROM currents2"],
     &["INSERT INTO currents2 VALUES (x'00', 1, 0, 1, 1, 1, 0, x'00')"],
+    &[
+        "DELETE FROM currents2",
+        "INSERT INTO currents2 SELECT node, time, pico, tick, origin, 1, 1, value FROM records2 WHERE number = 2",
+    ],
+    &[
+        "DELETE FROM records2 WHERE number > 1",
+        "UPDATE vectors SET number = 1, tick = 100",
+        "DELETE FROM currents2",
+        "INSERT INTO currents2 SELECT node, time, pico, tick, origin, 1, 1, value FROM records2",
+    ],
+    &[
+        "INSERT INTO currents2 SELECT node, time, 1, tick, origin, live, extra, value FROM currents2",
+    ],
 ];
 
-/// Last numbers that aren't those of the records.
-static OTHER_NUMBERS: [&[&str]; 2] = [
+/// Last numbers that aren't those of the records: another tick, too new or too old a number, that of the record before the last, none,
+/// one of no record's origin, and none or a wrong one of the second of two origins.
+static OTHER_NUMBERS: [&[&str]; 11] = [
     &["UPDATE vectors SET tick = 100"],
+    &["UPDATE vectors SET number = 4"],
+    &["UPDATE vectors SET number = 2"],
+    &["UPDATE vectors SET number = 2, tick = 101"],
+    &["UPDATE vectors SET origin = 2"],
+    &["DELETE FROM vectors"],
     &["INSERT INTO vectors VALUES (2, 1, 100)"],
+    &["INSERT INTO vectors VALUES (2, 0, 0)"],
+    &[SECOND_RECORD, SECOND_VALUE],
+    &[
+        SECOND_RECORD,
+        SECOND_VALUE,
+        "INSERT INTO vectors VALUES (2, 3, 102)",
+    ],
+    &[
+        SECOND_RECORD,
+        SECOND_VALUE,
+        "INSERT INTO vectors VALUES (2, 1, 105)",
+        "DELETE FROM vectors WHERE origin = 1",
+    ],
 ];
+
+/// A record of a second origin, and its current value.
+const SECOND_RECORD: &str =
+    "INSERT INTO records2 SELECT 2, 1, 105, node, 15, pico, asked, who, value FROM records2 WHERE number = 1";
+
+const SECOND_VALUE: &str =
+    "INSERT INTO currents2 SELECT node, time, pico, tick, origin, 1, 0, value FROM records2 WHERE origin = 2";
+
+/// Changed tables that agree: of one record, and of two origins.
+static AGREEING: [&[&str]; 2] = [
+    &[
+        "DELETE FROM records2 WHERE number > 1",
+        "UPDATE vectors SET number = 1, tick = 100",
+        "DELETE FROM currents2",
+        "INSERT INTO currents2 SELECT node, time, pico, tick, origin, 1, 0, value FROM records2",
+    ],
+    &[
+        SECOND_RECORD,
+        SECOND_VALUE,
+        "INSERT INTO vectors VALUES (2, 1, 105)",
+    ],
+];
+
+/// Whether a store of three records is opened after each of some statements.
+fn are_opened(alloc: Global, changes: &[&[&str]]) -> bool {
+    for statements in changes {
+        let Some(files) = changed(alloc, of_three(alloc), statements) else {
+            return false;
+        };
+        if open_one(alloc, files).is_err() {
+            return false;
+        }
+    }
+    true
+}
 
 /// Whether a store of three records is refused after each of some statements.
 fn are_refused(alloc: Global, spoiled: &[&[&str]]) -> bool {
@@ -471,6 +546,12 @@ fn other_records_are_refused(rt: HostRuntime) -> Result<(), Fail> {
 #[test]
 fn other_current_values_are_refused(rt: HostRuntime) -> Result<(), Fail> {
     assert!(rt; are_refused(rt.alloc(), &OTHER_VALUES));
+    Ok(())
+}
+
+#[test]
+fn tables_that_agree_are_opened(rt: HostRuntime) -> Result<(), Fail> {
+    assert!(rt; are_opened(rt.alloc(), &AGREEING));
     Ok(())
 }
 
