@@ -2,3 +2,4 @@ pub mod Raising
 pub mod Names
 pub mod Hearing
 pub mod Outcomes
+pub mod Truths

@@ -1,2 +1,3 @@
 pub mod Clashes
 pub mod Comparing
+pub mod Truth

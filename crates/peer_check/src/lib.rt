@@ -4,6 +4,7 @@
 
 mod calling;
 mod comparing;
+pub mod laws;
 
 pub use calling::compare;
 pub use comparing::{Clash, find_clash};
