@@ -204,7 +204,7 @@ def front():
     tell(status == 200 and body == b"" and int(fields["Content-Length"]) > 0, "HEAD gets the head alone", (status, fields))
     status, fields, body = server.ask("/status.json")
     told = json.loads(body)
-    tell(status == 200 and fields["Content-Type"] == "application/json" and told["archive"] == ARCHIVE and told["replica"] == 1 and told["records"] == {"1": 12}, "/status.json tells the archive, the replica and its records", told)
+    tell(status == 200 and fields["Content-Type"] == "application/json" and told["archive"] == ARCHIVE and told["replica"] == 1 and told["records"] == {"1": 12} and told["peers"] == [], "/status.json tells the archive, the replica, its records and that no peer is called", told)
     picture(server, "/", "front")
     server.stop()
 

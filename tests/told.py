@@ -6,7 +6,7 @@
 A server whose settings say `[log] events = true` and `[server] logins = 3` has clients, a browser, a peer and strangers. Each line
 that this prints tells what held, or what was otherwise; the exit status is 1 then.
 """
-import base64, os, re, socket, subprocess, sys, tempfile, threading, time
+import base64, json, os, re, socket, subprocess, sys, tempfile, threading, time
 import opcua, usage
 from opcua import Client, int32, node, value_at
 
@@ -80,16 +80,29 @@ class Server:
         state = status(line.ask(line.client.activate(user, password)))
         return line, state, time.monotonic() - begin
 
-    def page(self, user=None, password=""):
-        """The status of the first page, and how long it took."""
-        begin = time.monotonic()
+    def answer(self, path="/", user=None, password=""):
+        """What a browser is answered."""
         with socket.create_connection(("127.0.0.1", self.web), timeout=10) as line:
             given = "" if user is None else "Authorization: Basic " + base64.b64encode(f"{user}:{password}".encode()).decode() + "\r\n"
-            line.sendall(f"GET / HTTP/1.1\r\nHost: x\r\n{given}\r\n".encode())
+            line.sendall(f"GET {path} HTTP/1.1\r\nHost: x\r\n{given}\r\n".encode())
             came = b""
             while more := line.recv(65536):
                 came += more
-        return int(came.split()[1]), time.monotonic() - begin
+        return came
+
+    def page(self, user=None, password=""):
+        """The status of the first page, and how long it took."""
+        begin = time.monotonic()
+        return int(self.answer("/", user, password).split()[1]), time.monotonic() - begin
+
+    def peers(self, is_so=lambda peers: True, most=5):
+        """What the status tells of the peers, once that is so, or some seconds are over."""
+        until = time.monotonic() + most
+        while True:
+            peers = json.loads(self.answer("/status.json").split(b"\r\n\r\n", 1)[1])["peers"]
+            if is_so(peers) or time.monotonic() > until:
+                return peers
+            time.sleep(0.05)
 
 
 def shows_events():
@@ -133,14 +146,25 @@ def shows_events():
 def shows_calls():
     table = "\n[log]\nevents = true\n"
     one = Server(log=table)
-    two = Server(log=table, tables=f"\n[[peer]]\naddress = '127.0.0.1:{one.port}'\nevery = 1\n")
+    two = Server(log=table, tables=f"\n[[peer]]\naddress = '127.0.0.1:{one.port}'\nevery = 1\n[[peer]]\naddress = '127.0.0.2:9'\nevery = 86400\n")
+    tell(one.peers() == [], "the status of one that calls nobody tells of no peer", one.peers())
+    peers = two.peers(lambda peers: peers[0]["last"] and peers[1]["last"])
+    tell([peer["address"] for peer in peers] == [f"127.0.0.1:{one.port}", "127.0.0.2:9"], "that of one that calls two tells of both", peers)
+    last = peers[0]["last"] or {}
+    tell(re.fullmatch(TIME, last.get("ended", "")) and last["fault"] is None, "a call that came to its end is told with its time", peers)
+    other = peers[1]["last"] or {}
+    tell(re.fullmatch(r"connection ended \(\d\)", other.get("fault", "")), "and one that nobody took with its fault", peers)
     line, _, _ = one.login()
     details = opcua.extension(682, T + opcua.u32(1) + opcua.array([value_at(int32(1), opcua.EPOCH + 10**15)]))
     line.ask(line.client.history_update([details]))
     called = f"uahist: {TIME} peer 127\\.0\\.0\\.1:{one.port} called: all was exchanged \\(learned 1, sent 0\\)"
     tell(two.lines(called), "the one that calls tells what was exchanged", two.said)
     tell(one.lines(f"uahist: {TIME} {HOST} ended after \\d+ ms and \\d+ answers?: all was exchanged \\(learned 0, sent 1\\)"), "and so does the one that is called", one.said)
+    page = two.answer().decode()
+    tell(re.search(f"<tr><td>127\\.0\\.0\\.1:{one.port}</td><td>{TIME}</td><td>all was exchanged</td><td>\\d</td><td>0</td></tr>", page), "the first page tells the last calls, too", page[-900:])
     one.process.kill()
+    peers = two.peers(lambda peers: peers[0]["last"]["fault"])
+    tell(re.fullmatch(r"connection ended \(\d\)", peers[0]["last"]["fault"] or "") and peers[0]["last"]["ended"] > last["ended"] and peers[1]["last"] == other, "that the other machine is gone is told within a call, and all else stays", peers)
     tell(two.lines(f"uahist: {TIME} peer 127\\.0\\.0\\.1:{one.port} called: connection ended \\(\\d\\) \\(learned 0, sent 0\\)"), "a call that can't be had is told", two.said)
     two.process.kill()
     door = free_port()

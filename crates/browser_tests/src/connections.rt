@@ -4,10 +4,11 @@ use crate::portions::{Written, empty_archive, learn, learn_many, printed, report
 use Coming::{ByBytes, Crowded, Whole};
 use archive::{Archive, StoreFault};
 use history_report::Form;
-use std::alloc::Global;
+use std::alloc::{AllocError, Global};
 use std::test::Fail;
 use ua_settings::Settings;
 use web_connection::{WebConnection, WebStep};
+use web_page::{LastCalls, Overview};
 
 /// Settings of the plant where users need a name: a user and two variables.
 const CLOSED: &str = "[archive]\nid = '12345678-9abc-def0-1234-56789abcdef0'\nreplica = 7\n\
@@ -37,6 +38,20 @@ fn is_planted<A: Archive>(alloc: Global, archive: &mut A) -> bool {
 /// How many steps went on, and the last step; absent where the test is at fault.
 type Ended = Option<(usize, WebStep)>;
 
+/// Takes a step; no peer is called.
+fn take_step<A: Archive>(
+    settings: &Settings,
+    archive: &mut A,
+    connection: &mut WebConnection,
+    out: &mut Vec<u8>,
+) -> Result<WebStep, AllocError> {
+    let overview = Overview {
+        settings,
+        calls: &LastCalls::none(*out.allocator()),
+    };
+    connection.answer(overview, archive, out)
+}
+
 /// Takes steps until one doesn't go on.
 fn answer_all<A: Archive>(
     settings: &Settings,
@@ -45,7 +60,7 @@ fn answer_all<A: Archive>(
     out: &mut Vec<u8>,
 ) -> Ended {
     for count in 0..20 {
-        match connection.answer(settings, archive, out) {
+        match take_step(settings, archive, connection, out) {
             Ok(WebStep::Continues) => {}
             Ok(step) => return Some((count, step)),
             Err(_) => return None,
@@ -75,7 +90,7 @@ fn is_waiting<A: Archive>(
     connection: &mut WebConnection,
     out: &mut Vec<u8>,
 ) -> bool {
-    connection.answer(settings, archive, out) == Ok(WebStep::NeedsInput) && out.is_empty()
+    take_step(settings, archive, connection, out) == Ok(WebStep::NeedsInput) && out.is_empty()
 }
 
 /// Whether more input is needed, and nothing was made, before each of these bytes.
@@ -122,7 +137,7 @@ fn answer_crowded<A: Archive>(
         if connection.feed(bytes.as_bytes()).is_err() {
             return None;
         }
-        match connection.answer(settings, archive, out) {
+        match take_step(settings, archive, connection, out) {
             Ok(WebStep::Continues) => {}
             Ok(step) => return Some((count, step)),
             Err(_) => return None,
@@ -202,14 +217,14 @@ static ANSWERED: [Row; 10] = [
     (
         true,
         "GET /status.json HTTP/1.1\r\nHost: a\r\n\r\n",
-        "HTTP/1.1 200 OK\r\nContent-Type: application/json\r\nContent-Length: 82\r\nConnection: close\r\n",
-        "\r\n\r\n{\"archive\":\"12345678-9abc-def0-1234-56789abcdef0\",\"replica\":7,\"records\":{\"7\":41}}\n",
+        "HTTP/1.1 200 OK\r\nContent-Type: application/json\r\nContent-Length: 93\r\nConnection: close\r\n",
+        "\r\n\r\n{\"archive\":\"12345678-9abc-def0-1234-56789abcdef0\",\"replica\":7,\"records\":{\"7\":41},\"peers\":[]}\n",
         0,
     ),
     (
         true,
         "HEAD /status.json HTTP/1.1\r\nHost: a\r\n\r\n",
-        "HTTP/1.1 200 OK\r\nContent-Type: application/json\r\nContent-Length: 82\r\nConnection: close\r\n",
+        "HTTP/1.1 200 OK\r\nContent-Type: application/json\r\nContent-Length: 93\r\nConnection: close\r\n",
         "\r\nReferrer-Policy: no-referrer\r\n\r\n",
         0,
     ),

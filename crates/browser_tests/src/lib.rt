@@ -7,3 +7,5 @@ mod connections;
 mod parts;
 #[cfg(test)]
 mod portions;
+#[cfg(test)]
+mod status;

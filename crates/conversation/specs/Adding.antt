@@ -69,35 +69,39 @@ module _ {A C L : Type 0} (state : A → Store) where
       (refl, grows_none (state v.server.replica.archive))
 
   -- how a call ended
-  call_moves : (told : Telling L) (callee : ℕ) (v w : World A C L)
-      (outcome : Result (Unit {0}) SyncFault) (moved : Synced) (peer : Option PeerCall)
-      → TellsCallOf told v callee outcome moved w peer → Moves state v w
-  call_moves told callee v w outcome moved None e = same_moves v w e
-  call_moves told callee v w outcome moved (Some peer) logs = log_moves told _ v w logs
+  call_moves : (gave : C → List ℤ → C → Type 0) (told : Telling L) (callee : ℕ)
+      (v w : World A C L) (outcome : Result (Unit {0}) SyncFault) (moved : Synced)
+      (peer : Option PeerCall) → TellsCallOf gave told v callee outcome moved w peer
+      → Moves state v w
+  call_moves gave told callee v w outcome moved None e = same_moves v w e
+  call_moves gave told callee v w outcome moved (Some peer) ends =
+      subst (λ (u : World A C L). Moves state v u) (sym ends.same)
+      (refl, grows_none (state v.server.replica.archive))
 
   -- a call begins
-  begin_moves : (told : Telling L) (callee : ℕ) (v w : World A C L) (other : Option OtherEnd)
-      (result : Result (Unit {0}) ExchangeFault) → BeginsBy told callee v other w result
-      → Moves state v w
-  begin_moves told callee v w other (Ok done) so = same_moves v w so.1
-  begin_moves told callee v w other (Err fault) so =
-      call_moves told callee v w (Err (Exchange fault)) none_moved _ so.1
+  begin_moves : (gave : C → List ℤ → C → Type 0) (told : Telling L) (callee : ℕ)
+      (v w : World A C L) (other : Option OtherEnd) (result : Result (Unit {0}) ExchangeFault)
+      → BeginsBy gave told callee v other w result → Moves state v w
+  begin_moves gave told callee v w other (Ok done) so = same_moves v w so.1
+  begin_moves gave told callee v w other (Err fault) so =
+      call_moves gave told callee v w (Err (Exchange fault)) none_moved _ so.1
 
-  start_moves : (told : Telling L) (callee : ℕ) (v w : World A C L) (made : List ℕ)
-      (other : Option OtherEnd) → StartsCall state told callee v made other w → Moves state v w
-  start_moves told callee v w made other s =
+  start_moves : (gave : C → List ℤ → C → Type 0) (told : Telling L) (callee : ℕ)
+      (v w : World A C L) (made : List ℕ) (other : Option OtherEnd)
+      → StartsCall state gave told callee v made other w → Moves state v w
+  start_moves gave told callee v w made other s =
       more_moves v s.between w (s.settings, ask_grows _ _ made s.result s.asks)
-      (begin_moves told callee s.between w other s.result s.begins)
+      (begin_moves gave told callee s.between w other s.result s.begins)
 
   -- how a connection ended
-  end_moves : (told : Telling L) (stay : Stay) (v w : World A C L) (other : OtherEnd)
-      (ending : SlotEnd ConversationEnding) → TellsEnd told stay v other ending w
-      → Moves state v w
-  end_moves told stay v w other ending tells = by stay.party tells
+  end_moves : (gave : C → List ℤ → C → Type 0) (told : Telling L) (stay : Stay)
+      (v w : World A C L) (other : OtherEnd) (ending : SlotEnd ConversationEnding)
+      → TellsEnd gave told stay v other ending w → Moves state v w
+  end_moves gave told stay v w other ending tells = by stay.party tells
     where
-      by : (party : Party) → TellsEndOf told stay v other ending w party → Moves state v w
+      by : (party : Party) → TellsEndOf gave told stay v other ending w party → Moves state v w
       by (Called callee) tells =
-          call_moves told callee v w (call_outcome ending) (moved_by other) _ tells
+          call_moves gave told callee v w (call_outcome ending) (moved_by other) _ tells
       by (Accepted origin) logs = log_moves told _ v w logs
 
   -- how long a turn took
@@ -122,7 +126,7 @@ module _ {A C L : Type 0} (state : A → Store) where
     begins = λ origin v w other begun. log_moves told _ v w begun.1;
     answers = λ stay v w old new made ending a.
         answer_moves gave told stay v w old new made ending a;
-    closes = λ stay v w other ending closed. end_moves told stay v w other ending closed;
+    closes = λ stay v w other ending closed. end_moves gave told stay v w other ending closed;
     fails_accept = λ v w now logs. log_moves told _ v w logs;
-    calls = λ callee v w made other called. start_moves told callee v w made other called;
+    calls = λ callee v w made other called. start_moves gave told callee v w made other called;
   }

@@ -60,6 +60,7 @@ pub record AnswersClient {A C L : Type 0} (state : A → Store) (gave : C → Li
       (audited_by link.client.sessions later.client.sessions) v.logins
   pub from : w.from ≡ v.from
   pub now : w.now ≡ v.now
+  pub calls : w.calls ≡ v.calls
   pub advances : Advances v.server.settings (state v.server.replica.archive)
       (state w.server.replica.archive) link used made ends later
   pub ended_so : ending ≡ client_ending ends
@@ -90,6 +91,7 @@ pub record AnswersPeer {A C L : Type 0} (state : A → Store) (gave : C → List
   pub logins : w.logins ≡ unheld v.logins
   pub from : w.from ≡ v.from
   pub now : w.now ≡ v.now
+  pub calls : w.calls ≡ v.calls
   pub admitted : IsAdmitted v.server.settings time (party_of (state v.server.replica.archive))
       peer.frames.waiting
   pub talks : Talks peer.dialog (state v.server.replica.archive) (state w.server.replica.archive)
@@ -115,6 +117,7 @@ pub record RefusesPeer {A C L : Type 0} (state : A → Store) (gave : C → List
   pub logins : w.logins ≡ unheld v.logins
   pub from : w.from ≡ v.from
   pub now : w.now ≡ v.now
+  pub calls : w.calls ≡ v.calls
   pub refuses : Refuses v.server.settings time (party_of (state v.server.replica.archive))
       peer.frames.waiting said ends
   pub tells : Tells said ends made ending
@@ -142,7 +145,7 @@ LogsDenial told stay true old new = told old (Denied stay) new
 LogsDenial told stay false old new = new ≡ old
 
 -- what stood first on a browser's connection was answered, by one step over an archive, which stays
--- as it is; that it was denied what it asked for is told
+-- as it is, and by the last calls of peers; that it was denied what it asked for is told
 pub record AnswersBrowser {A C L : Type 0} (state : A → Store) (told : Telling L) (stay : Stay)
     (v : World A C L) (web : WebState) (made : List ℕ) (ending : Option ConversationEnding)
     (w : World A C L) (next : OtherEnd) : Type 0 where
@@ -154,8 +157,9 @@ pub record AnswersBrowser {A C L : Type 0} (state : A → Store) (told : Telling
   pub logins : w.logins ≡ after_step v.server.settings.logins stay v.now step v.logins
   pub from : w.from ≡ v.from
   pub now : w.now ≡ v.now
-  pub answers : AnswersWeb v.server.settings (state v.server.replica.archive)
-      (state w.server.replica.archive) web made step later
+  pub calls : w.calls ≡ v.calls
+  pub answers : AnswersWeb (record { settings = v.server.settings; calls = v.calls })
+      (state v.server.replica.archive) (state w.server.replica.archive) web made step later
   pub ended_so : ending ≡ web_ending step
   pub leaves : next ≡ unless_over ending (Browser later)
 

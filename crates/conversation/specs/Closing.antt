@@ -1,5 +1,5 @@
 -- What is told of connections: how each ended, and that a turn of one took long.
-use Rattle.std.specs.Prelude.{◌≡◌, ℕ, nat_le, Bool, true, false, List, Option, None, Some, Result, Ok, Err, slice_get}
+use Rattle.std.specs.Prelude.{◌≡◌, ℕ, ℤ, nat_le, Bool, true, false, List, [], ◌∷◌, Option, None, Some, Result, Ok, Err, slice_get}
 use Rattle.std.specs.Option.{option_map_or}
 use Rattle.multiplex.specs.declared.handler.SlotEnd.{SlotEnd}
 use Rattle.multiplex.specs.declared.handler.SlotEnd.TheVariants.{Finished, EndOfInput, ReadFailed, WriteFailed, IdleTimeout, Displaced}
@@ -7,6 +7,8 @@ use Rattle.multiplex.specs.declared.stay.Stay.{Stay}
 use Rattle.multiplex.specs.declared.stay.Party.{Party}
 use Rattle.multiplex.specs.declared.stay.Party.TheVariants.{Accepted, Called}
 use Rattle.exchange.specs.declared.fault.ExchangeFault.TheVariants.{Frame}
+use Rattle.exchange.specs.Fault.{exchange_number}
+use Rattle.counted_io.specs.Fault.{serve_fault_number}
 use Rattle.counted_io.specs.declared.fault.ServeFault.{ServeFault}
 use Rattle.counted_io.specs.declared.fault.ServeFault.TheVariants.{Read, Write}
 use Rattle.ua_peers.specs.declared.peers.PeerEnded.{PeerEnded}
@@ -16,6 +18,10 @@ use Rattle.ua_peers.specs.declared.calling.SyncFault.TheVariants.{Connection, Ex
 use Rattle.ua_peers.specs.declared.calling.Synced.{Synced}
 use Rattle.ua_settings.specs.declared.peers.PeerCall.{PeerCall}
 use Rattle.ua_settings.specs.Settings.{SettingsValues}
+use Rattle.web_page.specs.Calls.{after_call}
+use Rattle.web_page.specs.declared.calls.CallCause.{CallCause}
+use Rattle.web_page.specs.declared.calls.CallCause.TheVariants as told
+use Rattle.web_page.specs.declared.calls.CallEnd.{CallEnd}
 use Rattle.conversation.specs.declared.ended.Ended.TheVariants as ended
 use Rattle.conversation.specs.declared.other_end.OtherEnd.{OtherEnd}
 use Rattle.conversation.specs.declared.world.World.{World}
@@ -53,18 +59,47 @@ call_outcome EndOfInput = Err (Exchange Frame)
 call_outcome WriteFailed = Err (Connection Write)
 call_outcome other = Err (Connection Read)
 
--- it was told how a call of a peer ended, of this number, if there is one
-abbrev pub TellsCallOf : {A C L : Type 0} → Telling L → World A C L → (callee : ℕ)
-    → Result (Unit {0}) SyncFault → Synced → World A C L → Option PeerCall → Type 0
-TellsCallOf told v callee outcome moved w None = w ≡ v
-TellsCallOf told v callee outcome moved w (Some peer) =
-    Logs told (CallEnded callee peer.address outcome moved) v w
+-- why a call didn't come to its end, as pages tell it: whether by its connection or by the
+-- exchange, and the number of the fault
+abbrev pub call_cause : SyncFault → CallCause
+call_cause fault = elim fault [
+  | Connection cause ↦ told.Connection (serve_fault_number cause)
+  | Exchange cause ↦ told.Exchange (exchange_number cause)
+  | Peer number ↦ told.Exchange number
+]
 
--- it was told how a call of the peer of this number in the settings ended, if there is one
-abbrev pub TellsCall : {A C L : Type 0} → Telling L → World A C L → (callee : ℕ)
-    → Result (Unit {0}) SyncFault → Synced → World A C L → Type 0
-TellsCall told v callee outcome moved w =
-    TellsCallOf told v callee outcome moved w (slice_get v.server.settings.peers callee)
+-- how a call ended at this time, as pages tell it
+abbrev pub call_end : (at : ℤ) → Result (Unit {0}) SyncFault → Synced → CallEnd
+call_end at outcome moved = record {
+  at = at;
+  cause = elim outcome [ Ok done ↦ None | Err fault ↦ Some (call_cause fault) ];
+  learned = moved.learned;
+  sent = moved.sent;
+}
+
+-- a call of the peer of this number and this address ended so, at a time that the clock gave: it is
+-- told, and kept as the last call of that peer; those of all others stay, and all else
+pub record EndsCall {A C L : Type 0} (gave : C → List ℤ → C → Type 0) (told : Telling L)
+    (v : World A C L) (callee : ℕ) (address : List ℕ) (outcome : Result (Unit {0}) SyncFault)
+    (moved : Synced) (w : World A C L) : Type 0 where
+  pub at : ℤ
+  pub clock : gave v.clock (at ∷ []) w.clock
+  pub log : told v.log (CallEnded callee address outcome moved) w.log
+  pub calls : w.calls ≡ after_call callee (call_end at outcome moved) v.calls
+  pub same : w ≡ record v { clock = w.clock; log = w.log; calls = w.calls }
+
+-- a call of a peer ended so, of this number, if there is one
+abbrev pub TellsCallOf : {A C L : Type 0} → (C → List ℤ → C → Type 0) → Telling L → World A C L
+    → (callee : ℕ) → Result (Unit {0}) SyncFault → Synced → World A C L → Option PeerCall → Type 0
+TellsCallOf gave told v callee outcome moved w None = w ≡ v
+TellsCallOf gave told v callee outcome moved w (Some peer) =
+    EndsCall gave told v callee peer.address outcome moved w
+
+-- a call of the peer of this number in the settings ended so, if there is one
+abbrev pub TellsCall : {A C L : Type 0} → (C → List ℤ → C → Type 0) → Telling L → World A C L
+    → (callee : ℕ) → Result (Unit {0}) SyncFault → Synced → World A C L → Type 0
+TellsCall gave told v callee outcome moved w =
+    TellsCallOf gave told v callee outcome moved w (slice_get v.server.settings.peers callee)
 
 -- how a connection that was accepted, of which this is known, ended at this time
 abbrev pub parting_of : Stay → (at : ℕ) → SlotEnd ConversationEnding → Synced → Parting
@@ -72,17 +107,17 @@ parting_of stay at ending moved =
     record { stay = stay; at = at; ending = ending; moved = moved }
 
 -- it was told how a connection of this party ended, and of a call how that ended
-abbrev pub TellsEndOf : {A C L : Type 0} → Telling L → Stay → World A C L → OtherEnd
-    → SlotEnd ConversationEnding → World A C L → Party → Type 0
-TellsEndOf told stay v other ending w (Called callee) =
-    TellsCall told v callee (call_outcome ending) (moved_by other) w
-TellsEndOf told stay v other ending w (Accepted origin) =
+abbrev pub TellsEndOf : {A C L : Type 0} → (C → List ℤ → C → Type 0) → Telling L → Stay
+    → World A C L → OtherEnd → SlotEnd ConversationEnding → World A C L → Party → Type 0
+TellsEndOf gave told stay v other ending w (Called callee) =
+    TellsCall gave told v callee (call_outcome ending) (moved_by other) w
+TellsEndOf gave told stay v other ending w (Accepted origin) =
     Logs told (Parted (parting_of stay v.now ending (moved_by other))) v w
 
 -- the same of a connection of which this is known
-abbrev pub TellsEnd : {A C L : Type 0} → Telling L → Stay → World A C L → OtherEnd
-    → SlotEnd ConversationEnding → World A C L → Type 0
-TellsEnd told stay v other ending w = TellsEndOf told stay v other ending w stay.party
+abbrev pub TellsEnd : {A C L : Type 0} → (C → List ℤ → C → Type 0) → Telling L → Stay
+    → World A C L → OtherEnd → SlotEnd ConversationEnding → World A C L → Type 0
+TellsEnd gave told stay v other ending w = TellsEndOf gave told stay v other ending w stay.party
 
 -- it is this time for all connections
 abbrev pub with_now : {A C L : Type 0} → World A C L → (now : ℕ) → World A C L

@@ -28,8 +28,8 @@ first_end from origin =
       | door ↦ Unknown door []
     ]
 
--- what connections share that haven't begun: peers are taken from everywhere, and no refused login
--- is kept
+-- what connections share that haven't begun: peers are taken from everywhere, no refused login is
+-- kept, and no last call
 abbrev pub new_world : {A C L : Type 0} → Server A → C → L → World A C L
 new_world server clock log = record {
   server = server;
@@ -38,6 +38,7 @@ new_world server clock log = record {
   from = None;
   now = 0;
   logins = no_logins 0;
+  calls = [];
 }
 
 -- the store is broken, and the settings say that nobody is served then
@@ -55,11 +56,11 @@ behavior_over state gave told = record {
   is_over = serves_nobody state;
   begins = λ origin v other w.
       (other ≡ first_end v.from origin) × Logs told (Connected origin) v w;
-  calls = StartsCall state told;
+  calls = StartsCall state gave told;
   receives = TakesBytes;
   answers = AnswersFirst state gave told;
   delay = λ stay v other. delay_of v.logins;
-  closes = TellsEnd told;
+  closes = TellsEnd gave told;
   fails_accept = λ v now w. Logs told (AcceptFailed now) v w;
   needs_more = IsIncomplete;
   is_established = is_established;

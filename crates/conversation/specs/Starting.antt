@@ -1,5 +1,5 @@
 -- How a call of a peer begins.
-use Rattle.std.specs.Prelude.{◌≡◌, ◌⊎◌, ℕ, List, [], Option, None, Some, Result, Ok, Err}
+use Rattle.std.specs.Prelude.{◌≡◌, ◌⊎◌, ℕ, ℤ, List, [], Option, None, Some, Result, Ok, Err}
 use Rattle.archive.specs.Store.{Store}
 use Rattle.exchange.specs.declared.fault.ExchangeFault.{ExchangeFault}
 use Rattle.exchange.specs.declared.fault.ExchangeFault.TheVariants.{OutOfMemory}
@@ -22,17 +22,18 @@ AsksPeer old new made result =
     × (result ≡ Err OutOfMemory))
 
 -- a dialog is begun; or that it can't be is told, as the end of the call
-abbrev pub BeginsBy : {A C L : Type 0} → Telling L → (callee : ℕ) → World A C L
-    → Option OtherEnd → World A C L → Result (Unit {0}) ExchangeFault → Type 0
-BeginsBy told callee v other w (Ok done) =
+abbrev pub BeginsBy : {A C L : Type 0} → (C → List ℤ → C → Type 0) → Telling L → (callee : ℕ)
+    → World A C L → Option OtherEnd → World A C L → Result (Unit {0}) ExchangeFault → Type 0
+BeginsBy gave told callee v other w (Ok done) =
     (other ≡ Some (Peer (peer_at calling []))) × (w ≡ v)
-BeginsBy told callee v other w (Err fault) =
-    (other ≡ None) × TellsCall told v callee (Err (Exchange fault)) none_moved w
+BeginsBy gave told callee v other w (Err fault) =
+    (other ≡ None) × TellsCall gave told v callee (Err (Exchange fault)) none_moved w
 
 -- a peer is called, as the initiator of a dialog, over an archive; where that can't be, it is told,
--- as the end of the call; what the server is set to stays, and the time isn't asked for
-pub record StartsCall {A C L : Type 0} (state : A → Store) (told : Telling L) (callee : ℕ)
-    (v : World A C L) (made : List ℕ) (other : Option OtherEnd) (w : World A C L) : Type 0 where
+-- as the end of the call; what the server is set to stays, and for the begin the time isn't asked
+pub record StartsCall {A C L : Type 0} (state : A → Store) (gave : C → List ℤ → C → Type 0)
+    (told : Telling L) (callee : ℕ) (v : World A C L) (made : List ℕ) (other : Option OtherEnd)
+    (w : World A C L) : Type 0 where
   pub between : World A C L
   pub result : Result (Unit {0}) ExchangeFault
   pub settings : between.server.settings ≡ v.server.settings
@@ -41,6 +42,7 @@ pub record StartsCall {A C L : Type 0} (state : A → Store) (told : Telling L) 
   pub from : between.from ≡ v.from
   pub now : between.now ≡ v.now
   pub logins : between.logins ≡ v.logins
+  pub calls : between.calls ≡ v.calls
   pub asks : AsksPeer (state v.server.replica.archive) (state between.server.replica.archive) made
       result
-  pub begins : BeginsBy told callee between other w result
+  pub begins : BeginsBy gave told callee between other w result

@@ -38,6 +38,7 @@ use ua_connection::{Clock, Connection, Step};
 use ua_peers::{PeerEnded, take_first};
 use ua_session::AuditEvent;
 use web_connection::{WebConnection, WebStep};
+use web_page::Overview;
 
 /// What a step of a client's connection is to it.
 fn client_progress(step: Result<Step, ServeFault>) -> Progress<Result<Ended, ServeFault>>
@@ -281,7 +282,11 @@ fn answer_browser<A: Archive, C, L: Log>(
     ensures lacks { result ≡ Lacks → (out.new.items ≡ out.old.items) × NeedsRequest web.new }
 {
     let server = &mut world.server;
-    let step = web.answer(&server.settings, &mut server.replica.archive, out);
+    let overview = Overview {
+        settings: &server.settings,
+        calls: &world.calls,
+    };
+    let step = web.answer(overview, &mut server.replica.archive, out);
     let limit = server.settings.logins();
     world.logins.note_step(limit, stay, world.now, step);
     tell_denial(&mut world.log, stay, is_denied(step));

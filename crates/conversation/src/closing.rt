@@ -1,7 +1,8 @@
 //! What is told of a connection that ended.
 
-ghost use Rattle.std.specs.Prelude.{◌≡◌};
-ghost use Rattle.conversation.specs.Closing.{connection_fault, call_outcome, parted_outcome, TellsCall, TellsTurn, is_slow};
+ghost use Rattle.std.specs.Prelude.{◌≡◌, ℤ, [], ◌∷◌};
+ghost use Rattle.web_page.specs.Calls.{after_call};
+ghost use Rattle.conversation.specs.Closing.{connection_fault, call_cause, call_end, call_outcome, parted_outcome, TellsCall, TellsTurn, is_slow};
 
 use crate::ended::Ended;
 use crate::log::Log;
@@ -9,8 +10,10 @@ use crate::world::World;
 use counted_io::ServeFault;
 use exchange::ExchangeFault;
 use multiplex::SlotEnd;
+use ua_connection::Clock;
 use ua_peers::{PeerEnded, SyncFault, Synced};
 use ua_settings::Settings;
+use web_page::{CallCause, CallEnd, LastCalls};
 
 /// The fault by which a connection ended, if it did: one that was silent for too long, or made place for another, ended as by
 /// a read that failed.
@@ -53,19 +56,63 @@ pub(crate) fn call_outcome(ending: SlotEnd<Result<Ended, ServeFault>>) -> Result
     }
 }
 
-/// Tells how a call of the peer of this number in the settings ended, if there is one.
-pub(crate) fn tell_call<A, C, L: Log>(
+/// Why a call didn't come to its end, as pages tell it.
+fn call_cause(fault: SyncFault) -> CallCause
+    ensures { result ≡ call_cause fault }
+{
+    match fault {
+        SyncFault::Connection(fault) => CallCause::Connection(fault.number()),
+        SyncFault::Exchange(fault) => CallCause::Exchange(u32::from(fault.number())),
+        SyncFault::Peer(number) => CallCause::Exchange(number),
+    }
+}
+
+/// How a call ended at this time, as pages tell it.
+fn call_end(at: i64, outcome: Result<(), SyncFault>, moved: Synced) -> CallEnd
+    ensures { result ≡ call_end at outcome moved }
+{
+    let cause = match outcome {
+        Ok(()) => None,
+        Err(fault) => Some(call_cause(fault)),
+    };
+    CallEnd {
+        at,
+        cause,
+        learned: moved.learned,
+        sent: moved.sent,
+    }
+}
+
+/// Keeps a call of the peer of this number as the last one, with the time.
+fn keep_call<C: Clock>(
+    clock: &mut C,
+    calls: &mut LastCalls,
+    callee: usize,
+    outcome: Result<(), SyncFault>,
+    moved: Synced,
+)
+    ensures { (at : ℤ) × C.gave clock.old (at ∷ []) clock.new
+        × (calls.new ≡ after_call callee (call_end at outcome moved) calls.old) }
+{
+    let at = clock.now();
+    calls.note(callee, call_end(at, outcome, moved));
+}
+
+/// Tells how a call of the peer of this number in the settings ended, if there is one, and keeps it as the last call of that
+/// peer.
+pub(crate) fn tell_call<A, C: Clock, L: Log>(
     world: &mut World<A, C, L>,
     callee: usize,
     outcome: Result<(), SyncFault>,
     moved: Synced,
 )
-    ensures { TellsCall L.told world.old callee outcome moved world.new }
+    ensures { TellsCall C.gave L.told world.old callee outcome moved world.new }
 {
     if let Some(peer) = world.server.settings.peers().as_slice().get(callee) {
         world
             .log
             .tell_call(callee, peer.address.as_str(), outcome, moved);
+        keep_call(&mut world.clock, &mut world.calls, callee, outcome, moved);
     }
 }
 

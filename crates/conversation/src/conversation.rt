@@ -130,14 +130,14 @@ impl<A: Archive, C: Clock, L: Log> Handler for Conversation<A, C, L> {
         is_established(&self.other)
     }
 
-    /// Tells how a connection ended.
+    /// Tells how a connection ended. How a call did is kept, too.
     fn close(
         self,
         stay: Stay,
         world: &mut World<A, C, L>,
         ending: SlotEnd<Result<Ended, ServeFault>>,
     )
-        ensures { TellsEnd L.told stay world.old self ending world.new }
+        ensures { TellsEnd C.gave L.told stay world.old self ending world.new }
     {
         let moved = moved_by(&self.other);
         match stay.party {

@@ -6,6 +6,7 @@ use crate::logins::Logins;
 use crate::networks::Network;
 use historian::Server;
 use ua_binary::Listing;
+use web_page::LastCalls;
 
 /// A server, its clock, its log, and what is known of its connections, which share them.
 #[derive(Drop)]
@@ -22,13 +23,15 @@ pub struct World<A, C, L> {
     pub now: u64,
     /// Which logins were refused of late.
     pub logins: Logins,
+    /// How the last call of each peer of the settings ended.
+    pub calls: LastCalls,
 }
 
 impl<A, C, L> World<A, C, L> {
     ghost use Rattle.conversation.specs.Conversing.{new_world};
 
-    /// What connections share that haven't begun: peers are taken from everywhere, and no login was refused, nor is any kept.
-    /// It takes no memory.
+    /// What connections share that haven't begun: peers are taken from everywhere, no login was refused, nor is any kept, and no
+    /// last call is. It takes no memory.
     pub fn new(server: Server<A>, clock: C, log: L) -> World<A, C, L>
         ensures { result ≡ new_world server clock log }
     {
@@ -40,6 +43,7 @@ impl<A, C, L> World<A, C, L> {
             from: None,
             now: 0,
             logins: Logins::none(alloc),
+            calls: LastCalls::none(alloc),
         }
     }
 }

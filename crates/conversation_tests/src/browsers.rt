@@ -11,7 +11,7 @@ static ROWS: [(&str, &str, &str); 9] = [
     (
         "GET /status.json HTTP/1.1\r\nHost: a\r\n\r\n",
         "HTTP/1.1 200 OK\r\n",
-        "\r\n\r\n{\"archive\":\"00000000-0000-0000-0000-000000000000\",\"replica\":1,\"records\":{}}\n",
+        "\r\n\r\n{\"archive\":\"00000000-0000-0000-0000-000000000000\",\"replica\":1,\"records\":{},\"peers\":[]}\n",
     ),
     (
         "GET / HTTP/1.1\r\nHost: a\r\n\r\n",

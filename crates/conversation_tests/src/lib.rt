@@ -8,6 +8,8 @@ mod broken;
 #[cfg(test)]
 mod browsers;
 #[cfg(test)]
+mod calls;
+#[cfg(test)]
 mod conversations;
 #[cfg(test)]
 mod logins;

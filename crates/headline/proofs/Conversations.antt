@@ -145,32 +145,33 @@ module _ {A C L : Type 0} (state : A → Store) where
       }
 
   -- how a call ended was told, and the archive stays
-  told_same : (told : Telling L) (callee : ℕ) (v w : World A C L)
-      (outcome : Result (Unit {0}) SyncFault) (moved : Synced) (peer : Option PeerCall)
-      → TellsCallOf told v callee outcome moved w peer
+  told_same : (gave : C → List ℤ → C → Type 0) (told : Telling L) (callee : ℕ)
+      (v w : World A C L) (outcome : Result (Unit {0}) SyncFault) (moved : Synced)
+      (peer : Option PeerCall) → TellsCallOf gave told v callee outcome moved w peer
       → w.server.replica.archive ≡ v.server.replica.archive
-  told_same told callee v w outcome moved None e =
+  told_same gave told callee v w outcome moved None e =
       ap (λ (u : World A C L). u.server.replica.archive) e
-  told_same told callee v w outcome moved (Some peer) changed =
-      ap (λ (u : World A C L). u.server.replica.archive) changed.0
+  told_same gave told callee v w outcome moved (Some peer) ends =
+      ap (λ (u : World A C L). u.server.replica.archive) ends.same
 
-  begun_same : (told : Telling L) (callee : ℕ) (v w : World A C L) (other : Option OtherEnd)
-      (result : Result (Unit {0}) ExchangeFault) → BeginsBy told callee v other w result
+  begun_same : (gave : C → List ℤ → C → Type 0) (told : Telling L) (callee : ℕ)
+      (v w : World A C L) (other : Option OtherEnd) (result : Result (Unit {0}) ExchangeFault)
+      → BeginsBy gave told callee v other w result
       → w.server.replica.archive ≡ v.server.replica.archive
-  begun_same told callee v w other (Ok done) so =
+  begun_same gave told callee v w other (Ok done) so =
       ap (λ (u : World A C L). u.server.replica.archive) so.1
-  begun_same told callee v w other (Err fault) so =
-      told_same told callee v w (Err (Exchange fault)) none_moved _ so.1
+  begun_same gave told callee v w other (Err fault) so =
+      told_same gave told callee v w (Err (Exchange fault)) none_moved _ so.1
 
-  pub call_turns : (told : Telling L) (callee : ℕ) (v w : World A C L) (made : List ℕ)
-      (other : Option OtherEnd) (old : Plant A) (place : ℕ) (later : A)
-      → StartsCall state told callee v made other w
+  pub call_turns : (gave : C → List ℤ → C → Type 0) (told : Telling L) (callee : ℕ)
+      (v w : World A C L) (made : List ℕ) (other : Option OtherEnd) (old : Plant A) (place : ℕ)
+      (later : A) → StartsCall state gave told callee v made other w
       → IsMachine state old.machines place v.server.replica.archive
       → (state w.server.replica.archive).honest
       → RestartsAs (state w.server.replica.archive) (state later)
       → IsCallTurn state old (plant_after old place later made)
-  call_turns told callee v w made other old place later starts there honest goes =
-      let same = begun_same told callee starts.between w other starts.result starts.begins in
+  call_turns gave told callee v w made other old place later starts there honest goes =
+      let same = begun_same gave told callee starts.between w other starts.result starts.begins in
       record {
         place = place;
         before = v.server.replica.archive;

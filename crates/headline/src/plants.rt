@@ -147,7 +147,7 @@ pub fn conversations_take_turns<A: Archive, C: Clock, L: Log>()
         → IsRefusalTurn A.state old (plant_after old place later made) }
     ensures call { (callee : ℕ) (v w : Shared A C L) (made : List ℕ)
         (other : Option OtherEnd) (old : Plant A) (place : ℕ) (later : A)
-        → StartsCall A.state L.told callee v made other w
+        → StartsCall A.state C.gave L.told callee v made other w
         → IsMachine A.state old.machines place v.server.replica.archive
         → (A.state w.server.replica.archive).honest
         → RestartsAs (A.state w.server.replica.archive) (A.state later)

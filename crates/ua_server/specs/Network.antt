@@ -1,5 +1,5 @@
 -- Connections over a network, many at once.
-use Rattle.std.specs.Prelude.{◌≡◌, ℕ, ◌*◌, ◌^◌, ◌-◌, Option, None, Some, Bool}
+use Rattle.std.specs.Prelude.{◌≡◌, ℕ, ◌*◌, ◌^◌, ◌-◌, map, Option, None, Some, Bool}
 use Rattle.archive.specs.Store.{Store}
 use Rattle.ua_settings.specs.Settings.{SettingsValues}
 use Rattle.counted_io.specs.declared.fault.ServeFault.{ServeFault}
@@ -23,6 +23,7 @@ use Rattle.ua_server.specs.Telling.{Known, Readings, fresh_log}
 use Rattle.ua_server.specs.Logging.{logs_to}
 use Rattle.ua_server.specs.Starting.{LogsStart}
 use Rattle.conversation.specs.Logins.{no_logins}
+use Rattle.web_page.specs.Calls.{uncalled}
 
 -- this was done with a connection, and its failed calls were counted: of each kind 1 where the
 -- connection ended by that fault, and else 0
@@ -99,6 +100,7 @@ pub record ServesMany {C E : Type 0} (known : KnownMachine) (gave : Readings C) 
   pub starts : LogsStart told gave settings
       (fresh_log first.world.server.alloc settings.events old.clock old.errors) first.world.log
   pub logins : first.world.logins ≡ no_logins (refusals_kept settings.logins)
+  pub calls : first.world.calls ≡ map uncalled settings.peers
   pub peers_from : IsFrom (networks_at settings) first.world.from
   pub free : AreAllFree first.slots
   pub served : HasServed known.effects known.input known.output (conversations known.held gave told)

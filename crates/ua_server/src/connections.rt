@@ -1,12 +1,13 @@
 //! Connections over a network, many at once, of clients and of peers.
 
-ghost use Rattle.std.specs.Prelude.{◌≡◌, ◌⊎◌, ◌*◌, length, pos, Ok, Err, IfOk, IfErr};
+ghost use Rattle.std.specs.Prelude.{◌≡◌, ◌⊎◌, ◌*◌, length, map, pos, Ok, Err, IfOk, IfErr};
 ghost use Rattle.conversation.specs.declared.door.Door.{Door as Kind};
 ghost use Rattle.counted_io.specs.declared.fault.ServeFault.TheVariants.{OutOfMemory};
 ghost use Rattle.multiplex.specs.Serving.{AreAllFree};
 ghost use Rattle.ua_server.specs.Telling.{fresh_log};
 ghost use Rattle.ua_server.specs.Network.{limits_of, refusals_kept, serving_of, IsServingFault};
 ghost use Rattle.conversation.specs.Logins.{no_logins};
+ghost use Rattle.web_page.specs.Calls.{uncalled};
 ghost use Rattle.ua_server.specs.Host.{known_machine};
 ghost use Rattle.ua_server.specs.Program.{Listens};
 ghost use Rattle.ua_server.specs.Listening.{IsListening, HasNoAddress, door_fault};
@@ -25,6 +26,7 @@ use std::io::Write;
 use ua_binary::Listing;
 use ua_connection::Clock;
 use ua_settings::Settings;
+use web_page::LastCalls;
 
 /// So many refused logins are known at most.
 const MOST_REFUSALS: usize = 1_000;
@@ -102,6 +104,13 @@ fn logins_of(alloc: Global, settings: &Settings) -> Result<Logins, AllocError>
     }
 }
 
+/// The peers of these settings, none of which was called yet.
+fn calls_of(alloc: Global, settings: &Settings) -> Result<LastCalls, AllocError>
+    ensures { IfOk result (λ calls. calls ≡ map uncalled settings.now.peers) }
+{
+    LastCalls::new(alloc, settings.peers().as_slice())
+}
+
 /// Tells that the server begins, where events are told; then serves so many connections at the addresses of its settings, many at once, and calls the peers of these settings when
 /// they are due, till all connections have ended; or, where the settings say so, till the store is broken, which is a fault.
 pub(crate) fn serve_at<H: Host, C: Clock, E: Write>(
@@ -127,9 +136,13 @@ pub(crate) fn serve_at<H: Host, C: Clock, E: Write>(
     let Ok(logins) = logins_of(alloc, &world.server.settings) else {
         return Err(ProgramFault::Connection(ServeFault::OutOfMemory));
     };
+    let Ok(calls) = calls_of(alloc, &world.server.settings) else {
+        return Err(ProgramFault::Connection(ServeFault::OutOfMemory));
+    };
     let (mut source, from) = listen_at(alloc, &world.server.settings, host)?;
     world.from = from;
     world.logins = logins;
+    world.calls = calls;
     world.log.log_start(&world.server.settings);
     let report = serve::<H::Source, Conversation<H::Archive, C, ErrorLog<E, C>>>(
         alloc,

@@ -101,3 +101,16 @@ text-by items (Ok text) made s t faults P Q says is reads =
     made-by s t faults P (λ R faults. Q R faults (items text))
     (λ R p. subst (λ (l : List ℕ). Q R faults l) (sym is) (says R p)) reads
 text-by items (Err starved) made s t faults P Q says is reads = only-asked s t faults P reads
+
+-- a text of which this holds, unless memory ran out
+pub text-of : {A : Type 0} (items : A → List ℕ) (result : Result A AllocError)
+    (IsText : List ℕ → Type 0) (s t : Store) (faults : List StoreFault) (P : Content → Type 0)
+    (Q : Content → List StoreFault → List ℕ → Type 0)
+    → ((R : Content) (text : List ℕ) → P R → IsText text → Q R faults text)
+    → IfOk result (λ text. IsText (items text)) → Reads s t faults P
+    → MatchResult result (λ text. Makes s t (λ R faults. Q R faults (items text)))
+    (λ starved. OnlyAsks s t)
+text-of items (Ok text) IsText s t faults P Q says is reads =
+    made-by s t faults P (λ R faults. Q R faults (items text))
+    (λ R p. says R (items text) p is) reads
+text-of items (Err starved) IsText s t faults P Q says is reads = only-asked s t faults P reads

@@ -4,3 +4,4 @@ mod AskingLemmas
 mod DenialLemmas
 mod PageLemmas
 mod StepLemmas
+mod PeerLemmas

@@ -19,8 +19,8 @@ use Rattle.history_report.specs.Parts.{AreCrowded, AsksForPart, IsFirstPart, Lac
 use Rattle.history_report.specs.Portions.{Begins, Remainder, IsOfSame, IsPortion, IsWhole, ending}
 use Rattle.settings_check.specs.Stored.{IsVectorOf, Reads}
 use Rattle.web_page.specs.declared.fault.PageFault.{PageFault}
+use Rattle.web_page.specs.Calls.{Overview}
 use Rattle.web_page.specs.Front.{page_faults}
-use Rattle.ua_settings.specs.Settings.{SettingsValues}
 use Rattle.web_request.specs.Refusals.{refusal_text}
 use Rattle.web_request.specs.declared.answer.Kind.{Kind}
 use Rattle.web_request.specs.declared.answer.Kind.TheVariants.{Html, Json}
@@ -29,8 +29,8 @@ use Rattle.web_request.specs.declared.page.Question.{Question}
 use Rattle.web_request.specs.declared.page.Refusal.{Refusal}
 use Rattle.web_request.specs.declared.page.Refusal.TheVariants as why
 use Rattle.web_request.specs.declared.page.Request.{Request}
-use Rattle.web_connection.specs.Answers.{BeginsCsv, GoesOn, IsCrowded, IsHistoryPage, IsPortionText, OnlyAsks, Makes, TellsCsv, rest_of, TellsAsked, TellsPage, TellsRefusal, TellsStoreFault, AnswersRequest, refusal_of, report_of, sending_of}
-use Rattle.web_connection.specs.Status.{status_json}
+use Rattle.web_connection.specs.Answers.{BeginsCsv, GoesOn, IsCrowded, IsHistoryPage, IsPortionText, IsStatus, OnlyAsks, Makes, TellsCsv, rest_of, TellsAsked, TellsPage, TellsRefusal, TellsStoreFault, AnswersRequest, refusal_of, report_of, sending_of}
+use Rattle.web_connection.specs.Status.{IsStatusJson}
 use Rattle.web_connection.specs.Texts.{answer_text, csv_head, coding_of}
 use Rattle.web_connection.specs.declared.sending.Sending.{Sending}
 use Rattle.web_connection.specs.declared.sending.Told.{Told}
@@ -54,15 +54,17 @@ pub store-told : (head_only : Bool) (fault : StoreFault)
 store-told head_only fault = (one-fault fault, refl)
 
 -- how the server does
-pub state-told : (s : SettingsValues) (R : Content) (head_only : Bool) (numbers : List ℕ)
-    → IsVectorOf numbers R → TellsPage Json head_only (λ page. page ≡ status_json s (vec R)) []
-    (answer_text Json (status_json s (number_of numbers)) head_only)
-state-told s R head_only numbers same =
+pub state-told : (overview : Overview) (R : Content) (head_only : Bool) (numbers text : List ℕ)
+    → IsVectorOf numbers R
+    → (page : List ℕ) × IsStatusJson overview (number_of numbers) page
+    × (text ≡ answer_text Json page head_only)
+    → TellsPage Json head_only (IsStatus overview R) [] text
+state-told overview R head_only numbers text same (page, is, told) =
     inr (
       refl,
-      status_json s (number_of numbers),
-      ap (status_json s) (λ i replica. same replica i),
-      refl,
+      page,
+      subst (λ (f : ℕ → ℕ). IsStatusJson overview f page) (λ i replica. same replica i) is,
+      told,
     )
 
 -- a history that is begun
@@ -97,39 +99,39 @@ history-told R question report head_only empty page text asked none same shown =
     )
 
 -- what a request is answered, by why it is refused
-abbrev Judged : SettingsValues → Content → Request → Option Refusal → List StoreFault → List ℕ
+abbrev Judged : Overview → Content → Request → Option Refusal → List StoreFault → List ℕ
     → Option Sending → Type 0
-Judged s R request judged faults text sending =
+Judged overview R request judged faults text sending =
     elim judged [
       | Some cause ↦ TellsRefusal cause request.head_only faults text × (sending ≡ None)
-      | None ↦ TellsAsked s R request.page request.head_only request.takes_chunks faults text
+      | None ↦ TellsAsked overview R request.page request.head_only request.takes_chunks faults text
           sending
     ]
 
 -- a request that is refused
-pub refused : (s : SettingsValues) (R : Content) (request : Request) (judged : Option Refusal)
-    (cause : Refusal) (text : List ℕ) → judged ≡ refusal_of s request → judged ≡ Some cause
-    → text ≡ refusal_text cause request.head_only → AnswersRequest s R request [] text None
-refused s R request judged cause text by is told =
-    subst (λ (o : Option Refusal). Judged s R request o [] text None) (sym is ∙ by)
+pub refused : (overview : Overview) (R : Content) (request : Request) (judged : Option Refusal)
+    (cause : Refusal) (text : List ℕ) → judged ≡ refusal_of overview.settings request → judged ≡ Some cause
+    → text ≡ refusal_text cause request.head_only → AnswersRequest overview R request [] text None
+refused overview R request judged cause text by is told =
+    subst (λ (o : Option Refusal). Judged overview R request o [] text None) (sym is ∙ by)
     ((refl, told), refl)
 
 -- one that isn't
-pub taken : (s : SettingsValues) (R : Content) (request : Request) (judged : Option Refusal)
+pub taken : (overview : Overview) (R : Content) (request : Request) (judged : Option Refusal)
     (faults : List StoreFault) (text : List ℕ) (sending : Option Sending)
-    → judged ≡ refusal_of s request → judged ≡ None
-    → TellsAsked s R request.page request.head_only request.takes_chunks faults text sending
-    → AnswersRequest s R request faults text sending
-taken s R request judged faults text sending by is told =
-    subst (λ (o : Option Refusal). Judged s R request o faults text sending) (sym is ∙ by) told
+    → judged ≡ refusal_of overview.settings request → judged ≡ None
+    → TellsAsked overview R request.page request.head_only request.takes_chunks faults text sending
+    → AnswersRequest overview R request faults text sending
+taken overview R request judged faults text sending by is told =
+    subst (λ (o : Option Refusal). Judged overview R request o faults text sending) (sym is ∙ by) told
 
 -- the page that is asked for
-pub asked-as : (s : SettingsValues) (R : Content) (asked page : Page) (head_only chunked : Bool)
+pub asked-as : (overview : Overview) (R : Content) (asked page : Page) (head_only chunked : Bool)
     (faults : List StoreFault) (text : List ℕ) (sending : Option Sending) → asked ≡ page
-    → TellsAsked s R page head_only chunked faults text sending
-    → TellsAsked s R asked head_only chunked faults text sending
-asked-as s R asked page head_only chunked faults text sending is told =
-    subst (λ (p : Page). TellsAsked s R p head_only chunked faults text sending) (sym is) told
+    → TellsAsked overview R page head_only chunked faults text sending
+    → TellsAsked overview R asked head_only chunked faults text sending
+asked-as overview R asked page head_only chunked faults text sending is told =
+    subst (λ (p : Page). TellsAsked overview R p head_only chunked faults text sending) (sym is) told
 
 -- a history that is crowded
 pub crowded-told : (R : Content) (question : Question) (report : Report)

@@ -6,6 +6,7 @@ use Rattle.records.specs.Contents.{Content}
 use Rattle.archive.specs.Store.{Store}
 use Rattle.archive.specs.declared.fault.StoreFault.{StoreFault}
 use Rattle.ua_settings.specs.Settings.{SettingsValues}
+use Rattle.web_page.specs.Calls.{Overview}
 use Rattle.web_request.specs.Requests.{IsCutHead}
 use Rattle.web_connection.specs.Answers.{AnswersInput, AnswersWeb, AreWrongIn, GoesFurther, GoesOn, AnswersStep, IsDenied, Makes, OnlyAsks, sending_of, step_of, web_of}
 use Rattle.web_connection.specs.declared.sending.Sending.{Sending}
@@ -17,7 +18,7 @@ use Rattle.web_connection.specs.declared.step.WebStep.TheVariants.{NeedsInput, C
 use Rattle.web_connection.proofs.AskingLemmas.{made-as, reads-as}
 
 -- what is told next, or that a whole head is waited for
-abbrev pub Nexts : SettingsValues → (came : List ℕ) → (old : Option Sending) → Store → Store
+abbrev pub Nexts : Overview → (came : List ℕ) → (old : Option Sending) → Store → Store
     → Option Told → Type 0
 Nexts v came old s t answer =
     MatchOption answer ((old ≡ None) × IsCutHead came × Makes s t (λ R faults. faults ≡ []))
@@ -25,7 +26,7 @@ Nexts v came old s t answer =
     (sending_of told.rest)))
 
 -- what came is answered, where nothing is being sent
-pub first-next : (v : SettingsValues) (came : List ℕ) (old : Option Sending) (s t : Store)
+pub first-next : (v : Overview) (came : List ℕ) (old : Option Sending) (s t : Store)
     (result : Result (Option Told) AllocError) → old ≡ None
     → MatchResult result (λ answer. MatchOption answer
     (IsCutHead came × Makes s t (λ R faults. faults ≡ []))
@@ -45,7 +46,7 @@ first-next v came old s t (Ok (Some told)) is made =
 first-next v came old s t (Err starved) is asks = asks
 
 -- a history goes on
-pub goes-next : (v : SettingsValues) (came : List ℕ) (old : Option Sending) (left : Sending)
+pub goes-next : (v : Overview) (came : List ℕ) (old : Option Sending) (left : Sending)
     (s t : Store) (text : List ℕ) (sending : Option Sending) → old ≡ Some left
     → Makes s t (λ R faults. GoesOn R left faults text sending)
     → Makes s t (λ R faults. GoesFurther v R came old faults text sending)
@@ -123,7 +124,7 @@ step-denies v came old behind step both e =
     (λ d. both.0 (told.0 d), λ d. told.1 (both.1 d))
 
 -- nothing was made for want of memory
-pub step-starved : (v : SettingsValues) (came : List ℕ) (old new : Option Sending) (s t : Store)
+pub step-starved : (v : Overview) (came : List ℕ) (old new : Option Sending) (s t : Store)
     (starved : AllocError) (before after : List ℕ) → after ≡ before → OnlyAsks s t
     → (made : List ℕ) × (after ≡ before ++ made)
     × AnswersWeb v s t (web_of came old) made (Err starved) (web_of came new)
@@ -140,10 +141,10 @@ step-starved v came old new s t starved before after same (faults, reads) = (
 )
 
 -- a step goes further
-pub step-sent : (v : SettingsValues) (came : List ℕ) (old new : Option Sending) (behind : Rest)
+pub step-sent : (v : Overview) (came : List ℕ) (old new : Option Sending) (behind : Rest)
     (s t : Store) (text : List ℕ) (result : Result WebStep AllocError) (before after : List ℕ)
     → Makes s t (λ R faults. GoesFurther v R came old faults text (sending_of behind))
-    → (behind ≡ rest.Denied) ↔ IsDenied v (web_of came old)
+    → (behind ≡ rest.Denied) ↔ IsDenied v.settings (web_of came old)
     → IfOk result (λ step. (after ≡ before ++ text) × (new ≡ sending_of behind)
     × (step ≡ step_of behind))
     → OnErr result (after ≡ before)
@@ -162,7 +163,7 @@ step-sent v came old new behind s t text (Ok Continues) before after (faults, re
           (λ none. some-left behind ok.2 (sym ok.1 ∙ none)),
           subst (λ (o : Option Sending). GoesFurther v R came old faults text o) (sym ok.1) p,
         )) reads,
-    step-denies v came old behind Continues both ok.2,
+    step-denies v.settings came old behind Continues both ok.2,
   ),
 )
 step-sent v came old new behind s t text (Ok Ended) before after (faults, reads) both ok err = (
@@ -176,7 +177,7 @@ step-sent v came old new behind s t text (Ok Ended) before after (faults, reads)
           ok.1 ∙ none-left behind ok.2,
           subst (λ (o : Option Sending). GoesFurther v R came old faults text o) (sym ok.1) p,
         )) reads,
-    step-denies v came old behind Ended both ok.2,
+    step-denies v.settings came old behind Ended both ok.2,
   ),
 )
 step-sent v came old new behind s t text (Ok Denied) before after (faults, reads) both ok err = (
@@ -190,7 +191,7 @@ step-sent v came old new behind s t text (Ok Denied) before after (faults, reads
           ok.1 ∙ denied-left behind ok.2,
           subst (λ (o : Option Sending). GoesFurther v R came old faults text o) (sym ok.1) p,
         )) reads,
-    step-denies v came old behind Denied both ok.2,
+    step-denies v.settings came old behind Denied both ok.2,
   ),
 )
 step-sent v came old new behind s t text (Err starved) before after (faults, reads) both ok err =
@@ -201,9 +202,9 @@ step-sent v came old new behind s t text (Err starved) before after (faults, rea
     )
 
 -- a step waits
-pub step-waits : (v : SettingsValues) (came : List ℕ) (old new : Option Sending) (s t : Store)
+pub step-waits : (v : Overview) (came : List ℕ) (old new : Option Sending) (s t : Store)
     (before : List ℕ) → old ≡ None → new ≡ None → IsCutHead came
-    → Makes s t (λ R faults. faults ≡ []) → (¬ IsDenied v (web_of came old))
+    → Makes s t (λ R faults. faults ≡ []) → (¬ IsDenied v.settings (web_of came old))
     → (made : List ℕ) × (before ≡ before ++ made)
     × AnswersWeb v s t (web_of came old) made (Ok NeedsInput) (web_of came new)
 step-waits v came old new s t before is now cut (faults, reads) none = (

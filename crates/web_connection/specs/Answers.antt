@@ -18,6 +18,7 @@ use Rattle.history_report.specs.Reports.{IsHeader, report_faults, changes_asked}
 use Rattle.history_report.specs.Parts.{AreCrowded, IsFirstPart, IsPrinted, LacksText}
 use Rattle.history_report.specs.Portions.{Remainder, IsWhole, IsOfSame, IsPortion, ending}
 use Rattle.settings_check.specs.Stored.{Reads}
+use Rattle.web_page.specs.Calls.{Overview}
 use Rattle.web_page.specs.Front.{IsFront}
 use Rattle.web_request.specs.Refusals.{refusal_text}
 use Rattle.web_request.specs.Requests.{ReadsRequest as IsRead, IsCutHead}
@@ -32,7 +33,7 @@ use Rattle.web_request.specs.declared.page.Request.{Request}
 use Rattle.web_request.specs.declared.page.RequestFault.TheVariants.{Refused}
 use Rattle.web_connection.specs.Access.{is_let_in, are_wrong}
 use Rattle.web_connection.specs.Texts.{answer_text, csv_head, coding_of}
-use Rattle.web_connection.specs.Status.{status_json}
+use Rattle.web_connection.specs.Status.{IsStatusJson}
 use Rattle.web_connection.specs.declared.sending.Sending.{Sending}
 use Rattle.web_connection.specs.declared.sending.Rest.{Rest}
 use Rattle.web_connection.specs.declared.sending.Rest.TheVariants as rest
@@ -81,9 +82,10 @@ TellsPage kind head_only IsPage faults text =
     TellsStoreFault head_only faults text
     ⊎ ((faults ≡ []) × (page : List ℕ) × IsPage page × (text ≡ answer_text kind page head_only))
 
--- the page says how the server does, by the number of each replica's last record
-abbrev pub IsStatus : SettingsValues → Content → List ℕ → Type 0
-IsStatus s R page = page ≡ status_json s (vec R)
+-- the page says how the server does, by the number of each replica's last record and by its last
+-- calls of peers
+abbrev pub IsStatus : Overview → Content → List ℕ → Type 0
+IsStatus overview R page = IsStatusJson overview (vec R) page
 
 -- ---- histories
 
@@ -192,34 +194,34 @@ refusal_of s request =
     else Some why.Credentials
 
 -- what somebody who is let in is told: the page that is asked for
-abbrev pub TellsAsked : SettingsValues → Content → Page → (head_only chunked : Bool)
+abbrev pub TellsAsked : Overview → Content → Page → (head_only chunked : Bool)
     → List StoreFault → List ℕ → Option Sending → Type 0
-TellsAsked s R asked head_only chunked faults text sending =
+TellsAsked overview R asked head_only chunked faults text sending =
     elim asked [
-      | page.Front ↦ TellsPage Html head_only (IsFront s R) faults text × (sending ≡ None)
+      | page.Front ↦ TellsPage Html head_only (IsFront overview R) faults text × (sending ≡ None)
       | page.History question ↦ TellsHistory R question head_only faults text × (sending ≡ None)
       | page.Csv question ↦ TellsCsv R question head_only chunked faults text sending
-      | page.Status ↦ TellsPage Json head_only (IsStatus s R) faults text × (sending ≡ None)
+      | page.Status ↦ TellsPage Json head_only (IsStatus overview R) faults text × (sending ≡ None)
     ]
 
 -- what is told of a request: why it is refused, if it is; else its page
-abbrev pub AnswersRequest : SettingsValues → Content → Request → List StoreFault → List ℕ
+abbrev pub AnswersRequest : Overview → Content → Request → List StoreFault → List ℕ
     → Option Sending → Type 0
-AnswersRequest s R request faults text sending =
-    elim (refusal_of s request) [
+AnswersRequest overview R request faults text sending =
+    elim (refusal_of overview.settings request) [
       | Some cause ↦ TellsRefusal cause request.head_only faults text × (sending ≡ None)
-      | None ↦ TellsAsked s R request.page request.head_only request.takes_chunks faults text
+      | None ↦ TellsAsked overview R request.page request.head_only request.takes_chunks faults text
           sending
     ]
 
 -- what came is refused, or a request was read, which is answered
-abbrev pub AnswersInput : SettingsValues → Content → (came : List ℕ) → List StoreFault → List ℕ
+abbrev pub AnswersInput : Overview → Content → (came : List ℕ) → List StoreFault → List ℕ
     → Option Sending → Type 0
-AnswersInput s R came faults text sending =
+AnswersInput overview R came faults text sending =
     ((cause : Refusal) × (head_only : Bool) × IsRead came (Err (Refused cause head_only))
     × TellsRefusal cause head_only faults text × (sending ≡ None))
     ⊎ ((request : Request) × IsRead came (Ok (Some request))
-    × AnswersRequest s R request faults text sending)
+    × AnswersRequest overview R request faults text sending)
 
 -- a request came whose credentials let nobody in
 abbrev pub AreWrongIn : SettingsValues → (came : List ℕ) → Type 0
@@ -247,34 +249,34 @@ abbrev pub WaitsForRequest : WebState → List StoreFault → List ℕ → WebSt
 WaitsForRequest web faults made next = NeedsRequest web × (faults ≡ []) × (made ≡ []) × (next ≡ web)
 
 -- the answer to a request is begun, or goes on
-abbrev pub GoesFurther : SettingsValues → Content → (came : List ℕ) → Option Sending
+abbrev pub GoesFurther : Overview → Content → (came : List ℕ) → Option Sending
     → List StoreFault → (made : List ℕ) → Option Sending → Type 0
-GoesFurther s R came old faults made new =
+GoesFurther overview R came old faults made new =
     elim old [
-      | None ↦ AnswersInput s R came faults made new
+      | None ↦ AnswersInput overview R came faults made new
       | Some was ↦ GoesOn R was faults made new
     ]
 
 -- A step made this of the answer, over what an archive held, and its store met these faults; it
 -- goes on as long as something is still to be sent. Where memory was wanting, it made nothing.
-abbrev pub AnswersStep : SettingsValues → Content → WebState → List StoreFault → (made : List ℕ)
+abbrev pub AnswersStep : Overview → Content → WebState → List StoreFault → (made : List ℕ)
     → Result WebStep AllocError → WebState → Type 0
-AnswersStep s R web faults made (Err starved) next = made ≡ []
-AnswersStep s R web faults made (Ok NeedsInput) next = WaitsForRequest web faults made next
-AnswersStep s R web faults made (Ok Continues) next =
-    (next.sending ≢ None) × GoesFurther s R web.came web.sending faults made next.sending
-AnswersStep s R web faults made (Ok over) next =
-    (next.sending ≡ None) × GoesFurther s R web.came web.sending faults made next.sending
+AnswersStep overview R web faults made (Err starved) next = made ≡ []
+AnswersStep overview R web faults made (Ok NeedsInput) next = WaitsForRequest web faults made next
+AnswersStep overview R web faults made (Ok Continues) next =
+    (next.sending ≢ None) × GoesFurther overview R web.came web.sending faults made next.sending
+AnswersStep overview R web faults made (Ok over) next =
+    (next.sending ≡ None) × GoesFurther overview R web.came web.sending faults made next.sending
 
 -- An archive was asked, which stays as it is, and by what it held a step made this of the answer;
 -- its store met the faults that the answer is by, and no other. Whatever it held, a step that isn't
 -- starved is `Denied` exactly where who asks is to be denied.
-abbrev pub AnswersWeb : SettingsValues → Store → Store → WebState → (made : List ℕ)
+abbrev pub AnswersWeb : Overview → Store → Store → WebState → (made : List ℕ)
     → Result WebStep AllocError → WebState → Type 0
-AnswersWeb s old new web made result next =
+AnswersWeb overview old new web made result next =
     (faults : List StoreFault)
-    × Reads old new faults (λ R. AnswersStep s R web faults made result next)
-    × IfOk result (λ step. (step ≡ Denied) ↔ IsDenied s web)
+    × Reads old new faults (λ R. AnswersStep overview R web faults made result next)
+    × IfOk result (λ step. (step ≡ Denied) ↔ IsDenied overview.settings web)
 
 -- an archive was asked, which stays as it is, and a text of which this holds was made by it
 abbrev pub Makes : Store → Store → (Content → List StoreFault → Type 0) → Type 0

@@ -4,6 +4,7 @@ ghost use Rattle.std.specs.Prelude.{◌≡◌, ◌≢◌, ◌↔◌, ◌++◌, [
 ghost use Rattle.archive.specs.Store.{IsAskedWithin};
 ghost use Rattle.web_connection.specs.declared.step.WebStep.TheVariants.{NeedsInput};
 ghost use Rattle.web_connection.specs.declared.sending.Rest.TheVariants.{Denied};
+ghost use Rattle.web_page.specs.Calls.{overview_of};
 ghost use Rattle.web_request.specs.Requests.{IsCutHead};
 ghost use Rattle.web_connection.specs.Answers.{AnswersWeb, GoesFurther, IsDenied, Makes, NeedsRequest, OnlyAsks, new_web, sending_of, with_input, web_of, step_of};
 
@@ -14,7 +15,7 @@ use crate::step::WebStep;
 use archive::Archive;
 use std::alloc::{AllocError, Global};
 use std::marker::Model;
-use ua_settings::Settings;
+use web_page::Overview;
 
 /// Keeps what is still to be sent. What the step comes to.
 fn keep(rest: Rest, sending: &mut Option<Sending>) -> WebStep
@@ -44,7 +45,7 @@ fn tell_next<A: Archive>(
     alloc: Global,
     came: &[u8],
     sending: Option<Sending>,
-    settings: &Settings,
+    overview: Overview<'_>,
     archive: &mut A,
 ) -> Result<Option<Told>, AllocError>
     ensures answers { MatchResult result
@@ -52,16 +53,17 @@ fn tell_next<A: Archive>(
         ((sending ≡ None) × IsCutHead came.now
         × Makes (A.state archive.old) (A.state archive.new) (λ R faults. faults ≡ []))
         (λ told. Makes (A.state archive.old) (A.state archive.new)
-        (λ R faults. GoesFurther settings.now R came.now sending faults told.text.items
-        (sending_of told.rest))))
+        (λ R faults. GoesFurther (overview_of overview.entry) R came.now sending faults
+        told.text.items (sending_of told.rest))))
         (λ starved. OnlyAsks (A.state archive.old) (A.state archive.new)) }
     ensures denied { IfOk result (λ answer. MatchOption answer
-        (¬ IsDenied settings.now (web_of came.now sending))
-        (λ told. (told.rest ≡ Denied) ↔ IsDenied settings.now (web_of came.now sending))) }
+        (¬ IsDenied overview.entry.settings.now (web_of came.now sending))
+        (λ told. (told.rest ≡ Denied)
+        ↔ IsDenied overview.entry.settings.now (web_of came.now sending))) }
     ensures asked { IsAskedWithin 501 (A.asked archive.old) (A.asked archive.new) }
 {
     match sending {
-        None => answer_first(alloc, archive, settings, came),
+        None => answer_first(alloc, archive, overview, came),
         Some(left) => match next_portion(alloc, archive, left) {
             Ok(told) => Ok(Some(told)),
             Err(_) => Err(AllocError),
@@ -84,19 +86,19 @@ fn send(out: &mut Vec<u8>, told: Told, sending: &mut Option<Sending>) -> Result<
 fn take_step<A: Archive>(
     came: &[u8],
     sending: &mut Option<Sending>,
-    settings: &Settings,
+    overview: Overview<'_>,
     archive: &mut A,
     out: &mut Vec<u8>,
 ) -> Result<WebStep, AllocError>
     ensures answers { (made : List ℕ) × (out.new.items ≡ out.old.items ++ made)
-        × AnswersWeb settings.now (A.state archive.old) (A.state archive.new)
+        × AnswersWeb (overview_of overview.entry) (A.state archive.old) (A.state archive.new)
         (web_of came.now sending.old) made result (web_of came.now sending.new) }
     ensures lacks { result ≡ Ok NeedsInput
         → (out.new.items ≡ out.old.items) × NeedsRequest (web_of came.now sending.new) }
     ensures asked { IsAskedWithin 501 (A.asked archive.old) (A.asked archive.new) }
 {
     let alloc = *out.allocator();
-    match tell_next(alloc, came, sending.take(), settings, archive) {
+    match tell_next(alloc, came, sending.take(), overview, archive) {
         Ok(None) => Ok(WebStep::NeedsInput),
         Ok(Some(told)) => send(out, told, sending),
         Err(_) => Err(AllocError),
@@ -144,7 +146,7 @@ impl WebConnection {
 
     /// Makes the next part of the answer, and appends it to `out`: what came is refused, or the page
     /// that is asked for is told, whole or its head alone; a history as CSV goes on at each call, by at
-    /// most a hundred values or modifications of the records that were held when it began. Who isn't
+    /// most sixteen values or modifications of the records that were held when it began. Who isn't
     /// one of the settings' users is told that, and no page; where credentials were given, the step is
     /// `Denied`. The archive stays as it is; where its store meets a fault that is told, or a history
     /// that was begun is broken off.
@@ -153,13 +155,13 @@ impl WebConnection {
     /// it is behind `Ended` and `Denied`.
     pub fn answer<A: Archive>(
         &mut self,
-        settings: &Settings,
+        overview: Overview<'_>,
         archive: &mut A,
         out: &mut Vec<u8>,
     ) -> Result<WebStep, AllocError>
         ensures answers { (made : List ℕ) × (out.new.items ≡ out.old.items ++ made)
-            × AnswersWeb settings.now (A.state archive.old) (A.state archive.new) self.old made
-            result self.new }
+            × AnswersWeb (overview_of overview.entry) (A.state archive.old) (A.state archive.new)
+            self.old made result self.new }
         ensures lacks { result ≡ Ok NeedsInput
             → (out.new.items ≡ out.old.items) × NeedsRequest self.new }
         ensures asked { IsAskedWithin 501 (A.asked archive.old) (A.asked archive.new) }
@@ -167,7 +169,7 @@ impl WebConnection {
         take_step(
             self.came.as_slice(),
             &mut self.sending,
-            settings,
+            overview,
             archive,
             out,
         )

@@ -5,6 +5,7 @@ mod access;
 mod connection;
 mod history;
 mod pages;
+mod peers;
 mod requests;
 mod sending;
 mod status;

@@ -3,6 +3,7 @@
 ghost use Rattle.std.specs.Prelude.{◌≡◌, ◌≢◌, ◌↔◌, [], true, MatchResult, MatchOption, IfOk, None};
 ghost use Rattle.archive.specs.Store.{IsAskedWithin};
 ghost use Rattle.web_request.specs.Requests.{IsCutHead};
+ghost use Rattle.web_page.specs.Calls.{overview_of};
 ghost use Rattle.web_connection.specs.Access.{are_wrong};
 ghost use Rattle.web_connection.specs.Answers.{Makes, OnlyAsks, lacks_variable, refusal_of, sending_of, TellsAsked, AnswersRequest, AnswersInput, AreWrongIn};
 ghost use Rattle.web_connection.specs.declared.sending.Rest.TheVariants.{Denied};
@@ -15,6 +16,7 @@ use crate::texts::refusal_text;
 use archive::Archive;
 use std::alloc::{AllocError, Global};
 use ua_settings::Settings;
+use web_page::Overview;
 use web_request::{Page, Refusal, Request, RequestFault, read_request};
 
 /// Whether a history is asked for of a node that is no variable of the settings.
@@ -56,13 +58,13 @@ fn refused_rest(settings: &Settings, request: &Request) -> Rest
 fn told_request<A: Archive>(
     alloc: Global,
     archive: &mut A,
-    settings: &Settings,
+    overview: Overview<'_>,
     request: Request,
 ) -> Result<Told, AllocError>
     ensures answers { MatchResult result
         (λ told. Makes (A.state archive.old) (A.state archive.new)
-        (λ R faults. TellsAsked settings.now R request.page request.head_only request.takes_chunks
-        faults told.text.items (sending_of told.rest)))
+        (λ R faults. TellsAsked (overview_of overview.entry) R request.page request.head_only
+        request.takes_chunks faults told.text.items (sending_of told.rest)))
         (λ starved. OnlyAsks (A.state archive.old) (A.state archive.new)) }
     ensures let_in { IfOk result (λ told. told.rest ≢ Denied) }
     ensures asked { IsAskedWithin 501 (A.asked archive.old) (A.asked archive.new) }
@@ -75,11 +77,11 @@ fn told_request<A: Archive>(
     } = request;
     match page {
         Page::Front => Ok(Told {
-            text: front_text(alloc, archive, settings, head_only)?,
+            text: front_text(alloc, archive, overview, head_only)?,
             rest: Rest::Over,
         }),
         Page::Status => Ok(Told {
-            text: state_text(alloc, archive, settings, head_only)?,
+            text: state_text(alloc, archive, overview, head_only)?,
             rest: Rest::Over,
         }),
         Page::Csv(question) => told_csv(alloc, archive, question, head_only, takes_chunks),
@@ -94,24 +96,25 @@ fn told_request<A: Archive>(
 fn answer_request<A: Archive>(
     alloc: Global,
     archive: &mut A,
-    settings: &Settings,
+    overview: Overview<'_>,
     request: Request,
 ) -> Result<Told, AllocError>
     ensures answers { MatchResult result
         (λ told. Makes (A.state archive.old) (A.state archive.new)
-        (λ R faults. AnswersRequest settings.now R request faults told.text.items
+        (λ R faults. AnswersRequest (overview_of overview.entry) R request faults told.text.items
         (sending_of told.rest)))
         (λ starved. OnlyAsks (A.state archive.old) (A.state archive.new)) }
     ensures denied { IfOk result
-        (λ told. (told.rest ≡ Denied) ↔ (are_wrong settings.now request.credentials ≡ true)) }
+        (λ told. (told.rest ≡ Denied)
+        ↔ (are_wrong overview.entry.settings.now request.credentials ≡ true)) }
     ensures asked { IsAskedWithin 501 (A.asked archive.old) (A.asked archive.new) }
 {
-    match refusal_of(settings, &request) {
+    match refusal_of(overview.settings, &request) {
         Some(why) => Ok(Told {
             text: refusal_text(alloc, why, request.head_only)?,
-            rest: refused_rest(settings, &request),
+            rest: refused_rest(overview.settings, &request),
         }),
-        None => told_request(alloc, archive, settings, request),
+        None => told_request(alloc, archive, overview, request),
     }
 }
 
@@ -119,7 +122,7 @@ fn answer_request<A: Archive>(
 pub(crate) fn answer_first<A: Archive>(
     alloc: Global,
     archive: &mut A,
-    settings: &Settings,
+    overview: Overview<'_>,
     came: &[u8],
 ) -> Result<Option<Told>, AllocError>
     ensures answers { MatchResult result
@@ -127,16 +130,17 @@ pub(crate) fn answer_first<A: Archive>(
         (IsCutHead came.now × Makes (A.state archive.old) (A.state archive.new)
         (λ R faults. faults ≡ []))
         (λ told. Makes (A.state archive.old) (A.state archive.new)
-        (λ R faults. AnswersInput settings.now R came.now faults told.text.items
+        (λ R faults. AnswersInput (overview_of overview.entry) R came.now faults told.text.items
         (sending_of told.rest))))
         (λ starved. OnlyAsks (A.state archive.old) (A.state archive.new)) }
-    ensures denied { IfOk result (λ answer. MatchOption answer (¬ AreWrongIn settings.now came.now)
-        (λ told. (told.rest ≡ Denied) ↔ AreWrongIn settings.now came.now)) }
+    ensures denied { IfOk result (λ answer. MatchOption answer
+        (¬ AreWrongIn overview.entry.settings.now came.now)
+        (λ told. (told.rest ≡ Denied) ↔ AreWrongIn overview.entry.settings.now came.now)) }
     ensures asked { IsAskedWithin 501 (A.asked archive.old) (A.asked archive.new) }
 {
     match read_request(alloc, came) {
         Ok(None) => Ok(None),
-        Ok(Some(request)) => Ok(Some(answer_request(alloc, archive, settings, request)?)),
+        Ok(Some(request)) => Ok(Some(answer_request(alloc, archive, overview, request)?)),
         Err(RequestFault::Refused(why, head_only)) => Ok(Some(Told {
             text: refusal_text(alloc, why, head_only)?,
             rest: Rest::Over,

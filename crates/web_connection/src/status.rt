@@ -4,21 +4,16 @@ ghost use Rattle.std.specs.Prelude.{◌≡◌, ◌++◌, drop, OnOk, IfOk};
 ghost use Rattle.std.specs.Fmt.{decimal};
 ghost use Rattle.stamp.specs.Limits.{IsReplica};
 ghost use Rattle.stamp.specs.Numbers.{number_of};
-ghost use Rattle.web_connection.specs.Status.{member_text, members_text, replica_text, status_json};
+ghost use Rattle.web_page.specs.Calls.{overview_of};
+ghost use Rattle.web_connection.specs.Status.{member_text, members_text, replica_text, status_json, IsStatusJson};
 
+use crate::peers::{peers_text, put_number};
 use itoa::Buffer;
 use stamp::{ReplicaNo, Vector};
 use std::alloc::{AllocError, Global};
 use ua_settings::Settings;
 use uuid::Uuid;
-
-/// Appends a number.
-fn put_number(out: &mut Vec<u8>, number: u64) -> Result<(), AllocError>
-    ensures { OnOk result (out.new.items ≡ out.old.items ++ decimal number) }
-{
-    let mut buffer = Buffer::new();
-    out.extend_from_slice(buffer.format(number).as_bytes())
-}
+use web_page::Overview;
 
 /// Appends a replica and the number of its last record behind a comma, if it has any.
 fn put_member(out: &mut Vec<u8>, replica: ReplicaNo, number: u64) -> Result<(), AllocError>
@@ -84,22 +79,44 @@ fn replica_text(alloc: Global, settings: &Settings) -> Result<Vec<u8>, AllocErro
     Ok(text)
 }
 
-/// Which replica of which archive it is, and the number of the last record of each replica.
-pub(crate) fn status_text(
+/// Around these members and these peers, each of which stands behind a comma.
+fn whole_text(
     alloc: Global,
     settings: &Settings,
-    vector: &Vector,
+    members: &[u8],
+    peers: &[u8],
 ) -> Result<Vec<u8>, AllocError>
     ensures { IfOk result
-        (λ text. text.items ≡ status_json settings.now (number_of vector.now)) }
+        (λ text. text.items ≡ status_json settings.now members.now peers.now) }
 {
-    let members = members_text(alloc, vector)?;
     let replica = replica_text(alloc, settings)?;
     let mut out = Vec::new(alloc);
     out.push(b'{')?;
     out.extend_from_slice(replica.as_slice())?;
     out.extend_from_slice(b",\"records\":{")?;
-    out.extend_from_slice(behind_comma(members.as_slice()))?;
-    out.extend_from_slice(b"}}\n")?;
+    out.extend_from_slice(behind_comma(members))?;
+    out.extend_from_slice(b"},\"peers\":[")?;
+    out.extend_from_slice(behind_comma(peers))?;
+    out.extend_from_slice(b"]}\n")?;
     Ok(out)
+}
+
+/// Which replica of which archive it is, the number of the last record of each replica, and the
+/// last call of each peer that is called.
+pub(crate) fn status_text(
+    alloc: Global,
+    overview: Overview<'_>,
+    vector: &Vector,
+) -> Result<Vec<u8>, AllocError>
+    ensures { IfOk result (λ text.
+        IsStatusJson (overview_of overview.entry) (number_of vector.now) text.items) }
+{
+    let members = members_text(alloc, vector)?;
+    let peers = peers_text(alloc, overview.calls.as_slice())?;
+    whole_text(
+        alloc,
+        overview.settings,
+        members.as_slice(),
+        peers.as_slice(),
+    )
 }

@@ -1,4 +1,5 @@
 mod AskingLemmas
 mod ListingLemmas
-mod RowLemmas
+pub mod RowLemmas
 mod MarkupLemmas
+mod CallLemmas

@@ -7,7 +7,6 @@ use Rattle.records.specs.declared.shown.Held.{Held}
 use Rattle.records.specs.Contents.{Content}
 use Rattle.archive.specs.Store.{Store, IsLawfulContent}
 use Rattle.ua_space.specs.declared.layout.Layout.{Layout}
-use Rattle.ua_settings.specs.Settings.{SettingsValues}
 use Rattle.history_report.specs.Reports.{AreLines}
 use Rattle.history_report.specs.Paging.{IsPut}
 use Rattle.settings_check.specs.Stored.{Reads, IsVectorOf}
@@ -15,7 +14,8 @@ use Rattle.web_page.specs.declared.fault.PageFault.{PageFault}
 use Rattle.web_page.specs.declared.listing.Listed.{Listed}
 use Rattle.web_page.specs.Listing.{listed_variables}
 use Rattle.web_page.specs.Values.{AreLatestTexts}
-use Rattle.web_page.specs.Front.{front_row, IsRowOf, AreRows, IsFront, front_begin, front_end, page_faults}
+use Rattle.web_page.specs.Calls.{Overview}
+use Rattle.web_page.specs.Front.{front_row, IsRowOf, AreRows, IsFront, IsPageAround, page_faults}
 use Rattle.web_page.proofs.AskingLemmas.{reads-both}
 
 module _ {X : Type 0} (IsLine : X → List ℕ → Type 0) where
@@ -29,6 +29,21 @@ module _ {X : Type 0} (IsLine : X → List ℕ → Type 0) where
     one,
     lines-append xs ys rest t others more,
   )
+
+  -- one line more behind those of the first ones
+  pub lines-more : (now line new : List ℕ) (xs : List X) (i : ℕ) (d : X) → i < length xs
+      → AreLines IsLine (take i xs) now → IsLine (get_or xs i d) line → new ≡ now ++ line
+      → AreLines IsLine (take (i + 1) xs) new
+  lines-more now line new xs i d lt are one same =
+      subst (λ t. AreLines IsLine (take (i + 1) xs) t) (sym same)
+      (subst (λ l. AreLines IsLine l (now ++ line)) (sym (take_more xs i d lt))
+      (lines-append (take i xs) (get_or xs i d ∷ []) now line are
+      (line, [], sym (append-nil line), one, refl)))
+
+  -- the lines of all
+  pub lines-all : (text : List ℕ) (xs : List X) (i : ℕ) → length xs ≤ i
+      → AreLines IsLine (take i xs) text → AreLines IsLine xs text
+  lines-all text xs i whole are = subst (λ l. AreLines IsLine l text) (take_all i xs whole) are
 
   -- none so far
   pub put-none : (old : List ℕ) (xs : List X) → IsPut old old (AreLines IsLine (take 0 xs))
@@ -100,16 +115,28 @@ rows-told (Err why) s t u space within old new counts stops =
     (λ R. ⊤) (λ R. ⊤) (λ R p q. tt) counts stops
 
 -- the page around rows that were put behind nothing
-pub front-put : (s : SettingsValues) (space : Layout) (R : Content)
-    (empty rows slice old new : List ℕ) → empty ≡ [] → space ≡ s.space → slice ≡ rows
-    → IsPut empty rows (AreRows space R (listed_variables space))
-    → new ≡ old ++ (front_begin s ++ slice ++ front_end) → IsPut old new (IsFront s R)
-front-put s space R empty rows slice old new none same is (lines, put, are) whole = (
-  front_begin s ++ slice ++ front_end,
-  whole,
-  (
-    lines,
-    subst (λ (l : Layout). AreRows l R (listed_variables l) lines) same are,
-    ap (λ t. front_begin s ++ t ++ front_end) (is ∙ (put ∙ ap (λ t. t ++ lines) none)),
-  ),
-)
+pub front-put : (overview : Overview) (space : Layout) (R : Content)
+    (empty rows slice old new : List ℕ) → empty ≡ [] → space ≡ overview.settings.space
+    → slice ≡ rows → IsPut empty rows (AreRows space R (listed_variables space))
+    → IsPut old new (IsPageAround overview slice) → IsPut old new (IsFront overview R)
+front-put overview space R empty rows slice old new none same is (lines, put, are)
+    (page, whole, around) = (
+      page,
+      whole,
+      (
+        lines,
+        subst (λ (l : Layout). AreRows l R (listed_variables l) lines) same are,
+        subst (λ (t : List ℕ). IsPageAround overview t page)
+            (is ∙ (put ∙ ap (λ t. t ++ lines) none)) around,
+      ),
+    )
+
+-- four parts, one behind the other
+pub four-parts : (a b c d none one two three four : List ℕ) → none ≡ [] → one ≡ none ++ a
+    → two ≡ one ++ b → three ≡ two ++ c → four ≡ three ++ d → four ≡ a ++ b ++ c ++ d
+four-parts a b c d none one two three four n p q r s =
+    s ∙ (ap (λ l. l ++ d) (r ∙ ap (λ l. l ++ c) (q ∙ ap (λ l. l ++ b) (p ∙ ap (λ l. l ++ a) n)))
+    ∙ joined)
+  where
+    joined : [] ++ a ++ b ++ c ++ d ≡ a ++ b ++ c ++ d
+    joined = refl

@@ -1,5 +1,5 @@
 -- The page that a person begins at.
-use Rattle.std.specs.Prelude.{◌≡◌, ℕ, List, [], ◌∷◌, ◌++◌, codes, slice_get, unwrap_or, Option}
+use Rattle.std.specs.Prelude.{◌≡◌, ℕ, ◌==◌, List, [], ◌∷◌, ◌++◌, length, codes, slice_get, unwrap_or, Option, if◌then◌else◌}
 use Rattle.std.specs.Fmt.{decimal}
 use Rattle.uuid.specs.Text.{hyphenated_text, lower}
 use Rattle.form_urlencoded.specs.Form.{byte_serialize}
@@ -20,6 +20,8 @@ use Rattle.web_page.specs.declared.fault.PageFault.TheVariants.{Store, OutOfMemo
 use Rattle.web_page.specs.declared.listing.Listed.{Listed}
 use Rattle.web_page.specs.Listing.{listed_variables}
 use Rattle.web_page.specs.Values.{type_text, cut_text, AreLatestTexts}
+use Rattle.web_page.specs.Calls.{Overview, IsCallRow}
+use Rattle.web_page.specs.declared.calls.LastCall.{LastCall}
 
 -- ---- a row
 
@@ -108,17 +110,43 @@ front_begin s =
 abbrev pub front_end : List ℕ
 front_end = codes "</tbody>\n</table>\n</body>\n</html>\n"
 
+-- ---- peers
+
+-- from the rows of the variables to those of the peers: the names of their columns
+unfoldable pub peer_columns : List ℕ
+peer_columns =
+    codes "</tbody>\n</table>\n<h2>Peers</h2>\n<table>\n<thead>\n"
+    ++ codes "<tr><th scope=\"col\">peer</th><th scope=\"col\">last call</th>"
+    ++ codes "<th scope=\"col\">how it ended</th><th scope=\"col\">learned</th>"
+    ++ codes "<th scope=\"col\">sent</th></tr>\n</thead>\n<tbody>\n"
+
+-- rows of peers below the names of their columns; nothing, where there is no row
+abbrev pub below_columns : (rows : List ℕ) → List ℕ
+below_columns rows = if length rows == 0 then [] else peer_columns ++ rows
+
+-- the peers that are called, each with its last call
+abbrev pub ArePeers : List LastCall → List ℕ → Type 0
+ArePeers calls text =
+    (rows : List ℕ) × AreLines IsCallRow calls rows × (text ≡ below_columns rows)
+
 -- ---- the page
 
 -- rows of these variables, one behind the other
 abbrev pub AreRows : Layout → Content → List Listed → List ℕ → Type 0
 AreRows space R listed rows = AreLines (IsVariableRow space R) listed rows
 
--- the page of settings, over what an archive holds
-abbrev pub IsFront : SettingsValues → Content → List ℕ → Type 0
-IsFront s R page =
-    (rows : List ℕ) × AreRows s.space R (listed_variables s.space) rows
-    × (page ≡ front_begin s ++ rows ++ front_end)
+-- the page around these rows: above them what the settings say, and below them the peers
+abbrev pub IsPageAround : Overview → (rows : List ℕ) → List ℕ → Type 0
+IsPageAround overview rows page =
+    (peers : List ℕ) × ArePeers overview.calls peers
+    × (page ≡ front_begin overview.settings ++ rows ++ peers ++ front_end)
+
+-- the page of a server, over what its archive holds
+abbrev pub IsFront : Overview → Content → List ℕ → Type 0
+IsFront overview R page =
+    let space : Layout = overview.settings.space in
+    (rows : List ℕ) × AreRows space R (listed_variables space) rows
+    × IsPageAround overview rows page
 
 -- the fault of the store by which a page ended, if it is one of the store's
 abbrev pub page_faults : PageFault → List StoreFault

@@ -1,3 +1,4 @@
 pub mod Listing
 pub mod Values
+pub mod Calls
 pub mod Front

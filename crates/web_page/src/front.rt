@@ -6,13 +6,16 @@ ghost use Rattle.history_report.specs.Html.{page_begin};
 ghost use Rattle.history_report.specs.Paging.{IsPut};
 ghost use Rattle.settings_check.specs.Stored.{IsVectorOf, Reads};
 ghost use Rattle.web_page.specs.Listing.{listed_variables};
-ghost use Rattle.web_page.specs.Front.{IsRowOf, IsVariableRow, AreRows, IsFront, front_heading, front_style, front_columns, front_begin, front_end, page_faults};
+ghost use Rattle.web_page.specs.Front.{IsRowOf, IsVariableRow, AreRows, IsFront, IsPageAround, front_heading, front_style, front_columns, front_begin, front_end, page_faults};
+ghost use Rattle.web_page.specs.Calls.{overview_of};
 
 use crate::asking::latest_of;
+use crate::calls::Overview;
 use crate::fault::PageFault;
 use crate::html::put_escaped;
 use crate::latest::latest_texts;
 use crate::listing::{Listed, variables_of};
+use crate::peers::peers_text;
 use crate::row::put_row;
 use archive::Archive;
 use itoa::Buffer;
@@ -205,21 +208,32 @@ fn put_table<A: Archive>(
 
 // ---- the page
 
-/// Appends a page's rows and its end around them.
+/// The page around these rows.
+fn page_around(alloc: Global, overview: Overview<'_>, rows: &[u8]) -> Result<Vec<u8>, AllocError>
+    ensures { IfOk result
+        (λ page. IsPageAround (overview_of overview.entry) rows.now page.items) }
+{
+    let peers = peers_text(alloc, overview.calls)?;
+    let mut page = Vec::new(alloc);
+    put_begin(alloc, &mut page, overview.settings)?;
+    page.extend_from_slice(rows)?;
+    page.extend_from_slice(peers.as_slice())?;
+    page.extend_from_slice(b"</tbody>\n</table>\n</body>\n</html>\n")?;
+    Ok(page)
+}
+
+/// Appends the page around these rows.
 fn put_whole(
     alloc: Global,
     out: &mut Vec<u8>,
-    settings: &Settings,
+    overview: Overview<'_>,
     rows: &[u8],
 ) -> Result<(), AllocError>
     ensures put { OnOk result
-        (out.new.items ≡ out.old.items ++ (front_begin settings.now ++ rows.now ++ front_end)) }
+        (IsPut out.old.items out.new.items (IsPageAround (overview_of overview.entry) rows.now)) }
     ensures kept { OnErr result (out.new.items ≡ out.old.items) }
 {
-    let mut page = Vec::new(alloc);
-    put_begin(alloc, &mut page, settings)?;
-    page.extend_from_slice(rows)?;
-    page.extend_from_slice(b"</tbody>\n</table>\n</body>\n</html>\n")?;
+    let page = page_around(alloc, overview, rows)?;
     out.extend_from_slice(page.as_slice())
 }
 
@@ -227,30 +241,31 @@ fn put_whole(
 /// table of the variables of the settings: folder, name, id (a link to `/history` of it), type, and
 /// the value, status and time of the latest live value. First stand those in no folder, then folder
 /// by folder. Of a value its first 200 characters are shown, and of one that has no text, as an
-/// array, its type in brackets. The archive stays as it is; it is asked for one value of each
-/// variable. The page is made in memory before it is appended.
+/// array, its type in brackets. Where peers are called, a second table tells the last call of each:
+/// when it ended, how, and how many records it moved. The archive stays as it is; it is asked for
+/// one value of each variable. The page is made in memory before it is appended.
 ///
 /// Errors: `Store` where the archive met a fault of its store, and `OutOfMemory` where memory was
 /// wanting; then nothing is appended.
 pub fn put_front<A: Archive>(
     alloc: Global,
     archive: &mut A,
-    settings: &Settings,
+    overview: Overview<'_>,
     out: &mut Vec<u8>,
 ) -> Result<(), PageFault>
     ensures answers { MatchResult result
         (λ done. Reads (A.state archive.old) (A.state archive.new) []
-        (λ R. IsPut out.old.items out.new.items (IsFront settings.now R)))
+        (λ R. IsPut out.old.items out.new.items (IsFront (overview_of overview.entry) R)))
         (λ why. Reads (A.state archive.old) (A.state archive.new) (page_faults why) (λ R. ⊤)) }
     ensures kept { OnErr result (out.new.items ≡ out.old.items) }
     ensures asked { IsAskedWithin 1 (A.asked archive.old) (A.asked archive.new) }
 {
     let mut rows = Vec::new(alloc);
-    match put_table(alloc, archive, settings.space(), &mut rows) {
+    match put_table(alloc, archive, overview.settings.space(), &mut rows) {
         Ok(()) => {}
         Err(fault) => return Err(fault),
     }
-    match put_whole(alloc, out, settings, rows.as_slice()) {
+    match put_whole(alloc, out, overview, rows.as_slice()) {
         Ok(()) => Ok(()),
         Err(_) => Err(PageFault::OutOfMemory),
     }

@@ -9,7 +9,7 @@ use ua_binary::{Listing, NodeId, Text};
 use ua_settings::Settings;
 use ua_variant::{Array, DataValue, HistoryUpdateType, Scalar, Variant};
 use uuid::Uuid;
-use web_page::put_front;
+use web_page::{CallCause, CallEnd, LastCalls, Overview, put_front};
 
 /// Settings with three variables in two folders, and a fourth in none.
 const SETTINGS: &str = "[archive]\nid = '12345678-9abc-def0-1234-56789abcdef0'\nreplica = 7\n\
@@ -191,28 +191,127 @@ fn wanted(alloc: Global) -> Result<Vec<u8>, Fail> {
 }
 
 /// Whether this is the page of an archive.
-fn is_put<A: Archive>(alloc: Global, archive: &mut A, settings: &Settings, page: &[u8]) -> bool {
+fn is_put<A: Archive>(alloc: Global, archive: &mut A, overview: Overview<'_>, page: &[u8]) -> bool {
     let mut out = Vec::new(alloc);
-    let put = put_front(alloc, archive, settings, &mut out);
+    let put = put_front(alloc, archive, overview, &mut out);
     put.is_ok() && out.as_slice() == page
 }
 
 /// Whether it is that of an archive that took the updates.
-fn is_told(alloc: Global, settings: &Settings, page: &[u8]) -> Result<bool, LearnFault> {
+fn is_told(alloc: Global, overview: Overview<'_>, page: &[u8]) -> Result<bool, LearnFault> {
     let mut archive = empty_archive(alloc)?;
     learn_all(alloc, &mut archive)?;
-    Ok(is_put(alloc, &mut archive, settings, page))
+    Ok(is_put(alloc, &mut archive, overview, page))
 }
 
-/// Whether it is where the settings are these.
+/// Whether it is where the settings are these, and no peer is called.
 fn is_right(alloc: Global) -> Result<bool, Fail> {
     let settings = Settings::read(alloc, SETTINGS)?;
     let page = wanted(alloc)?;
-    Ok(is_told(alloc, &settings, page.as_slice()) == Ok(true))
+    let overview = Overview {
+        settings: &settings,
+        calls: &LastCalls::none(alloc),
+    };
+    Ok(is_told(alloc, overview, page.as_slice()) == Ok(true))
 }
 
 #[test]
 fn a_plants_page_is_put(rt: HostRuntime) -> Result<(), Fail> {
     assert!(rt; is_right(rt.alloc())?);
+    Ok(())
+}
+
+/// Settings with no variable and four peers.
+const PEERS: &str = "[archive]\nid = '12345678-9abc-def0-1234-56789abcdef0'\nreplica = 7\n\
+     [server]\nlisten = ''\nurl = ''\napplication = ''\nnamespace = ''\nanonymous = false\n\
+     [[peer]]\naddress = '10.0.0.2:4841'\nevery = 10\n\
+     [[peer]]\naddress = 'a<b>'\nevery = 10\n\
+     [[peer]]\naddress = 'c'\nevery = 10\n\
+     [[peer]]\naddress = 'd'\nevery = 10\n";
+
+/// What is told of the peers, below the variables.
+const CALLS: &str = "</tbody>\n</table>\n<h2>Peers</h2>\n<table>\n<thead>\n\
+     <tr><th scope=\"col\">peer</th><th scope=\"col\">last call</th>\
+     <th scope=\"col\">how it ended</th><th scope=\"col\">learned</th>\
+     <th scope=\"col\">sent</th></tr>\n</thead>\n<tbody>\n\
+     <tr><td>10.0.0.2:4841</td><td></td><td></td><td></td><td></td></tr>\n\
+     <tr><td>a&lt;b&gt;</td><td>2026-03-01T12:00:00.0000000Z</td><td>all was exchanged</td>\
+     <td>3</td><td>4294967295</td></tr>\n\
+     <tr><td>c</td><td>2026-03-01T12:00:01.0000000Z</td><td>connection ended (1)</td>\
+     <td>0</td><td>0</td></tr>\n\
+     <tr><td>d</td><td>@-1</td><td>exchange ended (10)</td><td>12</td><td>0</td></tr>\n";
+
+/// How the calls of the peers but the first ended: by which number, and how.
+static ENDS: [(usize, CallEnd); 4] = [
+    (
+        3,
+        CallEnd {
+            at: -1,
+            cause: Some(CallCause::Exchange(10)),
+            learned: 12,
+            sent: 0,
+        },
+    ),
+    (
+        2,
+        CallEnd {
+            at: NOON + SECOND,
+            cause: Some(CallCause::Connection(1)),
+            learned: 0,
+            sent: 0,
+        },
+    ),
+    (
+        1,
+        CallEnd {
+            at: NOON,
+            cause: None,
+            learned: 3,
+            sent: 4_294_967_295,
+        },
+    ),
+    (
+        4,
+        CallEnd {
+            at: NOON,
+            cause: None,
+            learned: 1,
+            sent: 1,
+        },
+    ),
+];
+
+/// The page of the peers.
+fn wanted_calls(alloc: Global) -> Result<Vec<u8>, Fail> {
+    let mut text = Vec::new(alloc);
+    text.extend_from_slice(BEGIN.as_bytes())?;
+    text.extend_from_slice(STYLE.as_bytes())?;
+    text.extend_from_slice(HEADING.as_bytes())?;
+    text.extend_from_slice(CALLS.as_bytes())?;
+    text.extend_from_slice(END.as_bytes())?;
+    Ok(text)
+}
+
+/// Whether the last calls of peers are told.
+fn are_called(alloc: Global) -> Result<bool, Fail> {
+    let settings = Settings::read(alloc, PEERS)?;
+    let mut calls = LastCalls::new(alloc, settings.peers().as_slice())?;
+    for (callee, end) in &ENDS {
+        calls.note(*callee, *end);
+    }
+    let page = wanted_calls(alloc)?;
+    let overview = Overview {
+        settings: &settings,
+        calls: &calls,
+    };
+    match empty_archive(alloc) {
+        Ok(mut archive) => Ok(is_put(alloc, &mut archive, overview, page.as_slice())),
+        Err(_) => Ok(false),
+    }
+}
+
+#[test]
+fn the_last_calls_are_put(rt: HostRuntime) -> Result<(), Fail> {
+    assert!(rt; are_called(rt.alloc())?);
     Ok(())
 }

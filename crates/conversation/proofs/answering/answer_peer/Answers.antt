@@ -47,6 +47,7 @@ returns-then-append-clause-answers g c =
           logins = c.release.ensures;
           from = refl;
           now = refl;
+          calls = refl;
           admitted = subst (λ (t : ℤ).
               IsAdmitted server.settings t party c.args.peer.now.frames.waiting) same taken.0;
           talks = taken.1;
@@ -66,6 +67,7 @@ returns-then-append-clause-answers g c =
           logins = c.release.ensures;
           from = refl;
           now = refl;
+          calls = refl;
           refuses = subst (λ (t : ℤ). Refuses server.settings t party
               c.args.peer.now.frames.waiting answered.new.said.items ends) same refused.0;
           tells = inl (refl, is);
@@ -101,6 +103,7 @@ returns-else-append-clause-answers g c =
           logins = c.release.ensures;
           from = refl;
           now = refl;
+          calls = refl;
           admitted = subst (λ (t : ℤ).
               IsAdmitted server.settings t party c.args.peer.now.frames.waiting) same taken.0;
           talks = taken.1;
@@ -120,6 +123,7 @@ returns-else-append-clause-answers g c =
           logins = c.release.ensures;
           from = refl;
           now = refl;
+          calls = refl;
           refuses = subst (λ (t : ℤ). Refuses server.settings t party
               c.args.peer.now.frames.waiting answered.new.said.items ends) same refused.0;
           tells = inr (refl, refl);

@@ -12,4 +12,4 @@ returns-clause-refusal g c = refusal_turns g.A.Archive.state g.C.Clock.gave
 
 pub returns-clause-call : goal.returns-clause-call
 returns-clause-call g c =
-    call_turns g.A.Archive.state g.L.Log.told
+    call_turns g.A.Archive.state g.C.Clock.gave g.L.Log.told

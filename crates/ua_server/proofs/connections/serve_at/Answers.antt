@@ -20,6 +20,7 @@ returns-clause-listens g c =
     let world = record c.args.world.now {
       from = c.in_ok-source.from;
       logins = c.in-Ok-logins_of.logins;
+      calls = c.in-Ok-calls_of.calls;
       log = c.log_start.new.self;
     } in
     let begun = state c.in_ok-source.source c.as_mut_slice.result.now world 0 in
@@ -44,6 +45,7 @@ returns-clause-listens g c =
           starts = from-fresh g.E.Write.contents g.C.Clock.gave c.args.world.now.server.settings
               _ c.args.world.now.log c.log_start.new.self c.requires c.log_start.ensures;
           logins = c.in-Ok-logins_of.ensures;
+          calls = c.in-Ok-calls_of.ensures;
           peers_from = subst (IsFrom (networks_at c.args.world.now.server.settings)) (sym from)
               is.from;
           free = subst AreAllFree (sym c.as_mut_slice.ensures.value) c.in-Ok.ensures.0;
@@ -64,6 +66,7 @@ returns-then-report-clause-listens g c =
     let world = record c.args.world.now {
       from = c.in_ok-source.from;
       logins = c.in-Ok-logins_of.logins;
+      calls = c.in-Ok-calls_of.calls;
       log = c.log_start.new.self;
     } in
     let begun = state c.in_ok-source.source c.as_mut_slice.result.now world 0 in
@@ -88,6 +91,7 @@ returns-then-report-clause-listens g c =
           starts = from-fresh g.E.Write.contents g.C.Clock.gave c.args.world.now.server.settings
               _ c.args.world.now.log c.log_start.new.self c.requires c.log_start.ensures;
           logins = c.in-Ok-logins_of.ensures;
+          calls = c.in-Ok-calls_of.ensures;
           peers_from = subst (IsFrom (networks_at c.args.world.now.server.settings)) (sym from)
               is.from;
           free = subst AreAllFree (sym c.as_mut_slice.ensures.value) c.in-Ok.ensures.0;

@@ -4,6 +4,7 @@ use Rattle.archive.specs.declared.fault.StoreFault.{StoreFault}
 use Rattle.web_request.specs.Requests.{ReadsRequest as IsRead}
 use Rattle.web_request.specs.declared.page.Request.{Request}
 use Rattle.web_request.specs.declared.page.RequestFault.{RequestFault}
+use Rattle.web_page.specs.Calls.{overview_of}
 use Rattle.web_connection.specs.Answers.{AnswersRequest, sending_of}
 use Rattle.web_connection.proofs.AskingLemmas.{made-alone, made-as}
 use Rattle.web_connection.proofs.DenialLemmas.{Finds, none-wrong, read-wrong, refused-wrong}
@@ -22,12 +23,12 @@ pub returns-in_ok-answer_request-in-Ok-Some-clause-answers :
     goal.returns-in_ok-answer_request-in-Ok-Some-clause-answers
 returns-in_ok-answer_request-in-Ok-Some-clause-answers g c =
     let state = g.A.Archive.state in
-    let s = c.args.settings.now in
+    let overview = overview_of c.args.overview in
     let request = c.in-Ok-Some.request in
     let told = c.in_ok-answer_request-in-Ok-Some.field-0 in
     made-as (state c.args.archive.now) (state c.answer_request.new.archive)
     (λ (R : Content) (faults : List StoreFault).
-    AnswersRequest s R request faults told.text.items (sending_of told.rest)) _
+    AnswersRequest overview R request faults told.text.items (sending_of told.rest)) _
     (λ R faults p. inr (
       request,
       subst (λ (read : Option Request). IsRead c.args.came.now (Ok read))
@@ -54,7 +55,7 @@ returns-in_ok-refusal_text-in-Err-Refused-clause-answers g c =
 pub returns-in-Ok-None-clause-denied : goal.returns-in-Ok-None-clause-denied
 returns-in-Ok-None-clause-denied g c =
     let came = c.args.came.now in
-    none-wrong c.args.settings.now came
+    none-wrong c.args.overview.settings.now came
     (subst (λ (read : Option Request). Finds came (Ok read)) c.in-Ok-None.field-0-is
     c.in-Ok-None.ensures.found)
 
@@ -62,7 +63,7 @@ pub returns-in_ok-answer_request-in-Ok-Some-clause-denied :
     goal.returns-in_ok-answer_request-in-Ok-Some-clause-denied
 returns-in_ok-answer_request-in-Ok-Some-clause-denied g c =
     let came = c.args.came.now in
-    read-wrong c.args.settings.now came c.in-Ok-Some.request
+    read-wrong c.args.overview.settings.now came c.in-Ok-Some.request
     c.in_ok-answer_request-in-Ok-Some.field-0.rest
     (subst (λ (read : Option Request). Finds came (Ok read)) c.in-Ok-Some.field-0-is
     c.in-Ok-Some.ensures.found)
@@ -73,7 +74,7 @@ pub returns-in_ok-refusal_text-in-Err-Refused-clause-denied :
     goal.returns-in_ok-refusal_text-in-Err-Refused-clause-denied
 returns-in_ok-refusal_text-in-Err-Refused-clause-denied g c =
     let came = c.args.came.now in
-    let none = refused-wrong c.args.settings.now came c.in-Err-Refused.why
+    let none = refused-wrong c.args.overview.settings.now came c.in-Err-Refused.why
     c.in-Err-Refused.head_only
     (subst (λ (fault : RequestFault). Finds came (Err fault)) c.in-Err-Refused.field-0-is
     c.in-Err-Refused.ensures.found) in

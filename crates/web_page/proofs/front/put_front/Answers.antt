@@ -2,6 +2,7 @@ use Rattle.std.proofs.Common.{[]}
 use Rattle.std.specs.Prelude.{⊤}
 use Rattle.records.specs.Contents.{Content}
 use Rattle.history_report.specs.Paging.{IsPut}
+use Rattle.web_page.specs.Calls.{overview_of}
 use Rattle.web_page.specs.Listing.{listed_variables}
 use Rattle.web_page.specs.Front.{AreRows, IsFront}
 use Rattle.web_page.proofs.AskingLemmas.{reads-as}
@@ -11,14 +12,14 @@ use Rattle.web_page.proofs.front.put_front.Goals as goal
 pub returns-in-Ok-put_whole-clause-answers : goal.returns-in-Ok-put_whole-clause-answers
 returns-in-Ok-put_whole-clause-answers g c =
     let state = g.A.Archive.state in
-    let s = c.args.settings.now in
+    let overview = overview_of c.args.overview in
     let space = c.space.result.now in
     let rows = c.put_table.new.out.items in
     let empty = c.new-rows.result.items in
     reads-as (state c.args.archive.now) (state c.put_table.new.archive) []
     (λ (R : Content). IsPut empty rows (AreRows space R (listed_variables space)))
-    (λ (R : Content). IsPut c.args.out.now.items c.put_whole.new.out.items (IsFront s R))
-    (λ R p. front-put s space R empty rows c.as_slice.result.now c.args.out.now.items
+    (λ (R : Content). IsPut c.args.out.now.items c.put_whole.new.out.items (IsFront overview R))
+    (λ R p. front-put overview space R empty rows c.as_slice.result.now c.args.out.now.items
     c.put_whole.new.out.items c.new-rows.ensures.items c.space.ensures c.as_slice.ensures.value p
     c.in-Ok-put_whole.ensures.put) c.in-Ok.ensures.answers
 

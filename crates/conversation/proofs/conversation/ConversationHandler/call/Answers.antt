@@ -17,6 +17,7 @@ returns-in-Ok g c =
         from = begun.from;
         now = begun.now;
         logins = begun.logins;
+        calls = begun.calls;
         asks = asks;
         begins = (
           λ i. Some (Peer (record {
