@@ -59,11 +59,14 @@ serve_command = command (codes "serve") (needed (codes "settings") ∷ connectio
 abbrev pub dump_command : App
 dump_command = command (codes "dump") (needed (codes "settings") ∷ [])
 
--- `sync --settings FILE --peer ADDRESS [--check]`
+-- `sync --settings FILE --peer ADDRESS`
+abbrev pub call_command : App
+call_command = command (codes "sync") (needed (codes "settings") ∷ needed (codes "peer") ∷ [])
+
+-- the same with `[--check] [--verify]`: `sync` with its options
 abbrev pub sync_command : App
 sync_command =
-    command (codes "sync")
-    (needed (codes "settings") ∷ needed (codes "peer") ∷ flag (codes "check") ∷ [])
+    with_rule (with_rule call_command (flag (codes "check"))) (flag (codes "verify"))
 
 -- `history --settings FILE --node ID`
 abbrev pub node_command : App
@@ -158,10 +161,12 @@ abbrev pub IsDump : List Row → Line → Type 0
 IsDump rows line =
     elim line [ Dump path ↦ first_of (codes "settings") rows ≡ Some path.now | _ ↦ ⊥ ]
 
--- what rows ask of an exchange: whom to call, and whether records are compared before
+-- what rows ask of an exchange: whom to call, and whether the last records or all are compared
+-- before
 pub record AreSyncWords (rows : List Row) (asked : SyncWords) : Type 0 where
   pub peer : first_of (codes "peer") rows ≡ Some asked.peer.now
   pub check : IsFlag (one_of (codes "check") rows) asked.check
+  pub verify : IsFlag (one_of (codes "verify") rows) asked.verify
 
 -- what the rows of `sync` give
 abbrev pub IsSync : List Row → Line → Type 0
@@ -257,7 +262,7 @@ abbrev pub usage : List ℕ
 usage =
     codes "usage: uahist answer [--settings FILE] [--hex] [--now N]"
     ++ codes " | serve --settings FILE [--connections N]"
-    ++ codes " | dump --settings FILE | sync --settings FILE --peer ADDRESS [--check]"
+    ++ codes " | dump --settings FILE | sync --settings FILE --peer ADDRESS [--check] [--verify]"
     ++ codes " | history --settings FILE --node ID [--from T] [--to T] [--changes] [--csv] [--html]"
     ++ codes " | import --settings FILE --user NAME [--perform insert|replace|update]"
     ++ codes " | check --settings FILE [--store]"

@@ -7,7 +7,7 @@ ghost use Rattle.clap.specs.declared.error.ErrorKind.TheVariants as clap;
 ghost use Rattle.clap.specs.Takes.{takes};
 ghost use Rattle.clap.specs.Faults.{fault_of as fault_kinds};
 ghost use Rattle.command_line.specs.Line.{Asks, AsksForText, AreHistoryWords, IsLine, option, uahist, IsAnswer, IsCheck, IsServe, IsDump, IsHistoryCommand, IsImportCommand, AreSyncWords, IsMistake, IsSync, IsText, IsTextOf, NoLine, movers, node_command, perform_in, perform_named, servers, span_command};
-ghost use Rattle.command_line.specs.Line.{answer_command, check_command, connections, dump_command, flag, histories, history_command, import_command, now, serve_command, sync_command};
+ghost use Rattle.command_line.specs.Line.{answer_command, call_command, check_command, connections, dump_command, flag, histories, history_command, import_command, now, serve_command, sync_command};
 
 use clap::builder::ValueParser;
 use clap::error::{Error as Refusal, ErrorKind};
@@ -75,6 +75,8 @@ pub struct SyncWords<'a> {
     pub peer: &'a str,
     /// Whether the last records that both hold are compared before.
     pub check: bool,
+    /// Whether all records that both hold are compared before.
+    pub verify: bool,
 }
 
 /// What rows are to do with the values that they name.
@@ -141,7 +143,7 @@ impl LineFault {
     {
         match self {
             LineFault::Words =>
-                "usage: uahist answer [--settings FILE] [--hex] [--now N] | serve --settings FILE [--connections N] | dump --settings FILE | sync --settings FILE --peer ADDRESS [--check] | history --settings FILE --node ID [--from T] [--to T] [--changes] [--csv] [--html] | import --settings FILE --user NAME [--perform insert|replace|update] | check --settings FILE [--store]",
+                "usage: uahist answer [--settings FILE] [--hex] [--now N] | serve --settings FILE [--connections N] | dump --settings FILE | sync --settings FILE --peer ADDRESS [--check] [--verify] | history --settings FILE --node ID [--from T] [--to T] [--changes] [--csv] [--html] | import --settings FILE --user NAME [--perform insert|replace|update] | check --settings FILE [--store]",
             LineFault::OutOfMemory => "memory ran out before the command began",
         }
     }
@@ -272,16 +274,38 @@ fn check_option<'a>(alloc: Global) -> Arg<'a>
         .action(ArgAction::SetTrue)
 }
 
+/// The option `--verify` of `sync`.
+fn verify_option<'a>(alloc: Global) -> Arg<'a>
+    ensures rule { rule_of result ≡ flag (codes "verify") }
+    ensures local { result.global ≡ false }
+{
+    Arg::new(alloc, "verify")
+        .long("verify")
+        .help("Does the same with all records that both hold, which takes as long as sending them")
+        .action(ArgAction::SetTrue)
+}
+
+/// The command `sync` with the options that have to be given.
+fn call_command<'a>(alloc: Global) -> Result<Command<'a>, AllocError>
+    ensures app { IfOk result (λ command. app_of command ≡ call_command) }
+    ensures local { IfOk result (λ command. (out-Command command).has_globals ≡ false) }
+{
+    let settings = settings_option(alloc).required(true);
+    let peer = peer_option(alloc).required(true);
+    let command = Command::new(alloc, "sync").about("Calls a peer and exchanges records with it");
+    let command = command.arg(settings)?.arg(peer)?;
+    Ok(command)
+}
+
 /// The command `sync` and its options.
 fn sync_command<'a>(alloc: Global) -> Result<Command<'a>, AllocError>
     ensures app { IfOk result (λ command. app_of command ≡ sync_command) }
     ensures local { IfOk result (λ command. (out-Command command).has_globals ≡ false) }
 {
-    let settings = settings_option(alloc).required(true);
-    let peer = peer_option(alloc).required(true);
     let check = check_option(alloc);
-    let command = Command::new(alloc, "sync").about("Calls a peer and exchanges records with it");
-    let command = command.arg(settings)?.arg(peer)?.arg(check)?;
+    let verify = verify_option(alloc);
+    let command = call_command(alloc)?;
+    let command = command.arg(check)?.arg(verify)?;
     Ok(command)
 }
 
@@ -576,10 +600,15 @@ fn read_sync<'a>(sync: &ArgMatches<'a>) -> Result<Line<'a>, LineFault>
         return Err(LineFault::Words);
     };
     let check = sync.get_flag("check");
+    let verify = sync.get_flag("verify");
     match sync.get_str("peer") {
         Some(peer) => Ok(Line::Sync {
             settings,
-            asked: SyncWords { peer, check },
+            asked: SyncWords {
+                peer,
+                check,
+                verify,
+            },
         }),
         None => Err(LineFault::Words),
     }

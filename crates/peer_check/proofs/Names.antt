@@ -1,7 +1,7 @@
 -- The record of a name, as the first that numbers lack; and what comparing by it finds.
-use Rattle.std.proofs.Common.{◌≡◌, ℕ, zero, suc, get_or, ◌+◌, ◌-◌, ◌<◌, ◌≤◌, ◌==◌, Bool, List, [], ◌∷◌, ◌++◌, take, length, Option, Some, None, refl, sym, ap, ◌∙◌, subst, arith, inl, inr, if◌then◌else◌, option_to_list}
+use Rattle.std.proofs.Common.{◌≡◌, ℕ, zero, suc, get_or, ◌+◌, ◌-◌, ◌<◌, ◌≤◌, ◌==◌, Bool, List, [], ◌∷◌, ◌++◌, take, drop, length, Option, Some, None, refl, sym, ap, ◌∙◌, subst, arith, inl, inr, if◌then◌else◌, option_to_list}
 use Rattle.std.proofs.lemmas.Bool.{cases_eq, eq-eqb, ne_eqb}
-use Rattle.std.proofs.lemmas.List.{take_more}
+use Rattle.std.proofs.lemmas.List.{take_more, length-append}
 use Rattle.stamp.specs.Limits.{IsReplica, greatest}
 use Rattle.records.specs.Lists.{Has}
 use Rattle.records.specs.Records.{missing}
@@ -97,12 +97,6 @@ unheld R r beyond has =
     let upto = vec_bounds R has.0 has.1 in
     beyond (omega (arith, upto, ap (vec R) has.2.0, has.2.1))
 
--- what stands at a place is there
-has_at : (rs : List Record) (i : ℕ) (d : Record) → i < length rs → Has rs (get_or rs i d)
-has_at [] i d within = absurd (omega (arith, within))
-has_at (x ∷ rs) zero d within = inl refl
-has_at (x ∷ rs) (suc i) d within = inr (has_at rs i d (omega (arith, within)))
-
 -- a record whose name isn't held
 pub agrees_unnamed : (R : Content) (r : Record) → (HasName R r.origin r.number → ⊥)
     → FindsClash R (r ∷ []) None
@@ -137,7 +131,7 @@ clashes R r held copy named differ is = (
     number = named.1.1 ∙ ap (λ (z : Record). z.number) (sym is);
     differ = λ e. differ (e ∙ is);
   },
-  inl (sym is),
+  ([], [], ap (λ (z : Record). z ∷ []) (sym is), λ x y h never o n. absurd never),
 )
 
 -- of one record more
@@ -170,12 +164,36 @@ pub compatible_beyond : (R : Content) (rs : List Record) (i : ℕ) (r d : Record
 compatible_beyond R rs i r d within is all beyond =
     compatible_next R R rs i r d None within is all refl (agrees_unnamed R r (unheld R r beyond)) refl
 
--- the clash of one is that of all
+-- what stands alone is the one
+alone : (before after : List Record) (x r : Record) → (r ∷ []) ≡ before ++ (x ∷ after) → x ≡ r
+alone [] after x r is = sym (ap (λ (rs : List Record). get_or rs 0 r) is)
+alone (y ∷ before) after x r is =
+    let long : 1 ≡ suc (length (before ++ (x ∷ after))) = ap length is in
+    absurd (omega (arith, long, length-append before (x ∷ after)))
+
+-- a list in front of a place, what stands there, and what is behind it
+split_at : (rs : List Record) (i : ℕ) (d : Record) → i < length rs
+    → rs ≡ take i rs ++ (get_or rs i d ∷ drop (suc i) rs)
+split_at [] i d within = absurd (omega (arith, within))
+split_at (x ∷ rs) zero d within = refl
+split_at (x ∷ rs) (suc i) d within = ap (λ (l : List Record). x ∷ l)
+    (split_at rs i d (omega (arith, within)))
+
+-- the clash of one, behind such that have none, is that of all
 pub clash_among : (R S : Content) (rs : List Record) (i : ℕ) (r d : Record) (clash : Clash)
-    → i < length rs → r ≡ get_or rs i d → S ≡ R → FindsClash S (r ∷ []) (Some clash)
-    → FindsClash R rs (Some clash)
-clash_among R S rs i r d clash within is same finds =
+    → i < length rs → r ≡ get_or rs i d → AreCompatible R (take i rs) → S ≡ R
+    → FindsClash S (r ∷ []) (Some clash) → FindsClash R rs (Some clash)
+clash_among R S rs i r d clash within is all same finds =
     let here : FindsClash R (r ∷ []) (Some clash) =
     subst (λ T. FindsClash T (r ∷ []) (Some clash)) same finds in
-    let brought : r ≡ clash.brought = elim here.1 [ inl e ↦ e | inr never ↦ absurd never ] in
-    (here.0, subst (Has rs) (sym is ∙ brought) (has_at rs i d within))
+    let (before, after, parts, none) = here.1 in
+    let brought : clash.brought ≡ get_or rs i d = alone before after clash.brought r parts ∙ is in (
+      here.0,
+      (
+        take i rs,
+        drop (suc i) rs,
+        split_at rs i d within
+            ∙ ap (λ (z : Record). take i rs ++ (z ∷ drop (suc i) rs)) (sym brought),
+        all,
+      ),
+    )

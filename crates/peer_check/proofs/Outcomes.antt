@@ -6,7 +6,8 @@ use Rattle.std.specs.Io.KnownBytes.{Appends}
 use Rattle.std.proofs.KnownBytes.{Appends-trans}
 use Rattle.std.proofs.lemmas.Bool.{true≢false}
 use Rattle.std.proofs.lemmas.List.{append-nil}
-use Rattle.records.specs.Contents.{Content, AreCompatible}
+use Rattle.stamp.specs.Numbers.{number_of}
+use Rattle.records.specs.Contents.{Content, vec, AreCompatible}
 use Rattle.records.specs.declared.record.Record.{Record}
 use Rattle.archive.specs.declared.fault.StoreFault.{StoreFault}
 use Rattle.archive.specs.Store.{Store, Asks, CountsFaults}
@@ -21,7 +22,8 @@ use Rattle.ua_peers.specs.declared.calling.SyncFault.{SyncFault}
 use Rattle.ua_peers.specs.declared.calling.SyncFault.TheVariants as sync
 use Rattle.peer_check.specs.declared.comparing.Clash.{Clash}
 use Rattle.peer_check.specs.Clashes.{FindsClash}
-use Rattle.peer_check.specs.Comparing.{asking, Wire, HearsFrom, Answers, AsksOnly, AsksAlone}
+use Rattle.peer_check.specs.Comparing.{asking, Wire, HearsFrom, IsBeforeShared, Answers, AsksOnly, AsksAlone}
+use Rattle.peer_check.specs.declared.comparing.Extent.{Extent}
 
 -- ---- what the archive was asked
 
@@ -144,6 +146,11 @@ said_whole p asked before after sent =
     (asked, part_of_whole before after (flat_map (asking p) asked) sent)
 
 -- ---- what is found
+
+-- a content tells its numbers, and the peer was asked for what is compared
+abbrev pub BeginsAt : Extent → Content → (ours theirs first : List ℕ) → Type 0
+BeginsAt extent R ours theirs first =
+    ((replica : ℕ) → number_of ours replica ≡ vec R replica) × IsBeforeShared extent R theirs first
 
 -- over the content before both calls
 pub finds_before : {A : Type 0} (a b : Store) (x : A) (P : A → Type 0)

@@ -1,14 +1,14 @@
 -- Vectors that are made a replica at a time.
-use Rattle.std.proofs.Common.{◌≡◌, ◌≢◌, ◌==◌, ℕ, ◌+◌, ◌≤◌, ◌<◌, ◌||◌, Bool, true, false, List, get_or, take, length, max, refl, sym, ap, ◌∙◌, subst, arith, inl, inr, if◌then◌else◌}
-use Rattle.std.specs.List.{list_any}
+use Rattle.std.proofs.Common.{◌≡◌, ◌≢◌, ◌==◌, ℕ, ◌+◌, ◌≤◌, ◌<◌, Bool, true, false, List, [], ◌∷◌, ◌++◌, get_or, take, length, max, refl, sym, ap, ◌∙◌, subst, arith, inl, inr, if◌then◌else◌}
 use Rattle.std.specs.Prelude.{nat_lt}
 use Rattle.std.proofs.lemmas.Bool.{cases_eq, eq-eqb, ne_eqb}
 use Rattle.std.proofs.lemmas.Bool.Decides.{nat_tests}
-use Rattle.std.proofs.lemmas.List.Folds.{list_any_more}
-use Rattle.stamp.specs.Limits.{IsReplica, greatest}
+use Rattle.std.proofs.lemmas.List.{take_more}
+use Rattle.stamp.specs.Limits.{IsReplica}
 use Rattle.stamp.specs.Numbers.{number_of}
 use Rattle.records.specs.declared.record.Record.{Record}
-use Rattle.peer_check.specs.Comparing.{numbers_behind}
+use Rattle.peer_check.specs.Comparing.{number_behind, numbers_behind}
+use Rattle.peer_check.specs.declared.comparing.Extent.{Extent}
 
 -- the replicas below one have these numbers, and the others none
 abbrev pub IsRaisedBelow : (bound : ℕ) → (ℕ → ℕ) → (numbers : List ℕ) → Type 0
@@ -65,43 +65,58 @@ next_raised f n replica last old new so_far least named is here elsewhere =
     (one_raised f replica old new (subst (λ m. IsRaisedBelow m f old) (sym named) so_far)
     (omega (arith, least, named)) (here ∙ ap (max (number_of old replica)) is) elsewhere)
 
--- ---- replicas that are left out
+-- ---- numbers that are raised behind records
 
--- what is raised to the greatest, or was before
-left_out : (a b : Bool) (x n : ℕ)
-    → (if a || b then max x n else x)
-    ≡ (if b then max (if a then max x n else x) n else (if a then max x n else x))
-left_out true true x n = omega arith
-left_out true false x n = refl
-left_out false true x n = refl
-left_out false false x n = refl
+-- two that are raised one after the other are so in either order
+either_order : (a b : Bool) (n x y : ℕ)
+    → (if a then max (if b then max n x else n) y else (if b then max n x else n))
+    ≡ (if b then max (if a then max n y else n) x else (if a then max n y else n))
+either_order true true n x y = omega arith
+either_order true false n x y = refl
+either_order false true n x y = refl
+either_order false false n x y = refl
 
--- the next record's replica is left out too
-pub more_left_out : (v old new : ℕ → ℕ) (brought : List Record) (i : ℕ) (r d : Record)
-    → i < length brought → r ≡ get_or brought i d
-    → ((replica : ℕ) → old replica ≡ numbers_behind v (take i brought) replica)
-    → new r.origin ≡ max (old r.origin) greatest
+-- behind one record more
+behind_more : (extent : Extent) (held v : ℕ → ℕ) (rs : List Record) (r : Record) (replica : ℕ)
+    → numbers_behind extent held v (rs ++ (r ∷ [])) replica
+    ≡ (if r.origin == replica
+    then max (numbers_behind extent held v rs replica) (number_behind extent (held replica) r.number)
+    else numbers_behind extent held v rs replica)
+behind_more extent held v [] r replica = refl
+behind_more extent held v (x ∷ rs) r replica =
+    let raised : ℕ → ℕ = number_behind extent (held replica) in
+    ap (λ (n : ℕ). if x.origin == replica then max n (raised x.number) else n)
+    (behind_more extent held v rs r replica)
+    ∙ either_order (x.origin == replica) (r.origin == replica)
+    (numbers_behind extent held v rs replica) (raised r.number) (raised x.number)
+
+-- the next record's replica is raised too
+pub more_behind : (extent : Extent) (held v old new : ℕ → ℕ) (brought : List Record) (i : ℕ)
+    (r d : Record) (n : ℕ) → i < length brought → r ≡ get_or brought i d
+    → ((replica : ℕ) → old replica ≡ numbers_behind extent held v (take i brought) replica)
+    → n ≡ number_behind extent (held r.origin) r.number → new r.origin ≡ max (old r.origin) n
     → ((other : ℕ) → other ≢ r.origin → new other ≡ old other)
-    → (replica : ℕ) → new replica ≡ numbers_behind v (take (i + 1) brought) replica
-more_left_out v old new brought i r d within is so_far here elsewhere replica =
-    let came : Record → Bool = λ (x : Record). x.origin == replica in
-    let a = list_any came (take i brought) in
-    let b = came r in
-    let more : list_any came (take (i + 1) brought) ≡ (a || b) =
-    list_any_more came brought i d within ∙ ap (λ (x : Record). a || came x) (sym is) in
-    let whole : numbers_behind v (take (i + 1) brought) replica
-    ≡ (if b then max (old replica) greatest else old replica) =
-    ap (λ (c : Bool). if c then max (v replica) greatest else v replica) more
-    ∙ left_out a b (v replica) greatest
-    ∙ ap (λ (n : ℕ). if b then max n greatest else n) (sym (so_far replica)) in
+    → (replica : ℕ)
+    → new replica ≡ numbers_behind extent held v (take (i + 1) brought) replica
+more_behind extent held v old new brought i r d n within is so_far number here elsewhere replica =
+    let f : ℕ → ℕ = λ m. if r.origin == replica
+    then max m (number_behind extent (held replica) r.number) else m in
+    let more : take (i + 1) brought ≡ take i brought ++ (r ∷ []) =
+    take_more brought i d within ∙ ap (λ (x : Record). take i brought ++ (x ∷ [])) (sym is) in
+    let whole : numbers_behind extent held v (take (i + 1) brought) replica ≡ f (old replica) =
+    ap (λ (rs : List Record). numbers_behind extent held v rs replica) more
+    ∙ behind_more extent held v (take i brought) r replica ∙ ap f (sym (so_far replica)) in
     elim (cases_eq r.origin replica) [
       | inl e ↦
-          let so : b ≡ true = eq-eqb r.origin replica e in
-          let at : new replica ≡ max (old replica) greatest =
-          subst (λ n. new n ≡ max (old n) greatest) e here in
-          at ∙ sym (whole ∙ ap (λ (c : Bool). if c then max (old replica) greatest else old replica) so)
+          let raised : ℕ = number_behind extent (held replica) r.number in
+          let at : new replica ≡ max (old replica) raised =
+          subst (λ o. new o ≡ max (old o) (number_behind extent (held o) r.number)) e
+          (here ∙ ap (max (old r.origin)) number) in
+          at ∙ sym (whole ∙ ap (λ (b : Bool). if b then max (old replica) raised else old replica)
+          (eq-eqb r.origin replica e))
       | inr ne ↦
-          let so : b ≡ false = ne_eqb r.origin replica ne in
+          let raised : ℕ = number_behind extent (held replica) r.number in
           elsewhere replica (λ e. ne (sym e))
-          ∙ sym (whole ∙ ap (λ (c : Bool). if c then max (old replica) greatest else old replica) so)
+          ∙ sym (whole ∙ ap (λ (b : Bool). if b then max (old replica) raised else old replica)
+          (ne_eqb r.origin replica ne))
     ]

@@ -1,5 +1,5 @@
 -- Records of one name: those that came from a peer beside those that are held.
-use Rattle.std.specs.Prelude.{◌≡◌, ℕ, List, Option, Some, None}
+use Rattle.std.specs.Prelude.{◌≡◌, ℕ, List, ◌∷◌, ◌++◌, Option, Some, None}
 use Rattle.records.specs.Lists.{Has}
 use Rattle.records.specs.Contents.{Content, HasName, AreCompatible}
 use Rattle.records.specs.declared.record.Record.{Record}
@@ -19,10 +19,16 @@ pub record IsClash (R : Content) (clash : Clash) : Type 0 where
   pub number : clash.held.number ≡ clash.brought.number
   pub differ : clash.held ≡ clash.brought → ⊥
 
--- what comparing records with a content finds: none, and no name has two records; or one of these
--- and another that is held, which have one name
+-- this one stands among these behind such that differ from none that is held by their name
+abbrev pub StandsBehind : Content → (brought : List Record) → Record → Type 0
+StandsBehind R brought r =
+    (before : List Record) × (after : List Record) × (brought ≡ before ++ (r ∷ after))
+    × AreCompatible R before
+
+-- what comparing records with a content finds: none of them differs from one that is held by its
+-- name; or the first that does, and that one
 abbrev pub FindsClash : Content → (brought : List Record) → Option Clash → Type 0
 FindsClash R brought found = elim found [
   | None ↦ AreCompatible R brought
-  | Some clash ↦ IsClash R clash × Has brought clash.brought
+  | Some clash ↦ IsClash R clash × StandsBehind R brought clash.brought
 ]

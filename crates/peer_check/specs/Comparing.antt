@@ -1,7 +1,7 @@
 -- A comparison with a peer that is called: what is asked, what comes for it, and what is found.
-use Rattle.std.specs.Prelude.{◌≡◌, ⊤, ℕ, ◌-◌, ◌==◌, min, max, if◌then◌else◌, List, [], ◌∷◌, ◌++◌, Option, None, Result, Ok, Err, IfErr}
+use Rattle.std.specs.Prelude.{◌≡◌, ⊤, ℕ, ◌-◌, ◌==◌, nat_lt, min, max, if◌then◌else◌, List, [], ◌∷◌, ◌++◌, Option, None, Result, Ok, Err, IfErr}
 use Rattle.std.specs.Io.KnownBytes.{Appends, Consumes}
-use Rattle.std.specs.List.{AllByRecursion, flat_map, list_any}
+use Rattle.std.specs.List.{AllByRecursion, flat_map}
 use Rattle.stamp.specs.Limits.{IsReplica, greatest}
 use Rattle.stamp.specs.Numbers.{number_of}
 use Rattle.records.specs.Contents.{Content, vec, AreCompatible}
@@ -20,6 +20,8 @@ use Rattle.ua_peers.specs.declared.calling.SyncFault.{SyncFault}
 use Rattle.ua_peers.specs.declared.calling.SyncFault.TheVariants as sync
 use Rattle.peer_check.specs.Clashes.{FindsClash}
 use Rattle.peer_check.specs.declared.comparing.Clash.{Clash}
+use Rattle.peer_check.specs.declared.comparing.Extent.{Extent}
+use Rattle.peer_check.specs.declared.comparing.Extent.TheVariants.{Last, All}
 
 -- ---- what is asked
 
@@ -32,20 +34,36 @@ abbrev pub AsksOnly : Party → (before after : Option (List ℕ)) → Type 0
 AsksOnly p before after =
     (asked : List (List ℕ)) × AppendsPart before after (flat_map (asking p) asked)
 
--- one less than the last number that two hold of a replica; the greatest where they share none
-abbrev pub before_shared : (ours theirs : ℕ) → ℕ
-before_shared ours theirs = if min ours theirs == 0 then greatest else min ours theirs - 1
+-- behind this number stand the records of a replica that two compare: the last one that both hold,
+-- or all of them; the greatest where they share none
+abbrev pub before_shared : Extent → (ours theirs : ℕ) → ℕ
+before_shared extent ours theirs =
+    if min ours theirs == 0 then greatest
+    else elim extent [ Last ↦ min ours theirs - 1 | All ↦ 0 ]
 
--- behind these numbers stand the last records that a content shares with who holds those of theirs
-abbrev pub IsBeforeShared : Content → (theirs numbers : List ℕ) → Type 0
-IsBeforeShared R theirs numbers =
+-- behind these numbers stand the records that a content compares with who holds those of theirs
+abbrev pub IsBeforeShared : Extent → Content → (theirs numbers : List ℕ) → Type 0
+IsBeforeShared extent R theirs numbers =
     (replica : ℕ) → IsReplica replica
-    → number_of numbers replica ≡ before_shared (vec R replica) (number_of theirs replica)
+    → number_of numbers replica ≡ before_shared extent (vec R replica) (number_of theirs replica)
 
--- behind these numbers the next question asks: a replica that has a record among these is left out
-abbrev pub numbers_behind : (ℕ → ℕ) → (brought : List Record) → ℕ → ℕ
-numbers_behind v brought replica =
-    if list_any (λ r. r.origin == replica) brought then max (v replica) greatest else v replica
+-- behind this number more of a replica is asked for once its record of that one came: behind that,
+-- where all are compared and more of its records are held; else for nothing
+abbrev pub number_behind : Extent → (held number : ℕ) → ℕ
+number_behind extent held number = elim extent [
+  | Last ↦ greatest
+  | All ↦ if nat_lt number held then number else greatest
+]
+
+-- the number of a replica behind which who holds these asks next, once these records came for a
+-- question behind those numbers
+abbrev pub numbers_behind : Extent → (held numbers : ℕ → ℕ) → (brought : List Record) → ℕ → ℕ
+numbers_behind extent held numbers [] replica = numbers replica
+numbers_behind extent held numbers (r ∷ rs) replica =
+    let others = numbers_behind extent held numbers rs replica in
+    if r.origin == replica
+    then max others (number_behind extent (held replica) r.number)
+    else others
 
 -- ---- what comes
 
@@ -95,50 +113,62 @@ TellsNumbers p theirs old new =
     × ((replica : ℕ) → IsReplica replica → number_of numbers replica ≡ greatest)
     × Answers p numbers theirs old new brought
 
--- questions were asked, the first one behind these numbers and each other one behind what came for
--- the one before; these records came for them, and next is what the next one asks behind
-abbrev pub AnswersAll : Party → List (List Record) → (first next : List ℕ) → (old new : Wire)
+-- once these records came for a question behind those numbers of who holds ours, the next one asks
+-- behind next
+abbrev pub AsksBehind : Extent → (ours numbers : List ℕ) → (brought : List Record) → (next : List ℕ)
     → Type 0
-AnswersAll p [] first next old new = (next ≡ first) × (new ≡ old)
-AnswersAll p (brought ∷ earlier) first next old new =
+AsksBehind extent ours numbers brought next =
+    (replica : ℕ) → number_of next replica
+    ≡ numbers_behind extent (number_of ours) (number_of numbers) brought replica
+
+-- who holds ours asked for records, behind first and then each time behind what came, as some did;
+-- these came, and the next question asks behind next
+abbrev pub AnswersAll : Extent → Party → (ours : List ℕ) → List (List Record)
+    → (first next : List ℕ) → (old new : Wire) → Type 0
+AnswersAll extent p ours [] first next old new = (next ≡ first) × (new ≡ old)
+AnswersAll extent p ours (brought ∷ earlier) first next old new =
     (numbers : List ℕ) × (theirs : List ℕ) × (between : Wire)
-    × AnswersAll p earlier first numbers old between
-    × Answers p numbers theirs between new brought
-    × ((replica : ℕ) → number_of next replica ≡ numbers_behind (number_of numbers) brought replica)
+    × AnswersAll extent p ours earlier first numbers old between
+    × Answers p numbers theirs between new brought × (brought ≡ [] → ⊥)
+    × AsksBehind extent ours numbers brought next
 
 -- ---- what is found
 
--- what came in a comparison: the numbers that the peer holds, those behind which it was asked next,
--- the records that came for each question but the last, the latest first, and those for the last
+-- what came in a comparison: the numbers that are held here and those that the peer told for a
+-- question that lacks nothing; those behind which it was first asked for records, those that came
+-- for each question but the last, the latest ones in front, and those for the last one
 pub record Comparison : Type 0 where
+  pub ours : List ℕ
   pub theirs : List ℕ
   pub first : List ℕ
   pub earlier : List (List Record)
   pub brought : List Record
 
 -- it came over a connection
-abbrev pub IsHad : Party → Comparison → (old new : Wire) → Type 0
-IsHad p c old new =
+abbrev pub IsHad : Extent → Party → Comparison → (old new : Wire) → Type 0
+IsHad extent p c old new =
     (told : Wire) × (between : Wire) × (numbers : List ℕ) × (theirs : List ℕ)
     × TellsNumbers p c.theirs old told
-    × AnswersAll p c.earlier c.first numbers told between
+    × AnswersAll extent p c.ours c.earlier c.first numbers told between
     × Answers p numbers theirs between new c.brought
 
--- the peer was asked for the last records that both hold, and this was found among what came;
--- before the last answer nothing
-abbrev pub FindsAmong : Content → Comparison → Option Clash → Type 0
-FindsAmong R c found =
-    IsBeforeShared R c.theirs c.first
-    × AllByRecursion (AreCompatible R) c.earlier × FindsClash R c.brought found
+-- ours are the numbers of what is held, the peer was asked for the records that are compared, and
+-- this was found among those that came for the last question; before nothing
+pub record FindsAmong (extent : Extent) (R : Content) (c : Comparison) (found : Option Clash)
+    : Type 0 where
+  pub ours : (replica : ℕ) → number_of c.ours replica ≡ vec R replica
+  pub first : IsBeforeShared extent R c.theirs c.first
+  pub earlier : AllByRecursion (AreCompatible R) c.earlier
+  pub found_in : FindsClash R c.brought found
 
 -- a comparison was had with a peer, and this was found; it went on until nothing came for a
 -- question, or something was found. What is held is known where the store is honest
-pub record ComparesWith (old new : Store) (unread rest before after : Option (List ℕ))
-    (found : Option Clash) : Type 0 where
+pub record ComparesWith (extent : Extent) (old new : Store)
+    (unread rest before after : Option (List ℕ)) (found : Option Clash) : Type 0 where
   pub comparison : Comparison
   pub left : List ℕ
-  pub had : IsHad (party_of old) comparison (wire [] unread before) (wire left rest after)
-  pub finds : new.honest → FindsAmong old.content comparison found
+  pub had : IsHad extent (party_of old) comparison (wire [] unread before) (wire left rest after)
+  pub finds : new.honest → FindsAmong extent old.content comparison found
   pub ends : found ≡ None → comparison.brought ≡ []
 
 -- the archive was asked and nothing else; a fault of the store is told

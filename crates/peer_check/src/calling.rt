@@ -12,9 +12,9 @@ ghost use Rattle.counted_io.specs.Bytes.{AppendsPart, CountsWhere};
 ghost use Rattle.exchange.specs.Batches.{AsksFor};
 ghost use Rattle.exchange.specs.Dialogs.{party_of};
 ghost use Rattle.exchange.specs.Frames.{frame_header, IsLearnable};
-ghost use Rattle.peer_check.specs.Comparing.{asking, before_shared, numbers_behind, SaysFirst, Hears, HearsFrom, AsksOnly, AsksAlone, ComparesWith};
+ghost use Rattle.peer_check.specs.Comparing.{asking, before_shared, number_behind, AsksBehind, SaysFirst, Hears, HearsFrom, AsksOnly, AsksAlone, ComparesWith};
 
-use crate::comparing::{Clash, find_clash};
+use crate::comparing::{Clash, Extent, find_clash};
 use archive::Archive;
 use counted_io::{Counted, ServeFault};
 use exchange::{
@@ -33,31 +33,40 @@ const PIECE: usize = 65536;
 /// One more than the greatest number of a replica.
 const BEHIND_REPLICAS: u8 = 65;
 
-/// How many questions are asked at most, behind the first: of each replica records come once, and then none.
-const MOST_ROUNDS: u64 = 65;
+/// How many questions are asked at most, behind the first: of last records some of each replica come once, and then none.
+fn most_questions(extent: Extent) -> u64 {
+    match extent {
+        Extent::Last => 65,
+        Extent::All => 1_000_000,
+    }
+}
 
-/// One less than the last number that both hold of a replica, or the greatest where they share none.
-fn before_shared(ours: u64, theirs: u64) -> u64
-    ensures is { result ≡ before_shared ours theirs }
+/// The number behind which the records of a replica stand that are compared: one less than the last one that both hold, or 0 where all
+/// are compared; the greatest where they share none.
+fn before_shared(extent: Extent, ours: u64, theirs: u64) -> u64
+    ensures is { result ≡ before_shared extent ours theirs }
     ensures greatest { ours ≤ greatest → result ≤ greatest }
 {
     let shared = ours.min(theirs);
     if shared == 0 {
         return GREATEST_NUMBER;
     }
-    shared - 1
+    match extent {
+        Extent::Last => shared - 1,
+        Extent::All => 0,
+    }
 }
 
-/// The numbers behind which the last records stand that both hold, and what comes behind these.
-fn vector_before_shared(ours: &Vector, theirs: &Vector) -> Vector
+/// The numbers behind which the records stand that are compared, and what comes behind these.
+fn vector_before_shared(extent: Extent, ours: &Vector, theirs: &Vector) -> Vector
     ensures { (replica : ℕ) → IsReplica replica
         → number_of result replica
-        ≡ before_shared (number_of ours.now replica) (number_of theirs.now replica) }
+        ≡ before_shared extent (number_of ours.now replica) (number_of theirs.now replica) }
 {
     let mut numbers = Vector::new();
     for n in 1..BEHIND_REPLICAS {
         if let Some(replica) = ReplicaNo::new(n) {
-            let number = before_shared(ours.get(replica), theirs.get(replica));
+            let number = before_shared(extent, ours.get(replica), theirs.get(replica));
             numbers.raise(replica, number);
         }
     }
@@ -75,13 +84,25 @@ fn own_numbers<A: Archive>(archive: &mut A) -> Result<Vector, ExchangeFault>
     Ok(ours)
 }
 
-/// Raises a vector so that it lacks no more records of a replica that has one among these.
-fn leave_out(numbers: &mut Vector, brought: &[Record])
-    ensures { (replica : ℕ)
-        → number_of numbers.new replica ≡ numbers_behind (number_of numbers.old) brought.now replica }
+/// The number behind which more of a replica is asked for once its record of this one came: it, where all are compared and more are
+/// held; else the greatest.
+fn number_behind(extent: Extent, held: u64, number: u64) -> u64
+    ensures is { result ≡ number_behind extent held number }
+    ensures greatest { held ≤ greatest → result ≤ greatest }
+{
+    match extent {
+        Extent::All if number < held => number,
+        _ => GREATEST_NUMBER,
+    }
+}
+
+/// Raises numbers so that the next question goes on behind these records, for who holds those of ours.
+fn go_behind(numbers: &mut Vector, extent: Extent, ours: &Vector, brought: &[Record])
+    ensures { AsksBehind extent ours.now numbers.old brought.now numbers.new }
 {
     for record in brought {
-        numbers.raise(record.origin, GREATEST_NUMBER);
+        let number = number_behind(extent, ours.get(record.origin), record.number);
+        numbers.raise(record.origin, number);
     }
 }
 
@@ -191,24 +212,26 @@ fn party_of<A: Archive>(archive: &A) -> Party
     }
 }
 
-/// Compares the last record that both hold of each replica, and what comes with them. A first question lacks nothing, and its
-/// answer tells the numbers that the peer holds. Behind these the next one asks for what comes from the last record on that both
-/// hold, of each replica; and the others for what is still to come of replicas of which no record came yet, until none comes. The
-/// first record that isn't equal to the one that is held by its name is told, with that one; none where all are, or no name is
-/// held. What is held stays, and nothing of it goes out but how far it goes. A dialog may follow on the connection, as its
-/// initiator.
+/// Compares the last record that both hold of each replica, or all that both hold. A question that lacks nothing is asked first, and
+/// its answer tells the numbers that the peer holds; records that come with it aren't looked at. The next one asks, of each
+/// replica of which both hold some, for what comes from the last record on that both hold, or from the first one on; and each
+/// other one goes on behind what came: for replicas of which no record came yet, or behind the last one that came where all are
+/// compared and more are held, until none comes. The first record that isn't equal to the one that is held by its name is told,
+/// with that one; none where all are, or no name is held. What is held stays, and nothing of it goes out but how far it goes. A
+/// dialog may follow on the connection, as its initiator; what the peer sent unasked behind its last answer is lost to it.
 ///
 /// Errors: `Connection` with `Read` or `Write` where a call of the reader or the writer failed; `Exchange` with `Frame` where
-/// what came is no frame that carries records, or the input was over before, or records came for each of 65 questions, with
-/// `WrongArchive`, `SelfPeer` and `PeerFormat` by whom it is from, with `Store` where the store met a fault, and with
+/// what came is no frame that carries records, or the input was over before, with `TooLong` where records came for each of 65
+/// questions for last records, or of a million for all, with `WrongArchive`, `SelfPeer` and `PeerFormat` by whom it is from, with `Store` where the store met a fault, and with
 /// `OutOfMemory`; `Peer` with the number by which the peer ended it. Nothing tells the peer of them.
 pub fn compare<R: Read, W: Write, A: Archive>(
     alloc: Global,
     replica: &mut Replica<A>,
+    extent: Extent,
     reader: &mut Counted<R>,
     writer: &mut Counted<W>,
 ) -> Result<Option<Clash>, SyncFault>
-    ensures compares { IfOk result (ComparesWith (A.state replica.old.archive)
+    ensures compares { IfOk result (ComparesWith extent (A.state replica.old.archive)
         (A.state replica.new.archive) (R.remaining reader.old.inner) (R.remaining reader.new.inner)
         (W.contents writer.old.inner) (W.contents writer.new.inner)) }
     ensures asks { AsksAlone (A.state replica.old.archive) (A.state replica.new.archive) result }
@@ -223,19 +246,19 @@ pub fn compare<R: Read, W: Write, A: Archive>(
     let ours = own_numbers(&mut replica.archive)?;
     let party = party_of(&replica.archive);
     let nothing = Vector::new();
-    let all = vector_before_shared(&nothing, &nothing);
+    let all = vector_before_shared(extent, &nothing, &nothing);
     let mut frames = Frames::new(alloc);
     ask(alloc, &replica.archive, &all, writer)?;
     let (theirs, _first) = next_carried(alloc, &party, &mut frames, reader)?;
-    let mut numbers = vector_before_shared(&ours, &theirs);
-    for _ in 0..MOST_ROUNDS {
+    let mut numbers = vector_before_shared(extent, &ours, &theirs);
+    for _ in 0..most_questions(extent) {
         ask(alloc, &replica.archive, &numbers, writer)?;
         let (_, brought) = next_carried(alloc, &party, &mut frames, reader)?;
         let clash = find_clash(alloc, &mut replica.archive, brought.as_slice())?;
         if clash.is_some() || brought.is_empty() {
             return Ok(clash);
         }
-        leave_out(&mut numbers, brought.as_slice());
+        go_behind(&mut numbers, extent, &ours, brought.as_slice());
     }
-    Err(SyncFault::Exchange(ExchangeFault::Frame))
+    Err(SyncFault::Exchange(ExchangeFault::TooLong))
 }

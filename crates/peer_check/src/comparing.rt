@@ -19,6 +19,15 @@ use ua_binary::TryClone;
 /// One more than the greatest number of a replica.
 const BEHIND_REPLICAS: u8 = 65;
 
+/// How much of what both hold is compared.
+#[derive(Clone, Copy, Debug)]
+pub enum Extent {
+    /// The last record of each replica.
+    Last,
+    /// Every record.
+    All,
+}
+
 /// Two records of one origin and number that aren't equal: the number was given twice.
 #[derive(Debug, Drop)]
 pub struct Clash {

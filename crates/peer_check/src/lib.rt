@@ -7,4 +7,4 @@ mod comparing;
 pub mod laws;
 
 pub use calling::compare;
-pub use comparing::{Clash, find_clash};
+pub use comparing::{Clash, Extent, find_clash};

@@ -28,7 +28,8 @@ pub enum SyncFault {
     /// The connection met this fault.
     #[error("{0}")]
     Connection(ServeFault),
-    /// The dialog met this fault here, and the peer was told where it could be; `Frame` also where the input was over.
+    /// The dialog, or a comparison, met this fault here; `Frame` also where the input was over. The peer was told of one of a dialog where
+    /// it could be.
     #[error("{0}")]
     Exchange(ExchangeFault),
     /// The peer ended the dialog by an `RXE` with this number.

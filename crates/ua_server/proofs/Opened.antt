@@ -1,9 +1,8 @@
 -- What the clauses of an opening and of a call of a peer need (open_server, sync_over in program.rt).
-use Rattle.std.proofs.Common.{Bool, ◌≡◌, ℕ, List, Option, None, Err, subst, sym}
+use Rattle.std.proofs.Common.{◌≡◌, ℕ, List, Option, None, Err, subst, sym}
 use Rattle.std.specs.Prelude.{Result}
 use Rattle.counted_io.specs.declared.fault.ServeFault.TheVariants.{Read, Write}
 use Rattle.ua_peers.specs.declared.calling.Synced.{Synced}
-use Rattle.ua_peers.specs.declared.calling.SyncFault.{SyncFault}
 use Rattle.ua_peers.specs.declared.calling.SyncFault.TheVariants as sync
 use Rattle.counted_io.specs.Bytes.{counted}
 use Rattle.counted_io.specs.Tally.{Tally}
@@ -15,6 +14,7 @@ use Rattle.archive.specs.declared.fault.StoreFault.{StoreFault}
 use Rattle.ua_settings.specs.Settings.{SettingsValues}
 use Rattle.ua_server.specs.Host.{Machine}
 use Rattle.ua_server.specs.Program.{OpensArchive, OpensUnless, ExchangesOver}
+use Rattle.peer_check.specs.declared.comparing.Extent.{Extent}
 use Rattle.ua_server.specs.Calls.{Exchanges}
 use Rattle.ua_server.specs.declared.calls.CallFault.{CallFault}
 use Rattle.ua_server.specs.declared.calls.CallFault.TheVariants as call
@@ -35,13 +35,13 @@ opened-unrefused machine held uses refusal settings result old new opening none 
     (opening, opens, is)
 
 -- records were exchanged over a connection that had no failed call before
-pub was-called : (known : KnownMachine) (check : Bool) (first last : known.Archive) (reader : known.Reader)
+pub was-called : (known : KnownMachine) (compared : Option Extent) (first last : known.Archive) (reader : known.Reader)
     (writer : known.Writer) (reader_counted read : Tally known.Reader)
     (writer_counted wrote : Tally known.Writer) (between after : known.Host)
     (old now : Option (List ℕ)) (ending : Result Synced CallFault)
     → reader_counted ≡ record { inner = reader; faults = 0 }
     → writer_counted ≡ record { inner = writer; faults = 0 }
-    → Exchanges known.held check first last (known.unread reader_counted.inner)
+    → Exchanges known.held compared first last (known.unread reader_counted.inner)
     (known.unread read.inner) (known.written writer_counted.inner)
     (known.written wrote.inner) ending
     → (ending ≡ Err (call.Sync (sync.Connection Read)) → read.faults ≡ counted reader_counted.faults)
@@ -52,16 +52,16 @@ pub was-called : (known : KnownMachine) (check : Bool) (first last : known.Archi
     → ((ending ≡ Err (call.Sync (sync.Connection Write)) → ⊥)
     → wrote.faults ≡ writer_counted.faults)
     → known.machine.parts between read wrote after
-    → ExchangesOver known check reader writer (record { host = between; archive = first; written = old })
+    → ExchangesOver known compared reader writer (record { host = between; archive = first; written = old })
     (record { host = after; archive = last; written = now }) ending
 was-called
-    known check first last reader writer reader_counted read writer_counted wrote between after old now
+    known compared first last reader writer reader_counted read writer_counted wrote between after old now
     ending begins opens syncs read_failed write_failed all_read all_written given =
     let R : Tally known.Reader → Type 0 = λ r.
-    Exchanges known.held check first last (known.unread r.inner)
+    Exchanges known.held compared first last (known.unread r.inner)
     (known.unread read.inner) (known.written writer) (known.written wrote.inner) ending in
     let W : Tally known.Writer → Type 0 = λ w.
-    Exchanges known.held check first last (known.unread reader_counted.inner)
+    Exchanges known.held compared first last (known.unread reader_counted.inner)
     (known.unread read.inner) (known.written w.inner) (known.written wrote.inner) ending in (
       read,
       wrote,

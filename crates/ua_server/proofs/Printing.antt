@@ -44,6 +44,8 @@ use Rattle.ua_server.specs.Exposing.{IsTaken, JudgesStrict}
 use Rattle.ua_server.specs.Host.{Machine, KnownMachine}
 use Rattle.conversation.specs.declared.door.Door.TheVariants.{Both, Clients, Peers, Browsers}
 use Rattle.ua_server.specs.Network.{Serving}
+use Rattle.peer_check.specs.declared.comparing.Extent.{Extent}
+use Rattle.ua_server.specs.Calls.{compared_before}
 use Rattle.ua_server.specs.Program.{SettingsAt, FindsNoPlace, OpensBy, CallsPeer, Calling, Scene, PrintsCall, PrintsSynced, Shows, Findings, IsMistaken, DoesCommand, DoesLine, Runs, OpensUnless, line_refusal, settings_path, store_use}
 use Rattle.ua_server.specs.declared.program.StoreUse.{StoreUse}
 use Rattle.ua_server.specs.Telling.{Known, dump_fault, fault_of, report_fault, Readings}
@@ -298,11 +300,11 @@ call-line old written (Err (call.Sync cause)) line prints =
     synced-line old written (Err cause) line prints
 call-line old written (Err (call.Clash clash)) line prints = let same = prints.1 in cc
 
-called-line : (known : KnownMachine) (check : Bool) (text : List ℕ)
+called-line : (known : KnownMachine) (compared : Option Extent) (text : List ℕ)
     (old new : Calling known.Host known.Archive) (line : LineFault)
-    → CallsPeer known check text old new (Err (Line line)) → ⊥
-called-line known check text old new line (inl (unheard, is, stays)) = absurd cc
-called-line known check text old new line
+    → CallsPeer known compared text old new (Err (Line line)) → ⊥
+called-line known compared text old new line (inl (unheard, is, stays)) = absurd cc
+called-line known compared text old new line
     (inr (address, spells, (reader, writer, between, called, ending, prints, over))) =
     call-line old.written new.written ending line prints
 
@@ -334,7 +336,7 @@ never-line known gave told (Serve path count) settings first last old new fault 
 never-line known gave told (Dump path) settings first last old new fault
     (same, (dumped, dumps, is)) = dumped-line dumped fault is
 never-line known gave told (Sync path asked) settings first last old new fault (same, so) =
-    called-line known asked.check asked.peer.now
+    called-line known (compared_before asked) asked.peer.now
     (record { host = old.host; archive = first; written = old.written })
     (record { host = new.host; archive = last; written = new.written }) fault so
 never-line known gave told (History path words) settings first last old new fault (same, so) =

@@ -1,17 +1,21 @@
 -- A peer that is called by hand: what is exchanged with it, and what is told of a number that was
 -- given twice.
-use Rattle.std.specs.Prelude.{◌≡◌, ◌⊎◌, ℕ, List, [], ◌∷◌, ◌++◌, Bool, true, false, Option, None, Some, Result, Ok, Err, IfOk, codes}
+use Rattle.std.specs.Prelude.{◌≡◌, ◌⊎◌, ℕ, List, [], ◌∷◌, ◌++◌, if◌then◌else◌, Option, None, Some, Result, Ok, Err, IfOk, codes}
 use Rattle.std.specs.Fmt.{decimal}
 use Rattle.std.specs.Result.{result_map_both}
 use Rattle.csv.specs.Writing.{default_writer, row_text}
 use Rattle.records.specs.declared.record.Record.{Record}
 use Rattle.records.specs.declared.shown.Entry.{Entry}
+use Rattle.records.specs.Records.{is_delete}
 use Rattle.archive.specs.Store.{Store}
 use Rattle.counted_io.specs.Bytes.{AppendsPart}
 use Rattle.exchange.specs.Dialogs.{party_of}
 use Rattle.history_csv.specs.Rows.{AreChangeFields}
 use Rattle.peer_check.specs.Comparing.{ComparesWith, AsksAlone, AsksOnly}
+use Rattle.command_line.specs.declared.line.SyncWords.{SyncWords}
 use Rattle.peer_check.specs.declared.comparing.Clash.{Clash}
+use Rattle.peer_check.specs.declared.comparing.Extent.{Extent}
+use Rattle.peer_check.specs.declared.comparing.Extent.TheVariants.{Last, All}
 use Rattle.ua_peers.specs.Calling.{Syncs}
 use Rattle.ua_peers.specs.declared.calling.Synced.{Synced}
 use Rattle.ua_peers.specs.declared.calling.SyncFault.{SyncFault}
@@ -24,12 +28,18 @@ use Rattle.ua_server.specs.declared.calls.CallFault.TheVariants as call
 abbrev pub dialog_fault : SyncFault → CallFault
 dialog_fault fault = call.Sync fault
 
--- the last records that both hold were compared over a connection, and this was found
-pub record Compares (old new : Store) (unread left before after : Option (List ℕ))
+-- what the words of `sync` ask to be compared before records are exchanged: nothing, the last
+-- records that both hold, or all of them
+abbrev pub compared_before : SyncWords → Option Extent
+compared_before asked =
+    if asked.verify then Some All else if asked.check then Some Last else None
+
+-- so much of what both hold was compared over a connection, and this was found
+pub record Compares (extent : Extent) (old new : Store) (unread left before after : Option (List ℕ))
     (found : Result (Option Clash) SyncFault) : Type 0 where
   pub alone : AsksAlone old new found
   pub says : AsksOnly (party_of old) before after
-  pub finds : IfOk found (ComparesWith old new unread left before after)
+  pub finds : IfOk found (ComparesWith extent old new unread left before after)
 
 -- a dialog was had over a connection, and the call ended as it did
 abbrev pub HasDialog : (old new : Store) → (unread left before after : Option (List ℕ))
@@ -39,39 +49,41 @@ HasDialog old new unread left before after ending =
     × (ending ≡ result_map_both (λ moved. moved) dialog_fault synced)
 
 -- nothing clashed, and a dialog was had behind it; held tells what an archive holds
-pub record AgreesFirst {A : Type 0} (held : A → Store) (old new : A)
+pub record AgreesFirst {A : Type 0} (extent : Extent) (held : A → Store) (old new : A)
     (unread left before after : Option (List ℕ)) (ending : Result Synced CallFault) : Type 0 where
   pub middle : A
   pub rest : Option (List ℕ)
   pub between : Option (List ℕ)
-  pub agrees : Compares (held old) (held middle) unread rest before between (Ok None)
+  pub agrees : Compares extent (held old) (held middle) unread rest before between (Ok None)
   pub dialog : HasDialog (held middle) (held new) rest left between after ending
 
 -- a clash was found, or comparing met a fault, and no record moved
-abbrev pub EndsCompared : (old new : Store) → (unread left before after : Option (List ℕ))
+abbrev pub EndsCompared : Extent → (old new : Store) → (unread left before after : Option (List ℕ))
     → Result Synced CallFault → Type 0
-EndsCompared old new unread left before after ending =
-    ((clash : Clash) × Compares old new unread left before after (Ok (Some clash))
+EndsCompared extent old new unread left before after ending =
+    ((clash : Clash) × Compares extent old new unread left before after (Ok (Some clash))
     × (ending ≡ Err (call.Clash clash)))
-    ⊎ ((fault : SyncFault) × Compares old new unread left before after (Err fault)
+    ⊎ ((fault : SyncFault) × Compares extent old new unread left before after (Err fault)
     × (ending ≡ Err (dialog_fault fault)))
 
--- records were exchanged with a peer; where that is asked for the last ones were compared before
-abbrev pub Exchanges : {A : Type 0} → (held : A → Store) → (check : Bool) → (old new : A)
-    → (unread left before after : Option (List ℕ)) → Result Synced CallFault → Type 0
-Exchanges held false old new unread left before after ending =
+-- a peer was called to exchange records with it; where that is asked for, so much of what both hold
+-- was compared before, and a clash or a fault of that ended the call
+abbrev pub Exchanges : {A : Type 0} → (held : A → Store) → (compared : Option Extent)
+    → (old new : A) → (unread left before after : Option (List ℕ)) → Result Synced CallFault
+    → Type 0
+Exchanges held None old new unread left before after ending =
     HasDialog (held old) (held new) unread left before after ending
-Exchanges held true old new unread left before after ending =
-    AgreesFirst held old new unread left before after ending
-    ⊎ EndsCompared (held old) (held new) unread left before after ending
+Exchanges held (Some extent) old new unread left before after ending =
+    AgreesFirst extent held old new unread left before after ending
+    ⊎ EndsCompared extent (held old) (held new) unread left before after ending
 
 -- ---- what is told of a clash
 
--- a record as a modification that shows its own value
+-- a record as a modification that shows its own value, and none where it deleted one
 abbrev pub entry_of : Record → Entry
 entry_of r = record {
   time = r.time;
-  value = Some r.value;
+  value = if is_delete r.asked then None else Some r.value;
   kind = r.asked;
   tick = r.tick;
   origin = r.origin;

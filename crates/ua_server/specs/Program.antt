@@ -29,7 +29,8 @@ use Rattle.archive.specs.Beginning.{HoldsNothing}
 use Rattle.ua_connection.specs.Environments.{Environment}
 use Rattle.ua_server.specs.Single.{AnswersAt}
 use Rattle.ua_server.specs.Dumping.{Dumps}
-use Rattle.ua_server.specs.Calls.{Exchanges, PrintsClash}
+use Rattle.peer_check.specs.declared.comparing.Extent.{Extent}
+use Rattle.ua_server.specs.Calls.{compared_before, Exchanges, PrintsClash}
 use Rattle.ua_server.specs.declared.calls.CallFault.{CallFault}
 use Rattle.ua_server.specs.declared.calls.CallFault.TheVariants as call
 use Rattle.ua_server.specs.Telling.{Known, synced_line, fault_of, dump_fault, sync_fault, Readings}
@@ -261,34 +262,34 @@ PrintsCall old written ending result = elim ending [
 abbrev pub Calling : (H A : Type 0) → Type 0
 Calling H A = record { host : H; archive : A; written : Option (List ℕ) }
 
--- records were exchanged over a connection, which was given back
-abbrev pub ExchangesOver : (known : KnownMachine) → (check : Bool) → known.Reader → known.Writer
-    → (old new : Calling known.Host known.Archive) → Result Synced CallFault → Type 0
-ExchangesOver known check reader writer old new ending =
+-- a peer was called to exchange records over a connection, which was given back
+abbrev pub ExchangesOver : (known : KnownMachine) → (compared : Option Extent) → known.Reader
+    → known.Writer → (old new : Calling known.Host known.Archive) → Result Synced CallFault → Type 0
+ExchangesOver known compared reader writer old new ending =
     Counts (λ fault. ending ≡ Err (call.Sync (sync.Connection fault)))
     (λ read wrote. known.machine.parts old.host read wrote new.host
-    × Exchanges known.held check old.archive new.archive (known.unread reader)
+    × Exchanges known.held compared old.archive new.archive (known.unread reader)
     (known.unread read.inner) (known.written writer) (known.written wrote.inner) ending)
 
 -- the peer at an address was called, as the initiator of a dialog, and what came of it is printed,
 -- or its fault told
-abbrev pub CallsAt : (known : KnownMachine) → (check : Bool) → SocketAddr
+abbrev pub CallsAt : (known : KnownMachine) → (compared : Option Extent) → SocketAddr
     → (old new : Calling known.Host known.Archive) → Result (Unit {0}) ProgramFault → Type 0
-CallsAt known check address old new result =
+CallsAt known compared address old new result =
     (reader : known.Reader) × (writer : known.Writer) × (between : known.Host)
     × known.machine.calls old.host address (Some (reader, writer)) between
     × (ending : Result Synced CallFault) × PrintsCall old.written new.written ending result
-    × ExchangesOver known check reader writer (record old { host = between }) new ending
+    × ExchangesOver known compared reader writer (record old { host = between }) new ending
 
 -- The peer at an address was called; or nothing is had there, or the text is no address, and the
 -- archive and the output stay.
-abbrev pub CallsPeer : (known : KnownMachine) → (check : Bool) → List ℕ
+abbrev pub CallsPeer : (known : KnownMachine) → (compared : Option Extent) → List ℕ
     → (old new : Calling known.Host known.Archive) → Result (Unit {0}) ProgramFault → Type 0
-CallsPeer known check text old new result =
+CallsPeer known compared text old new result =
     (IsUnreachable (known.machine.calls old.host) text old.host new.host × (result ≡ Err Address)
     × (new ≡ record old { host = new.host }))
     ⊎ ((address : SocketAddr) × IsSocketText text address
-    × CallsAt known check address old new result)
+    × CallsAt known compared address old new result)
 
 -- ---- what each command does over the archive of its settings; what it doesn't name stays as it
 -- was
@@ -350,7 +351,7 @@ abbrev pub DoesSyncing : {C E : Type 0} → (known : KnownMachine) → SyncWords
     → Result (Unit {0}) ProgramFault → Type 0
 DoesSyncing known asked first last old new result =
     (new ≡ record old { host = new.host; written = new.written })
-    × CallsPeer known asked.check asked.peer.now
+    × CallsPeer known (compared_before asked) asked.peer.now
     (record { host = old.host; archive = first; written = old.written })
     (record { host = new.host; archive = last; written = new.written }) result
 

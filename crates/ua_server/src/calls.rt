@@ -3,15 +3,16 @@
 ghost use Rattle.std.specs.Prelude.{◌≡◌, ◌++◌, ℕ, List, IsErrOf, IfOk, OnOk, string_bytes};
 ghost use Rattle.std.specs.Result.{result_map_both};
 ghost use Rattle.counted_io.specs.Bytes.{CountsWhere};
-ghost use Rattle.ua_server.specs.Calls.{Exchanges, dialog_fault, entry_of, row_front, IsClashRow, IsClashTable, PrintsClash};
+ghost use Rattle.ua_server.specs.Calls.{compared_before, Exchanges, dialog_fault, entry_of, row_front, IsClashRow, IsClashTable, PrintsClash};
 
 use archive::Archive;
+use command_line::SyncWords;
 use counted_io::{Counted, ServeFault};
 use historian::Server;
 use history_csv::put_change_row;
 use history_text::TextFault;
-use peer_check::{Clash, compare};
-use records::{Entry, Record};
+use peer_check::{Clash, Extent, compare};
+use records::{Entry, HistoryUpdateType, Record};
 use std::alloc::{AllocError, Global};
 use std::fmt::Write as _;
 use std::io::{Read, Write};
@@ -27,6 +28,19 @@ pub(crate) enum CallFault {
     Clash(Clash),
 }
 
+/// How much of what both hold is compared before records are exchanged; absent where nothing is.
+pub(crate) fn compared_before(asked: SyncWords<'_>) -> Option<Extent>
+    ensures { result ≡ compared_before asked.entry }
+{
+    if asked.verify {
+        Some(Extent::All)
+    } else if asked.check {
+        Some(Extent::Last)
+    } else {
+        None
+    }
+}
+
 /// What a dialog with a peer came to.
 fn dialog(ending: Result<Synced, SyncFault>) -> Result<Synced, CallFault>
     ensures { result ≡ result_map_both (λ synced. synced) dialog_fault ending }
@@ -37,15 +51,15 @@ fn dialog(ending: Result<Synced, SyncFault>) -> Result<Synced, CallFault>
     }
 }
 
-/// Exchanges records with a peer that was called. Where that is asked for, the last records that both hold are compared before,
-/// and two of one number end it.
+/// Exchanges records with a peer that was called. Where that is asked for, so much of what both hold is compared before, and two
+/// records of one number end it.
 pub(crate) fn exchange_over<A: Archive, R: Read, W: Write>(
     server: &mut Server<A>,
-    check: bool,
+    compared: Option<Extent>,
     reader: &mut Counted<R>,
     writer: &mut Counted<W>,
 ) -> Result<Synced, CallFault>
-    ensures exchanges { Exchanges A.state check server.old.replica.archive
+    ensures exchanges { Exchanges A.state compared server.old.replica.archive
         server.new.replica.archive (R.remaining reader.old.inner) (R.remaining reader.new.inner)
         (W.contents writer.old.inner) (W.contents writer.new.inner) result }
     ensures reads { CountsWhere (IsErrOf result (CallFault.Sync (SyncFault.Connection ServeFault.Read)))
@@ -54,8 +68,8 @@ pub(crate) fn exchange_over<A: Archive, R: Read, W: Write>(
         writer.old.faults writer.new.faults }
     ensures settings { server.new.settings ≡ server.old.settings }
 {
-    if check {
-        match compare(server.alloc, &mut server.replica, reader, writer) {
+    if let Some(extent) = compared {
+        match compare(server.alloc, &mut server.replica, extent, reader, writer) {
             Ok(None) => {}
             Ok(Some(clash)) => return Err(CallFault::Clash(clash)),
             Err(fault) => return Err(CallFault::Sync(fault)),
@@ -66,15 +80,18 @@ pub(crate) fn exchange_over<A: Archive, R: Read, W: Write>(
 
 // ---- what is told of a clash
 
-/// A record as a modification that shows its own value.
+/// A record as a modification that shows its own value, and none where it deleted one.
 fn entry_of(r: &Record) -> Result<Entry, AllocError>
     ensures { IfOk result (λ entry. entry ≡ entry_of r.now) }
 {
-    let value = r.value.try_clone()?;
+    let value = match r.asked {
+        HistoryUpdateType::Delete => None,
+        _ => Some(r.value.try_clone()?),
+    };
     let user = r.user.try_clone()?;
     Ok(Entry {
         time: r.time,
-        value: Some(value),
+        value,
         kind: r.asked,
         tick: r.tick,
         origin: r.origin,

@@ -10,9 +10,10 @@ ghost use Rattle.ua_server.specs.Single.{AnswersAt};
 ghost use Rattle.ua_server.specs.Telling.{fresh_log, exit_status, LogsLine, fault_text, numbered, told_line, error_lines, synced_line, fault_of, dump_fault, sync_fault, place_line};
 ghost use Rattle.ua_server.specs.Host.{known_machine};
 ghost use Rattle.ua_server.specs.Program.{OpensArchive, OpensBy, PrintsCall, PrintsSynced, PrintsText, CallsPeer, DoesCommand, DoesAndCloses, DoesLine, HasUserName, Runs, findings_in, line_refusal, scene_of, settings_path, store_use};
+ghost use Rattle.ua_server.specs.Calls.{compared_before};
 ghost use Rattle.ua_server.specs.Dumping.{Dumps};
 
-use crate::calls::{CallFault, exchange_over, print_clash};
+use crate::calls::{CallFault, compared_before, exchange_over, print_clash};
 use crate::checks::check_over;
 use crate::connections::serve_at;
 use crate::dumps::{DumpFault, dump};
@@ -393,8 +394,8 @@ fn report_call<W: Write>(
     }
 }
 
-/// Calls the peer at an address, exchanges records with it, and prints how many were moved; where that is asked for, the last
-/// records that both hold are compared before.
+/// Calls the peer at an address, exchanges records with it, and prints how many were moved; where that is asked for, what both hold
+/// is compared before.
 fn sync_over<H: Host, W: Write>(
     server: &mut Server<H::Archive>,
     asked: SyncWords<'_>,
@@ -407,7 +408,7 @@ fn sync_over<H: Host, W: Write>(
     ensures calls { CallsPeer
         (known_machine H.means H.Archive.state H.Source.effects H.Source.Reader.input
         H.Source.Writer.output H.Reader.remaining H.Writer.contents)
-        asked.entry.check asked.entry.peer.now
+        (compared_before asked.entry) asked.entry.peer.now
         (record {
           host = host.old;
           archive = server.old.replica.archive;
@@ -427,7 +428,8 @@ fn sync_over<H: Host, W: Write>(
     };
     let mut reader = Counted::new(reader);
     let mut writer = Counted::new(writer);
-    let ending = exchange_over(server, asked.check, &mut reader, &mut writer);
+    let compared = compared_before(asked);
+    let ending = exchange_over(server, compared, &mut reader, &mut writer);
     host.part(reader, writer);
     report_call(server.alloc, ending, output)
 }

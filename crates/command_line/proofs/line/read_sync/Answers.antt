@@ -30,6 +30,11 @@ returns-in-Some-get_str-clause-ok c =
       λ e. c.get_flag-check.ensures.value (one_text-rows found (codes "check") ∙ e),
       λ e. c.get_flag-check.ensures.other (one_text-rows found (codes "check") ∙ e),
       λ e. c.get_flag-check.ensures.none (one_text-rows found (codes "check") ∙ e),
+    ) in
+    let verify : IsFlag (one_of (codes "verify") (rows_of found)) c.get_flag-verify.result = (
+      λ e. c.get_flag-verify.ensures.value (one_text-rows found (codes "verify") ∙ e),
+      λ e. c.get_flag-verify.ensures.other (one_text-rows found (codes "verify") ∙ e),
+      λ e. c.get_flag-verify.ensures.none (one_text-rows found (codes "verify") ∙ e),
     ) in (
       sym (first_value-rows found (codes "settings"))
           ∙ mapped _ c.get_str.result (Some c.in-Some.settings)
@@ -39,6 +44,7 @@ returns-in-Some-get_str-clause-ok c =
             ∙ mapped _ c.get_str-2.result (Some c.in-Some-get_str.peer)
             (first_value found (codes "peer")) c.get_str-2.ensures c.in-Some-get_str.is;
         check = check;
+        verify = verify;
       },
     )
 

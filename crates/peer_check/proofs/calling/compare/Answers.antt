@@ -83,14 +83,18 @@ loop-init g c =
         all,
         c.in_ok-theirs._first,
         (λ replica is. c.vector_before_shared-all.ensures replica is
-            ∙ ap (λ (n : ℕ). before_shared n n) (c.new-nothing.ensures.none replica)),
+            ∙ ap (λ (n : ℕ). before_shared c.args.extent n n) (c.new-nothing.ensures.none replica)),
         answers,
       );
       answers = (refl, refl);
       asks = record {
         answer = λ h. (
-          (λ replica is. c.vector_before_shared-numbers.ensures replica is
-              ∙ ap (λ (n : ℕ). before_shared n (number_of theirs replica)) (known.answer h replica)),
+          (
+            known.answer h,
+            (λ replica is. c.vector_before_shared-numbers.ensures replica is
+                ∙ ap (λ (n : ℕ). before_shared c.args.extent n (number_of theirs replica))
+                (known.answer h replica)),
+          ),
           tt,
         );
         stays = known.stays;
@@ -182,6 +186,7 @@ returns-then-is_some-clause-compares g c =
     c.in_ok-ours.ensures.asks.leaves.passes in
     record {
       comparison = record {
+        ours = c.in_ok-ours.ours;
         theirs = so.theirs;
         first = so.first;
         earlier = so.earlier;
@@ -200,14 +205,15 @@ returns-then-is_some-clause-compares g c =
             (c.party_of-party.ensures ∙ first) c.in_ok-ask-2.ensures.sent
             c.in_ok-brought.ensures.hears,
       );
-      finds = λ h. let known = so.asks.answer (second.leaves.passes.honest h) in (
-        known.0,
-        known.1,
-        finds_before a b tt _ c.in_ok-brought.brought c.in_ok-clash.clash so.asks
+      finds = λ h. let known = so.asks.answer (second.leaves.passes.honest h) in record {
+        ours = known.0.0;
+        first = known.0.1;
+        earlier = known.1;
+        found_in = finds_before a b tt _ c.in_ok-brought.brought c.in_ok-clash.clash so.asks
             (second.leaves.passes.honest h)
             (subst (λ (rs : List Record). FindsClash b.content rs c.in_ok-clash.clash)
-            c.as_slice.ensures (second.answer h)),
-      );
+            c.as_slice.ensures (second.answer h));
+      };
       ends = λ none. elim c.then-is_some.branch [
         | then-is_some-via-then-is_some w ↦
             absurd (true≢false (sym w.if-is_some.true ∙ c.is_some.ensures ∙ ap is_some none))
@@ -282,8 +288,10 @@ loop-preserved g c =
         between,
         so.answers,
         answers,
-        (λ replica. c.leave_out.ensures replica ∙ ap (λ (rs : List Record).
-            numbers_behind (number_of c.loop.numbers) rs replica) c.as_slice-in-loop.ensures),
+        (λ none. true≢false (sym (c.is_empty.ensures.1 none) ∙ c.if-is_empty.false)),
+        (λ replica. c.go_behind.ensures replica ∙ ap (λ (rs : List Record).
+            numbers_behind c.args.extent (number_of c.in_ok-ours.ours) (number_of c.loop.numbers) rs
+            replica) c.as_slice-in-loop.ensures),
       );
       asks = agree_more a b d _ so.earlier brought so.asks
           (alone_ok b d c.in_ok-clash.clash (alone_asked b d c.in_ok-clash.clash _

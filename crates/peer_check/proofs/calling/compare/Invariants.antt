@@ -5,7 +5,8 @@ use Rattle.records.specs.Contents.{AreCompatible}
 use Rattle.records.specs.declared.record.Record.{Record}
 use Rattle.archive.specs.Store.{Asks, IsAskedWithin}
 use Rattle.exchange.specs.Dialogs.{party_of}
-use Rattle.peer_check.specs.Comparing.{asking, wire, Wire, IsBeforeShared, TellsNumbers, AnswersAll}
+use Rattle.peer_check.specs.Comparing.{asking, wire, Wire, TellsNumbers, AnswersAll}
+use Rattle.peer_check.proofs.Outcomes.{BeginsAt}
 use Rattle.peer_check.proofs.calling.compare.Given as goal
 
 abbrev pub invariant-loop : goal.invariant-loop
@@ -16,10 +17,11 @@ invariant-loop g l = record {
   told : Wire;
   tells : TellsNumbers (party_of (g.A.Archive.state l.fn.replica.archive)) theirs
       (wire [] (g.R.Read.remaining l.fn.reader.inner) (g.W.Write.contents l.fn.writer.inner)) told;
-  answers : AnswersAll (party_of (g.A.Archive.state l.fn.replica.archive)) earlier first l.numbers told
+  answers : AnswersAll l.extent (party_of (g.A.Archive.state l.fn.replica.archive)) l.ours earlier
+      first l.numbers told
       (wire l.frames.waiting (g.R.Read.remaining l.reader.inner) (g.W.Write.contents l.writer.inner));
   asks : Asks {A = Unit {0}} (g.A.Archive.state l.fn.replica.archive) (g.A.Archive.state l.replica.archive) (Ok tt)
-      (λ _. IsBeforeShared (g.A.Archive.state l.fn.replica.archive).content theirs first
+      (λ _. BeginsAt l.extent (g.A.Archive.state l.fn.replica.archive).content l.ours theirs first
       × AllByRecursion (AreCompatible (g.A.Archive.state l.fn.replica.archive).content) earlier);
   asked : IsAskedWithin 1 (g.A.Archive.asked l.fn.replica.archive)
       (g.A.Archive.asked l.replica.archive);

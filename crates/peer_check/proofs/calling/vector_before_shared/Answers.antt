@@ -7,14 +7,14 @@ use Rattle.peer_check.proofs.calling.vector_before_shared.Goals.{in-Some, in_def
 
 pub loop-n-init : goal.loop-n-init
 loop-n-init c = (
-  none_raised (λ replica. before_shared (number_of c.args.ours.now replica)
+  none_raised (λ replica. before_shared c.args.extent (number_of c.args.ours.now replica)
       (number_of c.args.theirs.now replica)) c.new-numbers.result c.new-numbers.ensures.none,
   omega arith,
 )
 
 pub loop-n-preserved : goal.loop-n-preserved
 loop-n-preserved c =
-    let f : ℕ → ℕ = λ replica. before_shared (number_of c.args.ours.now replica)
+    let f : ℕ → ℕ = λ replica. before_shared c.args.extent (number_of c.args.ours.now replica)
     (number_of c.args.theirs.now replica) in
     elim c.match-new.branch [
       | in-Some w ↦
@@ -22,8 +22,8 @@ loop-n-preserved c =
           c.loop-n.numbers w.raise.new.self c.loop-n.invariant.0 c.loop-n.invariant.1
           w.in-Some.ensures.0
           (w.before_shared-number.ensures.is
-          ∙ ap (λ (x : ℕ). before_shared x w.get-in-Some.result) w.get.ensures.number
-          ∙ ap (λ (x : ℕ). before_shared (number_of c.args.ours.now w.in-Some.replica) x) w.get-in-Some.ensures.number)
+          ∙ ap (λ (x : ℕ). before_shared c.args.extent x w.get-in-Some.result) w.get.ensures.number
+          ∙ ap (λ (x : ℕ). before_shared c.args.extent (number_of c.args.ours.now w.in-Some.replica) x) w.get-in-Some.ensures.number)
           w.raise.ensures.raised w.raise.ensures.others in (
             subst (λ numbers. IsRaisedBelow (c.loop-n.n + 1) f numbers) (sym w.numbers-is) next,
             omega (arith, c.loop-n.invariant.1),
@@ -34,6 +34,6 @@ loop-n-preserved c =
 
 pub returns : goal.returns
 returns c =
-    all_raised (λ replica. before_shared (number_of c.args.ours.now replica)
+    all_raised (λ replica. before_shared c.args.extent (number_of c.args.ours.now replica)
     (number_of c.args.theirs.now replica)) c.loop-n.n c.loop-n.numbers c.loop-n.invariant.0
     c.loop-n-test.false

@@ -53,7 +53,7 @@ returns-in-Some-clause-asks g c =
     (FindsClash a.content c.args.brought.now) c.loop-record.invariant.asks asks
     (λ h same px finds. clash_among a.content b.content c.args.brought.now
     c.loop-record.record-index c.record-item.result c.record-item.result c.in-Some.clash
-    c.loop-record-test.true c.record-item.is same finds)
+    c.loop-record-test.true c.record-item.is px.1 same finds)
 
 pub loop-record-preserved : goal.loop-record-preserved
 loop-record-preserved g c =

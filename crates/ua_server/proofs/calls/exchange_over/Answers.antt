@@ -1,10 +1,8 @@
-use Rattle.std.proofs.Common.{◌≡◌, Bool, List, ℕ, Option, Some, None, Result, Ok, inl, sym, ap, ◌∙◌, subst}
-use Rattle.std.specs.Prelude.{Vec}
-use Rattle.peer_check.specs.declared.comparing.Clash.{Clash}
-use Rattle.ua_peers.specs.declared.calling.SyncFault.{SyncFault}
+use Rattle.std.proofs.Common.{Option, Ok, inl, sym, ap, ◌∙◌, subst}
+use Rattle.peer_check.specs.declared.comparing.Extent.{Extent}
 use Rattle.ua_server.specs.Calls.{Exchanges, Compares, HasDialog}
 use Rattle.ua_server.proofs.calls.exchange_over.Goals as goal
-use Rattle.ua_server.proofs.calls.exchange_over.Goals.{then-check+in-Ok-None, else-check}
+use Rattle.ua_server.proofs.calls.exchange_over.Goals.{in-Some+in-Ok-None, in_default}
 
 pub returns-clause-exchanges : goal.returns-clause-exchanges
 returns-clause-exchanges g c =
@@ -13,13 +11,13 @@ returns-clause-exchanges g c =
     let told = g.W.Write.contents in
     let old = c.args.server.now.replica.archive in
     let new = c.sync.new.replica.archive in
-    let P : Bool → Type 0 = λ check. Exchanges held check old new (unread c.args.reader.now.inner)
+    let P : Option Extent → Type 0 = λ compared. Exchanges held compared old new (unread c.args.reader.now.inner)
     (unread c.sync.new.reader.inner) (told c.args.writer.now.inner)
     (told c.sync.new.writer.inner) c.dialog.result in
-    elim c.if-check.branch [
-      | then-check+in-Ok-None w ↦
+    elim c.match-compared.branch [
+      | in-Some+in-Ok-None w ↦
           let none = w.in-Ok-None.is ∙ ap Ok w.in-Ok-None.field-0-is in
-          let found : Compares (held old) (held w.compare.new.replica.archive)
+          let found : Compares w.in-Some.extent (held old) (held w.compare.new.replica.archive)
           (unread c.args.reader.now.inner) (unread w.compare.new.reader.inner)
           (told c.args.writer.now.inner) (told w.compare.new.writer.inner) w.compare.result =
           record {
@@ -27,17 +25,17 @@ returns-clause-exchanges g c =
             says = w.compare.ensures.says;
             finds = w.compare.ensures.compares;
           } in
-          subst P (sym w.if-check.true) (inl (record {
-            middle = c.if-check.server.replica.archive;
-            rest = unread c.if-check.reader.inner;
-            between = told c.if-check.writer.inner;
+          subst P (sym w.in-Some.is) (inl (record {
+            middle = c.match-compared.server.replica.archive;
+            rest = unread c.match-compared.reader.inner;
+            between = told c.match-compared.writer.inner;
             agrees = rw (w.server-is, w.reader-is, w.writer-is) (rw none at found);
             dialog = (c.sync.result, c.sync.ensures.syncs, c.dialog.ensures);
           }))
-      | else-check w ↦
-          let dialog : HasDialog (held c.if-check.server.replica.archive) (held new)
-          (unread c.if-check.reader.inner) (unread c.sync.new.reader.inner)
-          (told c.if-check.writer.inner) (told c.sync.new.writer.inner) c.dialog.result =
+      | in_default w ↦
+          let dialog : HasDialog (held c.match-compared.server.replica.archive) (held new)
+          (unread c.match-compared.reader.inner) (unread c.sync.new.reader.inner)
+          (told c.match-compared.writer.inner) (told c.sync.new.writer.inner) c.dialog.result =
           (c.sync.result, c.sync.ensures.syncs, c.dialog.ensures) in
-          subst P (sym w.if-check.false) (rw (w.server-is, w.reader-is, w.writer-is) at dialog)
+          subst P (sym w.in_default.is) (rw (w.server-is, w.reader-is, w.writer-is) at dialog)
     ]

@@ -1,4 +1,7 @@
-use Rattle.std.proofs.Common.{rules, refl, inl, inr}
+use Rattle.std.proofs.Common.{rules, refl, inl, inr, subst}
+use Rattle.std.specs.Prelude.{Option}
+use Rattle.peer_check.specs.declared.comparing.Extent.{Extent}
+use Rattle.ua_server.specs.Program.{CallsPeer}
 use Rattle.ua_server.specs.Host.{known_machine}
 use Rattle.ua_server.proofs.Opened.{was-called}
 use Rattle.ua_server.proofs.program.sync_over.Goals as goal
@@ -22,7 +25,7 @@ returns-clause-calls g c =
     g.H.Reader.Read.remaining g.H.Writer.Write.contents in
     let ends = c.exchange_over-ending.ensures in
     let over =
-    was-called known c.args.asked.check c.args.server.now.replica.archive
+    was-called known c.compared_before-compared.result c.args.server.now.replica.archive
     c.exchange_over-ending.new.server.replica.archive
     c.in-Some.reader c.in-Some.writer c.new-reader.result c.exchange_over-ending.new.reader
     c.new-writer.result
@@ -32,7 +35,17 @@ returns-clause-calls g c =
     c.exchange_over-ending.result c.new-reader.ensures c.new-writer.ensures ends.exchanges
     ends.reads.counts
     ends.writes.counts ends.reads.keeps ends.writes.keeps c.part.ensures in
-    inr (
+    subst (λ (compared : Option Extent). CallsPeer known compared c.args.asked.peer.now
+    (record {
+      host = c.args.host.now;
+      archive = c.args.server.now.replica.archive;
+      written = g.W.Write.contents c.args.output.now.inner;
+    })
+    (record {
+      host = c.part.new.self;
+      archive = c.exchange_over-ending.new.server.replica.archive;
+      written = g.W.Write.contents c.report_call.new.output.inner;
+    }) c.report_call.result) c.compared_before-compared.ensures (inr (
       c.in-Ok.address,
       search rules,
       (
@@ -44,4 +57,4 @@ returns-clause-calls g c =
         c.report_call.ensures.prints,
         over,
       ),
-    )
+    ))
