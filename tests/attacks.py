@@ -784,9 +784,9 @@ def copies():
         called.stop()
         return (done.out.decode() + done.said).strip().replace("uahist: ", "")
 
-    def checked(caller, called, replica=1):
+    def checked(caller, called, replica=1, word="--check"):
         called.start()
-        done = run([program, "sync", "--check", "--settings", caller.settings, "--peer", f"127.0.0.1:{called.port}"], most=30)
+        done = run([program, "sync", word, "--settings", caller.settings, "--peer", f"127.0.0.1:{called.port}"], most=30)
         called.stop()
         rows = done.out.decode().splitlines()
         found = done.status == 1 and "a number was given to two records" in done.said
@@ -826,6 +826,8 @@ def copies():
             tell("exchange ended (3)" in first, f"{what}: {first}", first)
         else:
             note(f"{what}: without `--check` {first}, then {second}; {apart(one, two)} of {len(one.dump().splitlines())} records differ, and nothing tells of it")
+            looked = [checked(one, two, word="--verify"), checked(two, one, word="--verify")]
+            tell(looked == 2 * ["found, and both are printed"], f"{what}, and exchanged since: `sync --verify` finds it from either machine", looked)
     one, two, hub = Server(3), Server(4), Server(2)
     writes(one, range(NOW, NOW + 3), 1)
     exchanged(one, two)

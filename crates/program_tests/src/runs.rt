@@ -15,7 +15,7 @@ use ua_server::{
 use uuid::Uuid;
 
 /// Command lines, and what they are.
-static LINES: [(&[&str], Result<Line<'static>, LineFault>); 52] = [
+static LINES: [(&[&str], Result<Line<'static>, LineFault>); 54] = [
     (
         &[
             "uahist",
@@ -30,6 +30,7 @@ static LINES: [(&[&str], Result<Line<'static>, LineFault>); 52] = [
             asked: SyncWords {
                 peer: "10.0.0.2:4840",
                 check: false,
+                verify: false,
             },
         }),
     ),
@@ -40,8 +41,24 @@ static LINES: [(&[&str], Result<Line<'static>, LineFault>); 52] = [
             asked: SyncWords {
                 peer: "b",
                 check: true,
+                verify: false,
             },
         }),
+    ),
+    (
+        &["uahist", "sync", "--peer=b", "--verify", "--settings=a"],
+        Ok(Line::Sync {
+            settings: "a",
+            asked: SyncWords {
+                peer: "b",
+                check: false,
+                verify: true,
+            },
+        }),
+    ),
+    (
+        &["uahist", "sync", "--settings=a", "--peer=b", "--verify=no"],
+        Err(LineFault::Words),
     ),
     (
         &["uahist", "sync", "--settings=a", "--peer=b", "--check=yes"],
@@ -657,7 +674,7 @@ static RUNS: [(&[&str], &[u8], usize, &str, &str, u8); 62] = [
         b"",
         1000,
         "",
-        "uahist: usage: uahist answer [--settings FILE] [--hex] [--now N] | serve --settings FILE [--connections N] | dump --settings FILE | sync --settings FILE --peer ADDRESS [--check] | history --settings FILE --node ID [--from T] [--to T] [--changes] [--csv] [--html] | import --settings FILE --user NAME [--perform insert|replace|update] | check --settings FILE [--store]\n",
+        "uahist: usage: uahist answer [--settings FILE] [--hex] [--now N] | serve --settings FILE [--connections N] | dump --settings FILE | sync --settings FILE --peer ADDRESS [--check] [--verify] | history --settings FILE --node ID [--from T] [--to T] [--changes] [--csv] [--html] | import --settings FILE --user NAME [--perform insert|replace|update] | check --settings FILE [--store]\n",
         2,
     ),
     (
