@@ -96,13 +96,13 @@ class Server:
     def bring(self, lines, perform="insert"):
         """Brings rows while the server is stopped."""
         text = "node,time,value,status\n" + "".join(line + "\n" for line in lines)
-        done = run([program, "import", "--settings", self.settings, "--user", "ann", "--perform", perform], text.encode(), 300)
+        done = run([program, "import", "--settings", self.settings, "--user", "ann", "--perform", perform], text.encode(), 1200)
         if done.status != 0:
             sys.exit(f"rows were refused: {done.said[:500]}")
 
     def history(self, name, *words):
         """What `uahist history` prints while the server is stopped."""
-        return run([program, "history", "--settings", self.settings, "--node", f"ns=1;s={name}", *words], most=300)
+        return run([program, "history", "--settings", self.settings, "--node", f"ns=1;s={name}", *words], most=1200)
 
     def ask(self, path, method="GET", user=None, fields=None):
         """An answer: its status, its fields and its body; where it isn't whole, what came of it, behind the status None."""
