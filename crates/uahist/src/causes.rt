@@ -13,7 +13,10 @@ static WANTED: [(&str, &str); 23] = [
         "[archive] id",
         "want a UUID, as 3f2c8a10-5b1e-4c7d-9a60-2d8f4b6e7c90",
     ),
-    ("id", "want a text of 1 to 256 bytes that is no other id"),
+    (
+        "id",
+        "want a text that is no other id, of a variable one of 1 to 256 bytes",
+    ),
     ("replica", "want a whole number from 1 to 64"),
     ("broken", "want \"stop\", or no such key"),
     ("anonymous", "want true or false"),
@@ -29,7 +32,7 @@ static WANTED: [(&str, &str); 23] = [
     ("waiting", "want a whole number of MiB from 1 to 65536"),
     (
         "name",
-        "want a text, of a user one of 1 to 256 bytes that is no other user's",
+        "want a text, of a user one of 1 to 256 bytes that is neither another user's nor anonymous",
     ),
     ("password", "want a text, and no password_file beside it"),
     (
