@@ -149,18 +149,19 @@ fn found_with(
     two: &mut Replica<ListArchive>,
 ) -> (usize, Result<Option<Clash>, SyncFault>) {
     let (mut questions, mut found) = compared(alloc, one, extent, &[]);
-    let mut asked: usize = 1;
-    while is_unanswered(&found) && asked < 8 {
+    for asked in 1..8 {
+        if !is_unanswered(&found) {
+            return (asked, found);
+        }
         let back = answered(alloc, two, questions.as_slice());
         let (more, then) = compared(alloc, one, extent, back.as_slice());
-        asked = asked.saturating_add(1);
         if more.len() == questions.len() {
-            return (asked.saturating_sub(1), then);
+            return (asked, then);
         }
         questions = more;
         found = then;
     }
-    (asked, found)
+    (8, found)
 }
 
 /// Whether what was found is a clash in the record of this number, or none for 0.
