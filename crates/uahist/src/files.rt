@@ -48,6 +48,16 @@ pub fn stands(rt: &HostRuntime, path: &str) -> bool {
     !matches!(length(rt, path), Ok(0)) || !matches!(has_log(rt, path), Ok(false))
 }
 
+/// Makes the file of a store for its owner alone.
+fn make(rt: &HostRuntime, path: &str) -> io::Result<File> {
+    OpenOptions::new()
+        .read(true)
+        .write(true)
+        .create_new(true)
+        .mode(OWNERS)
+        .open(rt, path)
+}
+
 /// Makes the file of a store for its owner alone, where none stands. A store that is gone, or empty, beside a log that has
 /// records is refused, and both stay: an opening would begin anew, and the log may be all that is left. What else can't be read
 /// is left to the opening.
@@ -58,12 +68,7 @@ fn prepare(rt: &HostRuntime, path: &str) -> Result<(), StoreFault> {
     if matches!(has_log(rt, path), Ok(true)) {
         return Err(StoreFault::Refused);
     }
-    let _ = OpenOptions::new()
-        .read(true)
-        .write(true)
-        .create_new(true)
-        .mode(OWNERS)
-        .open(rt, path);
+    let _ = make(rt, path);
     Ok(())
 }
 
@@ -85,12 +90,20 @@ fn is_locked(rt: &HostRuntime, file: &File) -> io::Result<bool> {
     Ok(locks.contains(name.as_str()))
 }
 
-/// Why a store that was refused can't be opened, as far as its file tells.
+/// The file of a store, to be read and written; where none stands it is made.
+fn opened(rt: &HostRuntime, path: &str) -> io::Result<File> {
+    match OpenOptions::new().read(true).write(true).open(rt, path) {
+        Err(error) if error.kind() == ErrorKind::NotFound => make(rt, path),
+        told => told,
+    }
+}
+
+/// Why a store that was refused can't be opened, as far as its file tells; or why none can be made, where none stands.
 pub fn why_refused(rt: &HostRuntime, path: &str) -> Option<&'static str> {
     if matches!(length(rt, path), Ok(0)) && matches!(has_log(rt, path), Ok(true)) {
         return Some("it is gone or empty, and its log has records");
     }
-    let file = match OpenOptions::new().read(true).write(true).open(rt, path) {
+    let file = match opened(rt, path) {
         Ok(file) => file,
         Err(error) => return causes::of_store(error.kind()),
     };
