@@ -1,8 +1,8 @@
 -- What an opening asks of currents2 and of vectors.
 use Rattle.std.proofs.lemmas.Slice.Eq.{bytes_eq-Decides}
 use Rattle.std.proofs.lemmas.Map.Text.{is_eq-slice_cmp}
-use Rattle.std.proofs.Common.{rules, IsSomeAnd, Option, ◌-◌, ◌^◌, ◌≤◌, Ok, Err, Result, IfSome, ◌≤ℤ◌, zero, suc, ◌+◌, Less, ◌≡◌, ◌⊎◌, inl, inr, arith, ℕ, ℤ, pos, negsuc, min, length, take, not, ◌&&◌, ◌||◌, ◌<ℤ◌, Bool, true, false, cond, List, [], ◌∷◌, ◌++◌, drop, map, filter, flat_map, codes, slice_get, Option, Some, None, refl, sym, ap, ap₂, subst, subst₂, ◌∙◌, IsPermutation, is_eq}
-use Rattle.std.specs.List.{list_any, list_all, AllByRecursion}
+use Rattle.std.proofs.Common.{rules, IsSomeAnd, Option, ◌-◌, ◌^◌, ◌≤◌, Ok, Err, Result, IfSome, ◌≤ℤ◌, zero, suc, ◌+◌, Less, ◌≡◌, ◌⊎◌, inl, inr, arith, ℕ, ℤ, pos, negsuc, length, take, not, ◌&&◌, ◌||◌, ◌<ℤ◌, Bool, true, false, cond, List, [], ◌∷◌, ◌++◌, drop, map, filter, flat_map, codes, slice_get, Option, Some, None, refl, sym, ap, ap₂, subst, subst₂, ◌∙◌, IsPermutation, is_eq}
+use Rattle.std.specs.List.{list_any, AllByRecursion}
 use Rattle.std.specs.Ordering.{int_cmp, on}
 use Rattle.std.specs.Cmp.{IsTotalOrder}
 use Rattle.std.proofs.lemmas.Cmp.{on_total}
@@ -18,21 +18,21 @@ use Rattle.sqlite_value.specs.Keys.{ascending}
 use Rattle.sqlite_value.specs.Order.{Row, column, value_cmp}
 use Rattle.sqlite_value.proofs.OrderLemmas.{value_cmp_total, value_cmp-Int, value_cmp-Blob, value_cmp-apart}
 use Rattle.sqlite_sql.specs.Ops.{is_null, is_true, unary, binary, from_truth}
-use Rattle.sqlite_sql.specs.Term.{Term, Env, lit, col, op1, op2, holds, eval_all}
-use Rattle.sqlite_sql.specs.declared.ops.UnaryOp.TheVariants.{Not, ToNumeric}
+use Rattle.sqlite_sql.specs.Term.{Term, Env, lit, col, eval_all}
+use Rattle.sqlite_sql.specs.declared.ops.UnaryOp.TheVariants.{ToNumeric}
 use Rattle.sqlite_sql.specs.declared.ops.BinaryOp.TheVariants.{Compare}
 use Rattle.sqlite_sql.specs.declared.ops.CompareOp.TheVariants.{Ne}
 use Rattle.sqlite_sql.specs.Query.{Query, Join, inner, end, counted, Output, output, page, matches, IsAnswer}
 use Rattle.sqlite_sql.specs.Program.{overlay}
 use Rattle.sqlite_schema.specs.declared.command.Command.TheVariants.{Select}
 use Rattle.sqlite_schema.specs.declared.schema.Column.{Column}
-use Rattle.sqlite_schema.specs.Rules.{are_typed, suits, is_of, has_affinity, passes}
+use Rattle.sqlite_schema.specs.Rules.{are_typed, are_present, suits, is_of, has_affinity, passes}
 use Rattle.sqlite_schema.specs.Names.{is_key}
 use Rattle.sqlite_schema.specs.declared.schema.Kind.TheVariants as kind
 use Rattle.sqlite_trees.specs.Tree.{Trees, IsAscending, rowid}
 use Rattle.sqlite_trees.specs.View.{is_int}
 use Rattle.sqlite_rules.specs.Lists.{Has}
-use Rattle.sqlite_keyed.proofs.ListLemmas.{map-map, filter_same, filter-map, ascending_from_map, all_unmap}
+use Rattle.sqlite_keyed.proofs.ListLemmas.{all_both, map-map, ascending_from_map, all_unmap}
 use Rattle.sqlite_tied.specs.Compute.{everything}
 use Rattle.sqlite.specs.Listing.{understood, reads_listing}
 use Rattle.sqlite.specs.Effect.{Database, Reads, ReadsFirst}
@@ -44,15 +44,14 @@ use Rattle.sqlite_resolve.specs.declared.error.CompileError.{CompileError}
 use Rattle.std.proofs.lemmas.List.{map-append, length-append}
 use Rattle.sql_tables.specs.declared.integrity.Ids.{Ids}
 use Rattle.sqlite_catalog.specs.Listing.{IsSound}
-use Rattle.sqlite_schema.specs.declared.schema.Constraint.TheVariants.{Datatype}
+use Rattle.sqlite_schema.specs.declared.schema.Constraint.TheVariants.{Datatype, NotNull}
 use Rattle.sql_schema.specs.Tables.{archive_schema, third_table, fourth_table}
-use Rattle.sql_tables.specs.Words.{cells, columns_of}
-use Rattle.sql_tables.specs.Derived.{AreNumbered, IsCells, is_later, is_other, same, flag, current_of, currents_of, current_columns}
-use Rattle.sql_tables.specs.Agreeing.{command_in, AreUncountable, ShowsOf, AreRising, HasCounted, HasEach, HasRisen}
+use Rattle.sql_tables.specs.Derived.{AreNumbered, same}
+use Rattle.sql_tables.specs.Agreeing.{command_in, AreUncountable, ShowsOf, AreRising, HasCounted, HasRisen}
 use Rattle.sqlite_schema.specs.declared.schema.Schema.{Schema}
-use Rattle.sql_tables.proofs.Texts.{currents_lack_text, currents_wanted_text, currents_held_text, vectors_held_text}
+use Rattle.sql_tables.proofs.Texts.{currents_held_text, vectors_held_text}
 use Rattle.sql_tables.proofs.ApartLemmas.{apart-permuted, all-permuted}
-use Rattle.sql_tables.proofs.MadeLemmas.{later_tests, other_tests, eq, exists_is, not_flag, counted_is, one_true, picked, later_alike, other_alike}
+use Rattle.sql_tables.proofs.MadeLemmas.{one_true, picked}
 
 -- ---- what a query answers, in order and to a limit
 
@@ -168,32 +167,6 @@ pub vectors_held_is : command_in (understood archive_schema vectors_held_text)
 unfolding understood everything
 vectors_held_is = refl
 
-abbrev pub wanted_by : (ℕ → List Term) → Query
-wanted_by tests = listing (inner 1 (counted 1 (inner 1 end) (tests 2) end)) (op1 Not (col 2 0) ∷ [])
-    (col 1 0 ∷ []) by_id all_of_them
-
-pub currents_wanted_is : command_in (understood archive_schema currents_wanted_text)
-    ≡ Select (record { lets = []; body = wanted_by later_tests }) (codes "rowid" ∷ [])
-unfolding understood everything
-currents_wanted_is = refl
-
-abbrev pub current_fits : List Term
-current_fits = eq (col 3 1) (col 1 4) ∷ eq (col 3 2) (col 1 5) ∷ eq (col 3 3) (col 1 6)
-    ∷ eq (col 3 4) (col 1 3) ∷ eq (col 3 5) (col 1 1)
-    ∷ eq (col 3 6) (op1 ToNumeric (op2 (Compare Ne Binary) (col 1 7) (lit (Int (pos 4)))))
-    ∷ eq (col 3 7) (op1 ToNumeric (col 4 0)) ∷ eq (col 3 8) (col 1 9) ∷ []
-
-abbrev pub lacks_current : Query
-lacks_current = listing (inner 1
-    (counted 1 (inner 1 end) (later_tests 2) (counted 1
-    (inner 4 (counted 1 (inner 1 end) (other_tests 4) end)) current_fits end)))
-    (op1 Not (col 2 0) ∷ op1 Not (col 3 0) ∷ []) (col 1 1 ∷ []) [] first_only
-
-pub currents_lack_is : command_in (understood archive_schema currents_lack_text)
-    ≡ Select (record { lets = []; body = lacks_current }) (codes "origin" ∷ [])
-unfolding understood everything
-currents_lack_is = refl
-
 -- ---- the rows that are held
 
 -- a table whose rowids rise is numbered, and as long as the count
@@ -227,43 +200,7 @@ held_rows t db rows ids a rise =
     all_kept [] = refl
     all_kept (r ∷ rs) = ap (λ l. r ∷ l) (all_kept rs)
 
--- ---- how many follow
-
-module _ (db : Trees) where
-  abbrev pub later_than : Row → Value
-  later_than r = Int (pos
-      (min 1 (length (flat_map (λ s.
-      cond (list_all (holds ([] ∷ r ∷ s ∷ [])) (later_tests 2)) (([] ∷ r ∷ s ∷ []) ∷ []) [])
-      (db 1)))))
-
-  pub no_later : (r : Row) → is_true (unary Not (later_than r))
-      ≡ not (list_any (is_later (columns_of r)) (cells (db 1)))
-  no_later r = ap (λ n. is_true (unary Not (Int (pos n))))
-      (exists_is (λ s. list_all (holds ([] ∷ r ∷ s ∷ [])) (later_tests 2)) (λ s. [] ∷ r ∷ s ∷ [])
-      (is_later (columns_of r)) (λ s. later_alike r s) (db 1))
-      ∙ not_flag (list_any (is_later (columns_of r)) (cells (db 1)))
-
-  wanted_rows : (rows : List Row) → IsAnswer (wanted_by later_tests) (overlay db []) [] rows
-      → length rows ≡ length (currents_of (cells (db 1)))
-  wanted_rows rows a =
-      let keep = λ (r : Row). list_all (holds ([] ∷ r ∷ (later_than r ∷ []) ∷ []))
-      (op1 Not (col 2 0) ∷ []) in
-      let last = λ (r : Row). not (list_any (is_later (columns_of r)) (cells (db 1))) in
-      let got = listed (inner 1 (counted 1 (inner 1 end) (later_tests 2) end))
-      (op1 Not (col 2 0) ∷ []) (col 1 0 ∷ []) by_id all_of_them [] (overlay db []) (db 1) keep
-      (λ r. [] ∷ r ∷ (later_than r ∷ []) ∷ []) refl rows a in
-      let shown : rows ≡ got.0 = got.2 in
-      let kept : filter keep (db 1) ≡ filter last (db 1) =
-      filter_same keep last (λ r. one_true (is_true (unary Not (later_than r))) ∙ no_later r)
-      (db 1) in
-      ap length shown ∙ length_permutation _ _ got.1
-      ∙ length-map (filter keep (db 1)) (λ r. column r 0 ∷ []) ∙ ap length kept
-      ∙ sym (ap length (filter-map (λ c. not (list_any (is_later c) (cells (db 1)))) columns_of
-      (db 1)) ∙ length-map (filter last (db 1)) columns_of)
-      ∙ sym (length-map (filter (λ c. not (list_any (is_later c) (cells (db 1)))) (cells (db 1)))
-      (current_of (cells (db 1))))
-
--- ---- that each row that follows is there
+-- ---- values that are told by =
 
 same_is : (v w : Value) → is_null v ≡ false → is_null w ≡ false → same v w ≡ true
     → is_eq (value_cmp v w) ≡ true
@@ -369,7 +306,7 @@ live_is v n e = rw e (one _)
     one true = (pos 1, refl)
     one false = (pos 0, refl)
 
--- the columns of currents2 with whole numbers have such, and so have those of vectors
+-- the columns of currents2 with whole numbers have such, and what is told of others isn't NULL
 pub record HasInts (c : Row) : Type 0 where
   pub time : is_of kind.Integer (column c 2) ≡ true
   pub pico : is_of kind.Integer (column c 3) ≡ true
@@ -377,21 +314,7 @@ pub record HasInts (c : Row) : Type 0 where
   pub origin : is_of kind.Integer (column c 5) ≡ true
   pub live : is_of kind.Integer (column c 6) ≡ true
   pub extra : is_of kind.Integer (column c 7) ≡ true
-
-eight_parts : (a b c d e f g h : Bool)
-    → (a && (b && (c && (d && (e && (f && (g && (h && true)))))))) ≡ true
-    → (a ≡ true) × (b ≡ true) × (c ≡ true) × (d ≡ true) × (e ≡ true) × (f ≡ true) × (g ≡ true)
-    × (h ≡ true)
-eight_parts true true true true true true true true all =
-    (refl, refl, refl, refl, refl, refl, refl, refl)
-eight_parts true true true true true true true false all = absurd (true≢false (sym all))
-eight_parts true true true true true true false h all = absurd (true≢false (sym all))
-eight_parts true true true true true false g h all = absurd (true≢false (sym all))
-eight_parts true true true true false f g h all = absurd (true≢false (sym all))
-eight_parts true true true false e f g h all = absurd (true≢false (sym all))
-eight_parts true true false d e f g h all = absurd (true≢false (sym all))
-eight_parts true false c d e f g h all = absurd (true≢false (sym all))
-eight_parts false b c d e f g h all = absurd (true≢false (sym all))
+  pub told : is_null (column c 7) ≡ false
 
 pub three_parts : (a b c : Bool) → (a && (b && (c && true))) ≡ true
     → (a ≡ true) × (b ≡ true) × (c ≡ true)
@@ -404,137 +327,8 @@ pub int_equal : (v w : Value) (n : ℤ) → w ≡ Int n → is_of kind.Integer v
     → v ≡ w
 int_equal v w n is kind e = int_same v n kind (subst (λ x. same v x ≡ true) is e) ∙ sym is
 
-blob_equal : (v w : Value) (b : List ℕ) → w ≡ Blob b → same v w ≡ true → v ≡ w
+pub blob_equal : (v w : Value) (b : List ℕ) → w ≡ Blob b → same v w ≡ true → v ≡ w
 blob_equal v w b is e = blob_same v b (subst (λ x. same v x ≡ true) is e) ∙ sym is
-
-refuted : (a b : Bool) → a ≡ true → (a && (b && true)) ≡ false → b ≡ false
-refuted true true e off = absurd (true≢false off)
-refuted true false e off = refl
-refuted false b e off = absurd (true≢false (sym e))
-
-module _ (db : Trees) where
-  abbrev behind : Row → Row → Env
-  behind r c = [] ∷ r ∷ (later_than db r ∷ []) ∷ c ∷ []
-
-  abbrev pub others_of : Row → Row → Value
-  others_of r c = Int (pos
-      (min 1 (length (flat_map (λ s.
-      cond (list_all (holds ([] ∷ r ∷ (later_than db r ∷ []) ∷ c ∷ s ∷ [])) (other_tests 4))
-      (([] ∷ r ∷ (later_than db r ∷ []) ∷ c ∷ s ∷ []) ∷ []) []) (db 1)))))
-
-  pub others_is : (r c : Row) → others_of r c ≡ flag (list_any (is_other (columns_of r)) (cells (db 1)))
-  others_is r c = ap (λ n. Int (pos n)) (exists_is
-      (λ s. list_all (holds ([] ∷ r ∷ (later_than db r ∷ []) ∷ c ∷ s ∷ [])) (other_tests 4))
-      (λ s. [] ∷ r ∷ (later_than db r ∷ []) ∷ c ∷ s ∷ []) (is_other (columns_of r))
-      (λ s. other_alike r s) (db 1))
-
-  abbrev pub fits_current : Row → Row → Bool
-  fits_current r c = list_all (holds
-      ([] ∷ r ∷ (later_than db r ∷ []) ∷ c ∷ (others_of r c ∷ []) ∷ [])) current_fits
-
-  abbrev pub current_count : Row → Value
-  current_count r =
-      Int (pos (min 1 (length (flat_map
-      (λ c. cond (fits_current r c)
-      (([] ∷ r ∷ (later_than db r ∷ []) ∷ c ∷ (others_of r c ∷ []) ∷ []) ∷ []) []) (db 4)))))
-
-  -- a row of currents2 that fits a row of records2 is the one that follows from it
-  fitting : (r c : Row) → IsCells (columns_of r) → HasInts c → fits_current r c ≡ true
-      → current_columns c ≡ current_of (cells (db 1)) (columns_of r)
-  fitting r c it kinds fits =
-      let all = eight_parts _ _ _ _ _ _ _ _ fits in
-      let live = live_is (column r 7) it.asked (ap (λ x. column x 6) it.is) in
-      let count : unary ToNumeric (others_of r c) ≡ others_of r c = numeric_int _ in
-      as_row (blob_equal (column c 1) (column r 4) it.node (ap (λ x. column x 3) it.is) all.0)
-      (int_equal (column c 2) (column r 5) it.time
-      (ap (λ x. column x 4) it.is) kinds.time all.1)
-      (int_equal (column c 3) (column r 6) it.pico
-      (ap (λ x. column x 5) it.is) kinds.pico all.2)
-      (int_equal (column c 4) (column r 3) it.tick (ap (λ x. column x 2) it.is) kinds.tick all.3)
-      (int_equal (column c 5) (column r 1) it.origin
-      (ap (λ x. column x 0) it.is) kinds.origin all.4)
-      (int_equal (column c 6) (binary (Compare Ne Binary) (column r 7) (Int (pos 4))) live.0 live.1
-      kinds.live (subst (λ x. same (column c 6) x ≡ true)
-      (ap (unary ToNumeric) live.1 ∙ numeric_int live.0 ∙ sym live.1) all.5))
-      (int_equal (column c 7) (others_of r c) _ refl kinds.extra
-      (subst (λ x. same (column c 7) x ≡ true) count all.6) ∙ others_is r c)
-      (blob_equal (column c 8) (column r 9) it.value (ap (λ x. column x 8) it.is) all.7)
-    where
-      as_row : {a b c d e f g h a2 b2 c2 d2 e2 f2 g2 h2 : Value} → a ≡ a2 → b ≡ b2 → c ≡ c2 → d ≡ d2
-          → e ≡ e2 → f ≡ f2 → g ≡ g2 → h ≡ h2
-          → ◌≡◌ {A = Row} (a ∷ b ∷ c ∷ d ∷ e ∷ f ∷ g ∷ h ∷ [])
-          (a2 ∷ b2 ∷ c2 ∷ d2 ∷ e2 ∷ f2 ∷ g2 ∷ h2 ∷ [])
-      as_row p q s t u v w x = ap₂ ◌∷◌ p (ap₂ ◌∷◌ q
-          (ap₂ ◌∷◌ s (ap₂ ◌∷◌ t (ap₂ ◌∷◌ u (ap₂ ◌∷◌ v (ap₂ ◌∷◌ w (ap (λ y. y ∷ []) x)))))))
-
-  abbrev pub lacked : Row → Bool
-  lacked r = is_true (unary Not (later_than db r))
-      && (is_true (unary Not (current_count r)) && true)
-
-  none_lacked : IsAnswer lacks_current (overlay db []) [] []
-      → AllByRecursion (λ r. lacked r ≡ false) (db 1)
-  none_lacked a =
-      let got = listed (inner 1 (counted 1 (inner 1 end) (later_tests 2)
-      (counted 1 (inner 4 (counted 1 (inner 1 end) (other_tests 4) end)) current_fits end)))
-      (op1 Not (col 2 0) ∷ op1 Not (col 3 0) ∷ []) (col 1 1 ∷ []) [] first_only []
-      (overlay db []) (db 1) lacked
-      (λ r. [] ∷ r ∷ (later_than db r ∷ []) ∷ (current_count r ∷ []) ∷ []) refl [] a in
-      none_passes lacked (db 1) (none_of (λ r. column r 1 ∷ []) (filter lacked (db 1))
-      (subst (IsPermutation (map (λ r. column r 1 ∷ []) (filter lacked (db 1))))
-      (none_first got.0 (sym got.2)) got.1))
-
-  -- each row that follows from those of records2 is there
-  pub currents_there : IsAnswer lacks_current (overlay db []) [] []
-      → AllByRecursion IsCells (cells (db 1)) → AllByRecursion HasInts (db 4)
-      → AllByRecursion (Has (map current_columns (db 4))) (currents_of (cells (db 1)))
-  currents_there a typed kinds = go (db 1) (none_lacked a) typed
-    where
-      kinds_of : (xs : List Row) (x : Row) → AllByRecursion HasInts xs → Has xs x → HasInts x
-      kinds_of [] x all h = absurd h
-      kinds_of (y ∷ ys) x all (inl e) = subst HasInts (sym e) all.0
-      kinds_of (y ∷ ys) x all (inr h) = kinds_of ys x all.1 h
-
-      one : (r : Row) → lacked r ≡ false → IsCells (columns_of r)
-          → list_any (is_later (columns_of r)) (cells (db 1)) ≡ false
-          → Has (map current_columns (db 4)) (current_of (cells (db 1)) (columns_of r))
-      one r miss it last =
-          let off : is_true (unary Not (current_count r)) ≡ false =
-          refuted _ _ (no_later db r ∙ ap not last) miss in
-          let some : list_any (fits_current r) (db 4) ≡ true =
-          back (list_any (fits_current r) (db 4))
-          (sym (ap (λ n. is_true (unary Not (Int (pos n))))
-          (counted_is (fits_current r) (λ c. [] ∷ r ∷ (later_than db r ∷ []) ∷ c
-          ∷ (others_of r c ∷ []) ∷ []) (db 4)) ∙ not_flag (list_any (fits_current r) (db 4)))
-          ∙ off) in
-          let found = any_has (fits_current r) (db 4) some in
-          subst (Has (map current_columns (db 4)))
-          (fitting r found.0 it (kinds_of (db 4) found.0 kinds found.1) found.2)
-          (has_mapped current_columns (db 4) found.0 found.1)
-        where
-          back : (b : Bool) → not b ≡ false → b ≡ true
-          back true e = refl
-          back false e = absurd (true≢false e)
-
-      go : (rs : List Row) → AllByRecursion (λ r. lacked r ≡ false) rs
-          → AllByRecursion IsCells (map columns_of rs)
-          → AllByRecursion (Has (map current_columns (db 4)))
-          (map (current_of (cells (db 1))) (filter (λ c. not (list_any (is_later c) (cells (db 1))))
-          (map columns_of rs)))
-      go [] none typed = tt
-      go (r ∷ rs) none typed = by (list_any (is_later (columns_of r)) (cells (db 1)))
-          (one r none.0 typed.0) (go rs none.1 typed.1)
-        where
-          more_rows : List Row
-          more_rows = filter (λ c. not (list_any (is_later c) (cells (db 1)))) (map columns_of rs)
-
-          by : (b : Bool) → (b ≡ false
-              → Has (map current_columns (db 4)) (current_of (cells (db 1)) (columns_of r)))
-              → AllByRecursion (Has (map current_columns (db 4)))
-              (map (current_of (cells (db 1))) more_rows)
-              → AllByRecursion (Has (map current_columns (db 4)))
-              (map (current_of (cells (db 1))) (cond (not b) (columns_of r ∷ more_rows) more_rows))
-          by true first more = more
-          by false first more = (first refl, more)
 
 -- the columns of vectors have whole numbers
 pub record HasNumbers (c : Row) : Type 0 where
@@ -544,11 +338,26 @@ pub record HasNumbers (c : Row) : Type 0 where
 
 -- ---- what a database that obeys its schema has in their columns
 
-typed_currents : (db : Trees) → IsSound archive_schema db → AllByRecursion HasInts (db 4)
-typed_currents db sound = go (db 4) (sound.obeys.rules Datatype).1.1.0
+pub typed_currents : (db : Trees) → IsSound archive_schema db → AllByRecursion HasInts (db 4)
+typed_currents db sound =
+    all_both (λ row. passes Datatype archive_schema db third_table row ≡ true)
+    (λ row. passes NotNull archive_schema db third_table row ≡ true) HasInts one (db 4)
+    (sound.obeys.rules Datatype).1.1.0 (sound.obeys.rules NotNull).1.1.0
   where
-    one : (r : Row) → (are_typed None 0 third_table.columns (drop 1 r) && true) ≡ true → HasInts r
-    one r e =
+    seventh : (a b c d e f g h : Bool)
+        → (a && (b && (c && (d && (e && (f && (not g && (h && true)))))))) ≡ true → g ≡ false
+    seventh true true true true true true false h all = refl
+    seventh true true true true true true true h all = absurd (true≢false (sym all))
+    seventh true true true true true false g h all = absurd (true≢false (sym all))
+    seventh true true true true false f g h all = absurd (true≢false (sym all))
+    seventh true true true false e f g h all = absurd (true≢false (sym all))
+    seventh true true false d e f g h all = absurd (true≢false (sym all))
+    seventh true false c d e f g h all = absurd (true≢false (sym all))
+    seventh false b c d e f g h all = absurd (true≢false (sym all))
+
+    one : (r : Row) → (are_typed None 0 third_table.columns (drop 1 r) && true) ≡ true
+        → are_present None 0 third_table.columns r ≡ true → HasInts r
+    one r e some =
         let typed : are_typed None 0 third_table.columns (drop 1 r) ≡ true = sym (one_true _) ∙ e in
         let at = λ (i : ℕ) (c : Column) (found : slice_get third_table.columns i ≡ Some c)
         (strict : c.is_strict ≡ true).
@@ -562,12 +371,8 @@ typed_currents db sound = go (db 4) (sound.obeys.rules Datatype).1.1.0
               at 4 _ refl refl;
           live = at 5 _ refl refl;
           extra = at 6 _ refl refl;
+          told = seventh (not (is_null (column r 1))) (not (is_null (column r 2))) (not (is_null (column r 3))) (not (is_null (column r 4))) (not (is_null (column r 5))) (not (is_null (column r 6))) (is_null (column r 7)) (not (is_null (column r 8))) some;
         }
-
-    go : (rs : List Row) → AllByRecursion (λ row. passes Datatype archive_schema db third_table row
-        ≡ true) rs → AllByRecursion HasInts rs
-    go [] all = tt
-    go (r ∷ rs) all = (one r all.0, go rs all.1)
 
 pub typed_vectors : (db : Trees) → IsSound archive_schema db → AreNumbered (db 6)
     → AllByRecursion HasNumbers (db 6)
@@ -621,23 +426,6 @@ module _ (d : Database) (has : d.schema ≡ archive_schema) where
 
   counted_in : (sql : List ℕ) (n : ℕ) → HasCounted sql d n → HasCounted sql whole n
   counted_in sql n = subst (λ x. HasCounted sql x n) whole_is
-
-  pub currents_fit_of : IsSound d.schema d.trees → AllByRecursion IsCells (cells (d.trees 1))
-      → ShowsOf currents_lack_text d []
-      → HasEach (map current_columns (d.trees 4)) (currents_of (cells (d.trees 1)))
-  currents_fit_of sound typed none =
-      currents_there d.trees (shown_is currents_lack_text lacks_current
-      (codes "origin" ∷ []) d.trees [] currents_lack_is
-      (subst (λ x. ShowsOf currents_lack_text x []) whole_is none)) typed
-      (typed_currents d.trees (subst (λ s. IsSound s d.trees) has sound))
-
-  pub currents_wanted_of : (n : ℕ) → HasCounted currents_wanted_text d n
-      → n ≡ length (currents_of (cells (d.trees 1)))
-  currents_wanted_of n counts =
-      let want = counted_in currents_wanted_text n counts in
-      want.many ∙ wanted_rows d.trees want.rows
-      (shown_is currents_wanted_text (wanted_by later_tests)
-      (codes "rowid" ∷ []) d.trees want.rows currents_wanted_is want.shown)
 
   pub currents_held_of : (n : ℕ) → HasCounted currents_held_text d n
       → (n ≡ length (d.trees 4)) × AreNumbered (d.trees 4)

@@ -34,7 +34,7 @@ use Rattle.sqlite_schema.specs.declared.schema.Index.{Index}
 use Rattle.sqlite_schema.specs.declared.schema.View.{View}
 use Rattle.sql_schema.specs.Tables.{archive_schema, schema1, first_table, HasMeta}
 use Rattle.sql_tables.specs.Asking.{IsAnswered}
-use Rattle.sql_tables.proofs.Texts.{at_text, all_text, whose_text, named_text, last_text, since_text, after_text, before_text, some_at_text, currents_lack_text, currents_wanted_text, currents_held_text, vectors_stray_text, vectors_behind_text, vectors_held_text, lives_after_text, lives_before_text, records1_text, currents1_text, all_vectors_text}
+use Rattle.sql_tables.proofs.Texts.{at_text, all_text, whose_text, named_text, last_text, since_text, after_text, before_text, some_at_text, currents_stray_text, currents_alone_text, currents_hide_text, currents_held_text, vectors_stray_text, vectors_behind_text, vectors_held_text, lives_after_text, lives_before_text, records1_text, currents1_text, all_vectors_text}
 
 abbrev pub has_no_table : List Table → Bool
 has_no_table [] = true
@@ -268,21 +268,29 @@ all_suits = (refl, ((refl, refl), refl, refl, refl))
 pub all_answered : IsAnswered archive_schema all_text []
 all_answered = let s = all_suits in answered_by archive_schema all_text _ s.0 s.1
 
-currents_lack_suits : MayAsk archive_schema currents_lack_text []
+currents_stray_suits : MayAsk archive_schema currents_stray_text []
 unfolding understood everything
-currents_lack_suits = (refl, ((refl, refl), refl, refl, refl))
+currents_stray_suits = (refl, ((refl, refl), refl, refl, refl))
 
-pub currents_lack_answered : IsAnswered archive_schema currents_lack_text []
-currents_lack_answered =
-    let s = currents_lack_suits in answered_by archive_schema currents_lack_text _ s.0 s.1
+pub currents_stray_answered : IsAnswered archive_schema currents_stray_text []
+currents_stray_answered =
+    let s = currents_stray_suits in answered_by archive_schema currents_stray_text _ s.0 s.1
 
-currents_wanted_suits : MayAsk archive_schema currents_wanted_text []
+currents_alone_suits : MayAsk archive_schema currents_alone_text []
 unfolding understood everything
-currents_wanted_suits = (refl, ((refl, refl), refl, refl, refl))
+currents_alone_suits = (refl, ((refl, refl), refl, refl, refl))
 
-pub currents_wanted_answered : IsAnswered archive_schema currents_wanted_text []
-currents_wanted_answered =
-    let s = currents_wanted_suits in answered_by archive_schema currents_wanted_text _ s.0 s.1
+pub currents_alone_answered : IsAnswered archive_schema currents_alone_text []
+currents_alone_answered =
+    let s = currents_alone_suits in answered_by archive_schema currents_alone_text _ s.0 s.1
+
+currents_hide_suits : MayAsk archive_schema currents_hide_text []
+unfolding understood everything
+currents_hide_suits = (refl, ((refl, refl), refl, refl, refl))
+
+pub currents_hide_answered : IsAnswered archive_schema currents_hide_text []
+currents_hide_answered =
+    let s = currents_hide_suits in answered_by archive_schema currents_hide_text _ s.0 s.1
 
 currents_held_suits : MayAsk archive_schema currents_held_text []
 unfolding understood everything

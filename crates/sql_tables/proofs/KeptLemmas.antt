@@ -69,7 +69,7 @@ same_ints m n = rw (value_cmp-Int m n) (truly (is_eq (int_cmp m n)))
     truly true = refl
     truly false = refl
 
-above_ints : (m n : ℤ) → above (Int m) (Int n) ≡ is_gt (int_cmp m n)
+pub above_ints : (m n : ℤ) → above (Int m) (Int n) ≡ is_gt (int_cmp m n)
 unfolding binary
 above_ints m n = rw (value_cmp-Int m n) (truly (is_gt (int_cmp m n)))
   where

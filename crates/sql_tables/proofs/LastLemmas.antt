@@ -41,7 +41,7 @@ use Rattle.sql_tables.proofs.DerivedLemmas.{same_turned, filled_by, vectors_perm
 use Rattle.sql_tables.proofs.KeptLemmas.{same_ints, newer_is, not_above, same_origins, equal_origins}
 use Rattle.sql_tables.proofs.AgreeLemmas.{HasNumbers, typed_vectors, three_parts, int_equal, any_has, has_mapped, all_has}
 use Rattle.sql_tables.proofs.WholeLemmas.{same_int, has_from_map, all_has_permuted, any_by, three_true}
-use Rattle.sql_tables.proofs.LackLemmas.{lacking, meets, none_lack, some_lack}
+use Rattle.sql_tables.proofs.LackLemmas.{lacking, meets, none_lack, some_lack, met_all, all_asked}
 
 -- ---- the texts
 
@@ -50,7 +50,7 @@ abbrev pub stray_tests : List Term
 stray_tests = eq (col 2 1) (col 1 0) ∷ eq (col 2 2) (col 1 2) ∷ eq (col 2 3) (col 1 3) ∷ []
 
 pub vectors_stray_is : command_in (understood archive_schema vectors_stray_text)
-    ≡ Select (record { lets = []; body = lacking 6 1 stray_tests (col 1 0 ∷ []) })
+    ≡ Select (record { lets = []; body = lacking 6 1 [] stray_tests (col 1 0 ∷ []) })
     (codes "origin" ∷ [])
 unfolding understood everything
 vectors_stray_is = refl
@@ -60,19 +60,19 @@ abbrev pub behind_tests : List Term
 behind_tests = eq (col 2 0) (col 1 1) ∷ op2 (Compare Ge Binary) (col 2 2) (col 1 2) ∷ []
 
 pub vectors_behind_is : command_in (understood archive_schema vectors_behind_text)
-    ≡ Select (record { lets = []; body = lacking 1 6 behind_tests (col 1 1 ∷ []) })
+    ≡ Select (record { lets = []; body = lacking 1 6 [] behind_tests (col 1 1 ∷ []) })
     (codes "origin" ∷ [])
 unfolding understood everything
 vectors_behind_is = refl
 
 -- ---- lists
 
-all_from : {A : Type 0} (P : A → Type 0) (xs : List A) → ((x : A) → Has xs x → P x)
+pub all_from : {A : Type 0} (P : A → Type 0) (xs : List A) → ((x : A) → Has xs x → P x)
     → AllByRecursion P xs
 all_from P [] h = tt
 all_from P (x ∷ xs) h = (h x (inl refl), all_from P xs (λ y k. h y (inr k)))
 
-kept_of : {A : Type 0} (p : A → Bool) (xs : List A) (x : A) → Has (filter p xs) x
+pub kept_of : {A : Type 0} (p : A → Bool) (xs : List A) (x : A) → Has (filter p xs) x
     → Has xs x × (p x ≡ true)
 kept_of p [] x h = absurd h
 kept_of {A} p (y ∷ xs) x h = go (p y) refl h (kept_of p xs x)
@@ -83,7 +83,7 @@ kept_of {A} p (y ∷ xs) x h = go (p y) refl h (kept_of p xs x)
     go true e (inr more) on = let it = on more in (inr it.0, it.1)
     go false e more on = let it = on more in (inr it.0, it.1)
 
-has_kept : {A : Type 0} (p : A → Bool) (xs : List A) (x : A) → Has xs x → p x ≡ true
+pub has_kept : {A : Type 0} (p : A → Bool) (xs : List A) (x : A) → Has xs x → p x ≡ true
     → Has (filter p xs) x
 has_kept p [] x h pass = absurd h
 has_kept {A} p (y ∷ xs) x h pass = go (p y) refl h (λ k. has_kept p xs x k pass)
@@ -96,7 +96,7 @@ has_kept {A} p (y ∷ xs) x h pass = go (p y) refl h (λ k. has_kept p xs x k pa
     go false e (inr more) on = on more
 
 -- a list whose elements differ is no longer than one that has them
-no_longer : {A : Type 0} (xs ys : List A) → IsAscending (λ a b. a ≡ b → ⊥) xs
+pub no_longer : {A : Type 0} (xs ys : List A) → IsAscending (λ a b. a ≡ b → ⊥) xs
     → ((x : A) → Has xs x → Has ys x) → length xs ≤ length ys
 no_longer [] ys apart within = omega arith
 no_longer {A} (x ∷ xs) ys apart within =
@@ -122,14 +122,14 @@ no_longer {A} (x ∷ xs) ys apart within =
     left (z ∷ zs) (inr h) y other (inl f) = inl f
     left (z ∷ zs) (inr h) y other (inr k) = inr (left zs h y other k)
 
-itself : (v : Value) → is_eq (value_cmp v v) ≡ true
+pub itself : (v : Value) → is_eq (value_cmp v v) ≡ true
 itself v = ap is_eq (tied_itself value_cmp_total v)
 
-clash : (v w : Value) → v ≡ w → is_eq (value_cmp v w) ≡ false → ⊥
+pub clash : (v w : Value) → v ≡ w → is_eq (value_cmp v w) ≡ false → ⊥
 clash v w is off = true≢false (sym (itself v) ∙ (ap (λ u. is_eq (value_cmp v u)) is ∙ off))
 
 -- rows that are told by their first columns
-one_row : (xs : List Row)
+pub one_row : (xs : List Row)
     → IsAscending (λ a b. is_eq (value_cmp (column a 0) (column b 0)) ≡ false) xs → (a b : Row)
     → Has xs a → Has xs b → column a 0 ≡ column b 0 → a ≡ b
 one_row [] up a b h k same_key = absurd h
@@ -145,12 +145,12 @@ one_row (x ∷ xs) up a b (inr h) (inr k) same_key = one_row xs up.1 a b h k sam
 
 -- ---- rows of records
 
-has_rows : (R : Content) (r : Record) → HasRecord R r → Has (map row_of R) (row_of r)
+pub has_rows : (R : Content) (r : Record) → HasRecord R r → Has (map row_of R) (row_of r)
 has_rows [] r h = absurd h
 has_rows (s ∷ R) r (inl e) = inl (ap row_of (sym e))
 has_rows (s ∷ R) r (inr h) = inr (has_rows R r h)
 
-rows_have : (R : Content) (c : Row) → Has (map row_of R) c
+pub rows_have : (R : Content) (c : Row) → Has (map row_of R) c
     → (r : Record) × HasRecord R r × (c ≡ row_of r)
 rows_have [] c h = absurd h
 rows_have (s ∷ R) c (inl e) = (s, inl refl, e)
@@ -397,10 +397,10 @@ kept_reach db (R, l, stand) kept =
 
 module _ (db : Trees) where
   abbrev stands_for : Row → Row → Bool
-  stands_for = meets db 6 1 stray_tests (col 1 0 ∷ [])
+  stands_for = meets db 6 1 [] stray_tests (col 1 0 ∷ [])
 
   abbrev reaches_row : Row → Row → Bool
-  reaches_row = meets db 1 6 behind_tests (col 1 1 ∷ [])
+  reaches_row = meets db 1 6 [] behind_tests (col 1 1 ∷ [])
 
   is_last_of : (v r : Row) → IsCells (columns_of r) → HasNumbers v → stands_for v r ≡ true
       → vector_columns v ≡ last_of (columns_of r)
@@ -488,21 +488,27 @@ module _ (d : Database) (has : d.schema ≡ archive_schema) where
   vectors_stand_of sound typed none ids =
       all_of_records d.trees typed
       (typed_vectors d.trees (subst (λ s. IsSound s d.trees) has sound) ids)
-      (none_lack vectors_stray_text 6 1 stray_tests (col 1 0 ∷ []) _ vectors_stray_is d has none)
+      (met_all (λ v. list_any (stands_for d.trees v) (d.trees 1)) (d.trees 6)
+      (none_lack vectors_stray_text 6 1 [] stray_tests (col 1 0 ∷ []) _ vectors_stray_is d has
+      none))
 
   pub vectors_stray_some : AllByRecursion IsCells (cells (d.trees 1))
       → ShowsSome vectors_stray_text d → HasVectors d.trees → ⊥
   vectors_stray_some typed some kept =
-      some_lack vectors_stray_text 6 1 stray_tests (col 1 0 ∷ []) _ vectors_stray_is d has some
-      (all_stand d.trees typed kept)
+      some_lack vectors_stray_text 6 1 [] stray_tests (col 1 0 ∷ []) _ vectors_stray_is d has some
+      (all_asked (λ v. list_any (stands_for d.trees v) (d.trees 1)) (d.trees 6)
+      (all_stand d.trees typed kept))
 
   pub vectors_reach_of : ShowsOf vectors_behind_text d [] → AreReached d.trees
   vectors_reach_of none =
       all_reached d.trees
-      (none_lack vectors_behind_text 1 6 behind_tests (col 1 1 ∷ []) _ vectors_behind_is d has none)
+      (met_all (λ r. list_any (reaches_row d.trees r) (d.trees 6)) (d.trees 1)
+      (none_lack vectors_behind_text 1 6 [] behind_tests (col 1 1 ∷ []) _ vectors_behind_is d has
+      none))
 
   pub vectors_behind_some : IsFilled d.trees → ShowsSome vectors_behind_text d
       → HasVectors d.trees → ⊥
   vectors_behind_some filled some kept =
-      some_lack vectors_behind_text 1 6 behind_tests (col 1 1 ∷ []) _ vectors_behind_is d has some
-      (all_reach d.trees (kept_reach d.trees filled kept))
+      some_lack vectors_behind_text 1 6 [] behind_tests (col 1 1 ∷ []) _ vectors_behind_is d has some
+      (all_asked (λ r. list_any (reaches_row d.trees r) (d.trees 6)) (d.trees 1)
+      (all_reach d.trees (kept_reach d.trees filled kept)))

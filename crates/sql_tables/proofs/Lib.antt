@@ -14,6 +14,8 @@ pub mod AgreeLemmas
 pub mod WholeLemmas
 pub mod LackLemmas
 pub mod LastLemmas
+pub mod TopLemmas
+pub mod ShownLemmas
 pub mod AgreedLemmas
 pub mod FreeLemmas
 pub mod QueryLemmas

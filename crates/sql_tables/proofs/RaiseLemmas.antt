@@ -34,10 +34,10 @@ abbrev pub down : ℤ → ℤ → ℤ → ℤ → Bool
 down a b c d = is_le (int_cmp a c) && (is_lt (int_cmp a c) || is_lt (int_cmp b d))
 
 -- it is another
-abbrev apart : ℤ → ℤ → ℤ → ℤ → Bool
+abbrev pub apart : ℤ → ℤ → ℤ → ℤ → Bool
 apart a b c d = is_ne (int_cmp a c) || is_ne (int_cmp b d)
 
-abbrev not_less : Value → Value → Value → Value → Bool
+abbrev pub not_less : Value → Value → Value → Value → Bool
 not_less a b c d = is_true (binary (Compare Ge Binary) a c)
     && is_true (binary Or (binary (Compare Gt Binary) a c) (binary (Compare Gt Binary) b d))
 
@@ -45,11 +45,11 @@ abbrev not_more : Value → Value → Value → Value → Bool
 not_more a b c d = is_true (binary (Compare Le Binary) a c)
     && is_true (binary Or (binary (Compare Lt Binary) a c) (binary (Compare Lt Binary) b d))
 
-abbrev not_same : Value → Value → Value → Value → Bool
+abbrev pub not_same : Value → Value → Value → Value → Bool
 not_same a b c d =
     is_true (binary Or (binary (Compare Ne Binary) a c) (binary (Compare Ne Binary) b d))
 
-up_is : (a b c d : ℤ) → not_less (Int a) (Int b) (Int c) (Int d) ≡ up a b c d
+pub up_is : (a b c d : ℤ) → not_less (Int a) (Int b) (Int c) (Int d) ≡ up a b c d
 unfolding binary
 up_is a b c d = rw (value_cmp-Int a c, value_cmp-Int b d) (go (int_cmp a c) (int_cmp b d))
   where
@@ -83,7 +83,7 @@ down_is a b c d = rw (value_cmp-Int a c, value_cmp-Int b d) (go (int_cmp a c) (i
     go Greater Equal = refl
     go Greater Greater = refl
 
-apart_is : (a b c d : ℤ) → not_same (Int a) (Int b) (Int c) (Int d) ≡ apart a b c d
+pub apart_is : (a b c d : ℤ) → not_same (Int a) (Int b) (Int c) (Int d) ≡ apart a b c d
 unfolding binary
 apart_is a b c d = rw (value_cmp-Int a c, value_cmp-Int b d) (go (int_cmp a c) (int_cmp b d))
   where

@@ -99,13 +99,17 @@ abbrev pub fill_vectors_text : List ℕ
 fill_vectors_text =
     codes "INSERT INTO vectors SELECT r.origin, r.number, r.tick FROM records2 AS r WHERE NOT EXISTS (SELECT 1 FROM records2 AS s WHERE s.origin = r.origin AND s.number > r.number)"
 
-abbrev pub currents_lack_text : List ℕ
-currents_lack_text =
-    codes "SELECT r.origin FROM records2 AS r WHERE NOT EXISTS (SELECT 1 FROM records2 AS s WHERE s.node = r.node AND s.time = r.time AND s.pico = r.pico AND s.tick >= r.tick AND (s.tick > r.tick OR s.origin > r.origin)) AND NOT EXISTS (SELECT 1 FROM currents2 AS c WHERE c.node = r.node AND c.time = r.time AND c.pico = r.pico AND c.tick = r.tick AND c.origin = r.origin AND c.live = (r.asked <> 4) AND c.extra = EXISTS (SELECT 1 FROM records2 AS s WHERE s.node = r.node AND s.time = r.time AND s.pico = r.pico AND (s.tick <> r.tick OR s.origin <> r.origin)) AND c.value = r.value) LIMIT 1"
+abbrev pub currents_stray_text : List ℕ
+currents_stray_text =
+    codes "SELECT c.origin FROM currents2 AS c WHERE NOT EXISTS (SELECT 1 FROM records2 AS r WHERE r.node = c.node AND r.time = c.time AND r.pico = c.pico AND r.tick = c.tick AND r.origin = c.origin) LIMIT 1"
 
-abbrev pub currents_wanted_text : List ℕ
-currents_wanted_text =
-    codes "SELECT r.rowid FROM records2 AS r WHERE NOT EXISTS (SELECT 1 FROM records2 AS s WHERE s.node = r.node AND s.time = r.time AND s.pico = r.pico AND s.tick >= r.tick AND (s.tick > r.tick OR s.origin > r.origin)) ORDER BY r.rowid"
+abbrev pub currents_alone_text : List ℕ
+currents_alone_text =
+    codes "SELECT c.origin FROM currents2 AS c WHERE c.extra <> 0 AND NOT EXISTS (SELECT 1 FROM records2 AS r WHERE r.node = c.node AND r.time = c.time AND r.pico = c.pico AND (r.tick <> c.tick OR r.origin <> c.origin)) LIMIT 1"
+
+abbrev pub currents_hide_text : List ℕ
+currents_hide_text =
+    codes "SELECT r.origin FROM records2 AS r WHERE NOT EXISTS (SELECT 1 FROM currents2 AS c WHERE c.node = r.node AND c.time = r.time AND c.pico = r.pico AND (c.extra = 1 AND (c.tick > r.tick OR c.tick = r.tick AND c.origin > r.origin) OR c.tick = r.tick AND c.origin = r.origin AND c.live = (r.asked <> 4) AND c.value = r.value)) LIMIT 1"
 
 abbrev pub currents_held_text : List ℕ
 currents_held_text = codes "SELECT rowid FROM currents2 ORDER BY rowid"

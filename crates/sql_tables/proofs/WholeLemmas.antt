@@ -1,6 +1,6 @@
 -- That tables which are whole are refused for no reason of our own.
-use Rattle.std.proofs.Common.{◌≡◌, ◌<◌, ◌≤◌, ◌-◌, ◌^◌, inl, inr, ℕ, ℤ, pos, suc, Bool, true, false, not, ◌&&◌, ◌||◌, cond, List, [], ◌∷◌, ◌++◌, length, map, filter, flat_map, take, refl, sym, ap, ap₂, subst, ◌∙◌, arith, IsPermutation, IsSorted, is_eq, Ordering, Less, Equal, ◌<ℤ◌}
-use Rattle.std.specs.List.{list_any, list_all, AllByRecursion}
+use Rattle.std.proofs.Common.{◌≡◌, ◌<◌, ◌≤◌, ◌-◌, ◌^◌, inl, inr, ℕ, ℤ, suc, Bool, true, false, not, ◌&&◌, ◌||◌, cond, List, [], ◌∷◌, ◌++◌, length, map, filter, flat_map, take, refl, sym, ap, ap₂, subst, ◌∙◌, arith, IsPermutation, IsSorted, is_eq, Ordering, Less, Equal, ◌<ℤ◌}
+use Rattle.std.specs.List.{list_any, AllByRecursion}
 use Rattle.std.specs.Ordering.{int_cmp, on, is_lt}
 use Rattle.std.specs.Cmp.{IsTotalOrder}
 use Rattle.std.proofs.lemmas.Cmp.{on_total, tied_itself}
@@ -15,11 +15,7 @@ use Rattle.sqlite_value.specs.declared.keys.Collation.TheVariants.{Binary}
 use Rattle.sqlite_value.specs.Keys.{ascending}
 use Rattle.sqlite_value.specs.Order.{Row, column, value_cmp}
 use Rattle.sqlite_value.proofs.OrderLemmas.{value_cmp_total, value_cmp-Int, then-Equal}
-use Rattle.sqlite_sql.specs.Ops.{is_true, unary, binary}
-use Rattle.sqlite_sql.specs.Term.{Term, Env, col, op1, eval_all, holds}
-use Rattle.sqlite_sql.specs.declared.ops.UnaryOp.TheVariants.{Not, ToNumeric}
-use Rattle.sqlite_sql.specs.declared.ops.BinaryOp.TheVariants.{Compare}
-use Rattle.sqlite_sql.specs.declared.ops.CompareOp.TheVariants.{Ne}
+use Rattle.sqlite_sql.specs.Term.{Term, Env, col, eval_all}
 use Rattle.sqlite_sql.specs.Query.{Query, Join, inner, end, counted, Output, output, output_cmp, key_cmp, matches, IsAnswer, IsSureStart}
 use Rattle.sqlite_sql.specs.Program.{overlay, IsProgramStart}
 use Rattle.sqlite_schema.specs.declared.schema.Schema.{Schema}
@@ -37,15 +33,15 @@ use Rattle.records.specs.Lists.{IsPairwise}
 use Rattle.records.proofs.Sorting.{sorted_is, rises-sort_by}
 use Rattle.sql_schema.specs.Tables.{archive_schema}
 use Rattle.sql_tables.specs.Words.{cells, columns_of}
-use Rattle.sql_tables.specs.Derived.{AreNumbered, IsCells, is_later, is_newer, same, current_of, currents_of, current_columns, last_of, vector_columns}
+use Rattle.sql_tables.specs.Derived.{AreNumbered, is_later, is_newer, same, current_of, current_columns, last_of, vector_columns}
 use Rattle.sql_tables.specs.State.{AreWhole}
-use Rattle.sql_tables.specs.Agreeing.{command_in, AreUncountable, BeginsUncountable, AreRising, ShowsOf, ShowsSome, HasCurrents}
-use Rattle.sql_tables.proofs.Texts.{currents_lack_text, currents_wanted_text, currents_held_text, vectors_held_text}
+use Rattle.sql_tables.specs.Agreeing.{command_in, AreUncountable, BeginsUncountable, AreRising}
+use Rattle.sql_tables.proofs.Texts.{currents_held_text, vectors_held_text}
 use Rattle.sql_tables.proofs.ApartLemmas.{all-permuted}
-use Rattle.sql_tables.proofs.MadeLemmas.{later_tests, other_tests, counted_is, not_flag, picked}
+use Rattle.sql_tables.proofs.MadeLemmas.{picked}
 use Rattle.sql_tables.proofs.KeepLemmas.{empty_by}
 use Rattle.sql_tables.proofs.QueryLemmas.{equals, repaired}
-use Rattle.sql_tables.proofs.AgreeLemmas.{listing, listed, all_of_them, by_id, first_only, held_in, wanted_by, currents_held_is, vectors_held_is, currents_wanted_is, currents_lack_is, shown_is, numeric_int, live_is, current_fits, lacks_current, later_than, no_later, others_of, others_is, fits_current, current_count, lacked}
+use Rattle.sql_tables.proofs.AgreeLemmas.{listing, all_of_them, by_id, held_in, currents_held_is, vectors_held_is}
 
 -- ---- numbers that rise
 
@@ -63,7 +59,7 @@ pairwise_front : {X : Type 0} (R : X → X → Type 0) (xs ys : List X) → IsPa
 pairwise_front R [] ys up = tt
 pairwise_front R (x ∷ xs) ys up = (all_front (R x) xs ys up.0, pairwise_front R xs ys up.1)
 
-int_of : (v : Value) → is_int v ≡ true → (n : ℤ) × (v ≡ Int n)
+pub int_of : (v : Value) → is_int v ≡ true → (n : ℤ) × (v ≡ Int n)
 int_of Null e = absurd (true≢false (sym e))
 int_of (Int n) e = (n, refl)
 int_of (Real x) e = absurd (true≢false (sym e))
@@ -258,17 +254,6 @@ module _ (d : Database) (has : d.schema ≡ archive_schema) where
       let a = first_is vectors_held_text (held_in 6) _ d.trees it.rows vectors_held_is it.shown in
       held_countable 6 d.trees it.rows a.0 a.1 refl ids few it.so
 
-  pub currents_wanted_whole : AreNumbered (d.trees 1) → length (d.trees 1) < 2 ^ 64 - 1
-      → BeginsUncountable currents_wanted_text d → ⊥
-  currents_wanted_whole ids few b =
-      let it = begun_in currents_wanted_text b in
-      let a = first_is currents_wanted_text (wanted_by later_tests) _ d.trees it.rows
-      currents_wanted_is it.shown in
-      countable (inner 1 (counted 1 (inner 1 end) (later_tests 2) end)) (op1 Not (col 2 0) ∷ [])
-      (overlay d.trees []) (d.trees 1)
-      (λ r. list_all (holds ([] ∷ r ∷ (later_than d.trees r ∷ []) ∷ [])) (op1 Not (col 2 0) ∷ []))
-      (λ r. [] ∷ r ∷ (later_than d.trees r ∷ []) ∷ []) refl (λ r. refl) it.rows a.0 a.1 ids few it.so
-
 -- ---- that no row that follows is missing
 
 pub same_int : (v w : Value) (n : ℤ) → v ≡ w → w ≡ Int n → same v w ≡ true
@@ -277,7 +262,7 @@ same_int v w n e is = rw (e, is) (equals (Int n) (Int n) refl ∙ ap (λ k. is_e
     itself : (x : Value) → value_cmp x x ≡ Equal
     itself x = tied_itself value_cmp_total x
 
-same_blob : (v w : Value) (b : List ℕ) → v ≡ w → w ≡ Blob b → same v w ≡ true
+pub same_blob : (v w : Value) (b : List ℕ) → v ≡ w → w ≡ Blob b → same v w ≡ true
 same_blob v w b e is =
     rw (e, is) (equals (Blob b) (Blob b) refl ∙ ap (λ k. is_eq k) (itself (Blob b)))
   where
@@ -315,25 +300,8 @@ any_by p (y ∷ xs) x (inr h) is = go (p y) (any_by p xs x h is)
     go true e = refl
     go false e = e
 
-eight_true : {a b c d e f g h : Bool} → a ≡ true → b ≡ true → c ≡ true → d ≡ true → e ≡ true
-    → f ≡ true → g ≡ true → h ≡ true
-    → (a && (b && (c && (d && (e && (f && (g && (h && true)))))))) ≡ true
-eight_true p q r s t u v w = rw (p, q, r, s, t, u, v, w) refl
-
 pub three_true : {a b c : Bool} → a ≡ true → b ≡ true → c ≡ true → (a && (b && (c && true))) ≡ true
 three_true p q r = rw (p, q, r) refl
-
--- where one fits, none is missing
-off_by : (b : Bool) (n : ℕ) → n ≡ cond b 1 0 → b ≡ true → is_true (unary Not (Int (pos n))) ≡ false
-off_by b n count is =
-    ap (λ k. is_true (unary Not (Int (pos k)))) count ∙ not_flag b ∙ ap not is
-
-both_off : (a b : Bool) → b ≡ false → (a && (b && true)) ≡ false
-both_off true b e = rw e refl
-both_off false b e = refl
-
-first_off : (a b : Bool) → a ≡ false → (a && b) ≡ false
-first_off a b e = rw e refl
 
 pub none_listed : (key : Row → Row) (miss : Row → Bool) (rs all rows : List Row)
     → AllByRecursion (λ r. miss r ≡ false) rs → IsPermutation (map key (filter miss rs)) all
@@ -342,94 +310,6 @@ none_listed key miss rs all rows off same_rows shown =
     let empty : all ≡ [] = empty_by all (length_permutation (map key (filter miss rs)) all same_rows
     ∙ ap (λ l. length (map key l)) (filter_none miss rs off)) in
     shown ∙ ap (take 1) empty
-
-module _ (db : Trees) where
-  fits_it : (r c : Row) → IsCells (columns_of r)
-      → current_of (cells (db 1)) (columns_of r) ≡ current_columns c → fits_current db r c ≡ true
-  fits_it r c it same_row =
-      let at = λ (i : ℕ). ap (λ (x : Row). column x i) (sym same_row) in
-      let live = live_is (column r 7) it.asked (ap (λ x. column x 6) it.is) in
-      let asked : unary ToNumeric (binary (Compare Ne Binary) (column r 7) (Int (pos 4)))
-      ≡ Int live.0 = ap (unary ToNumeric) live.1 ∙ numeric_int live.0 in
-      let count : unary ToNumeric (others_of db r c) ≡ others_of db r c = numeric_int _ in
-      eight_true
-      (same_blob (column c 1) (column r 4) it.node (at 0) (ap (λ x. column x 3) it.is))
-      (same_int (column c 2) (column r 5) it.time (at 1) (ap (λ x. column x 4) it.is))
-      (same_int (column c 3) (column r 6) it.pico (at 2) (ap (λ x. column x 5) it.is))
-      (same_int (column c 4) (column r 3) it.tick (at 3) (ap (λ x. column x 2) it.is))
-      (same_int (column c 5) (column r 1) it.origin (at 4) (ap (λ x. column x 0) it.is))
-      (same_int (column c 6) (unary ToNumeric (binary (Compare Ne Binary) (column r 7)
-      (Int (pos 4)))) live.0 (at 5 ∙ live.1 ∙ sym asked) asked)
-      (same_int (column c 7) (unary ToNumeric (others_of db r c)) _
-      (at 6 ∙ sym (others_is db r c) ∙ sym count) count)
-      (same_blob (column c 8) (column r 9) it.value (at 7) (ap (λ x. column x 8) it.is))
-
-  no_current_lacked : HasCurrents db → AllByRecursion IsCells (cells (db 1))
-      → AllByRecursion (λ r. lacked db r ≡ false) (db 1)
-  no_current_lacked kept typed = go (db 1) there typed
-    where
-      top : Row → Bool
-      top c = not (list_any (is_later c) (cells (db 1)))
-
-      there : AllByRecursion (Has (map current_columns (db 4))) (currents_of (cells (db 1)))
-      there = all_has_permuted (currents_of (cells (db 1))) (map current_columns (db 4)) kept.0
-
-      one : (r : Row) → IsCells (columns_of r)
-          → Has (map current_columns (db 4)) (current_of (cells (db 1)) (columns_of r))
-          → lacked db r ≡ false
-      one r it h =
-          let found = has_from_map current_columns (db 4) _ h in
-          let some = any_by (fits_current db r) (db 4) found.0 found.1
-          (fits_it r found.0 it found.2) in
-          both_off (is_true (unary Not (later_than db r))) _
-          (off_by (list_any (fits_current db r) (db 4)) _ (counted_is (fits_current db r)
-          (λ c. [] ∷ r ∷ (later_than db r ∷ []) ∷ c ∷ (others_of db r c ∷ []) ∷ []) (db 4)) some)
-
-      go : (rs : List Row) → AllByRecursion (Has (map current_columns (db 4)))
-          (map (current_of (cells (db 1))) (filter top (map columns_of rs)))
-          → AllByRecursion IsCells (map columns_of rs)
-          → AllByRecursion (λ r. lacked db r ≡ false) rs
-      go [] h cs = tt
-      go (r ∷ rs) h cs = by (list_any (is_later (columns_of r)) (cells (db 1))) refl h
-          (λ more. go rs more cs.1) (λ has. one r cs.0 has)
-        where
-          rest : List Row
-          rest = map (current_of (cells (db 1))) (filter top (map columns_of rs))
-
-          by : (b : Bool) → list_any (is_later (columns_of r)) (cells (db 1)) ≡ b
-              → AllByRecursion (Has (map current_columns (db 4)))
-              (map (current_of (cells (db 1)))
-              (cond (not b) (columns_of r ∷ filter top (map columns_of rs))
-              (filter top (map columns_of rs))))
-              → (AllByRecursion (Has (map current_columns (db 4))) rest
-              → AllByRecursion (λ x. lacked db x ≡ false) rs)
-              → (Has (map current_columns (db 4)) (current_of (cells (db 1)) (columns_of r))
-              → lacked db r ≡ false)
-              → (lacked db r ≡ false) × AllByRecursion (λ x. lacked db x ≡ false) rs
-          by true later more on it = (first_off _ _ (no_later db r ∙ ap not later), on more)
-          by false last more on it = (it more.0, on more.1)
-
-  pub currents_none : (rows : List Row) → HasCurrents db → AllByRecursion IsCells (cells (db 1))
-      → IsAnswer lacks_current (overlay db []) [] rows → rows ≡ []
-  currents_none rows kept typed a =
-      let got = listed (inner 1 (counted 1 (inner 1 end) (later_tests 2)
-      (counted 1 (inner 4 (counted 1 (inner 1 end) (other_tests 4) end)) current_fits end)))
-      (op1 Not (col 2 0) ∷ op1 Not (col 3 0) ∷ []) (col 1 1 ∷ []) [] first_only []
-      (overlay db []) (db 1) (lacked db)
-      (λ r. [] ∷ r ∷ (later_than db r ∷ []) ∷ (current_count db r ∷ []) ∷ []) refl rows a in
-      none_listed (λ r. column r 1 ∷ []) (lacked db) (db 1) got.0 rows
-      (no_current_lacked kept typed) got.1 got.2
-
-module _ (d : Database) (has : d.schema ≡ archive_schema) where
-  shown_in : (sql : List ℕ) (rows : List Row) → ShowsOf sql d rows → ShowsOf sql (as_archive d has) rows
-  shown_in sql rows = subst (λ x. ShowsOf sql x rows) (as_archive_is d has)
-
-  pub currents_show_none : AllByRecursion IsCells (cells (d.trees 1))
-      → ShowsSome currents_lack_text d → HasCurrents d.trees → ⊥
-  currents_show_none typed (row, rows, shown) kept =
-      let none = currents_none d.trees (row ∷ rows) kept typed
-      (shown_is currents_lack_text lacks_current _ d.trees (row ∷ rows) currents_lack_is
-      (shown_in currents_lack_text (row ∷ rows) shown)) in cc
 
 -- ---- there are no more of them than records
 

@@ -1,17 +1,16 @@
 //! Whether the tables of current values and of vectors hold the rows that follow from the records.
 
-ghost use Rattle.std.specs.Prelude.{◌≡◌, ◌++◌, ◌∷◌, [], false, length, map, ◌<ℤ◌, ◌≤ℤ◌, IfSome, IsSomeAnd, List, IfOk, IfErr, OnOk, OnErr, IsTrue};
+ghost use Rattle.std.specs.Prelude.{◌≡◌, ◌++◌, ◌∷◌, [], false, length, ◌<ℤ◌, ◌≤ℤ◌, IfSome, IsSomeAnd, List, IfOk, IfErr, OnOk, OnErr, IsTrue};
 ghost use Rattle.sqlite.specs.State.{HasCleanDisk, IsUnchanged};
 ghost use Rattle.sqlite.specs.Held.{state};
 ghost use Rattle.sqlite_value.specs.Order.{Row as Columns};
 ghost use Rattle.archive.specs.Store.{IsOfOpening};
 ghost use Rattle.sql_schema.specs.Tables.{archive_schema};
-ghost use Rattle.sql_tables.specs.Words.{cells};
-ghost use Rattle.sql_tables.specs.Derived.{AreKept, AreNumbered, currents_of, current_columns};
+ghost use Rattle.sql_tables.specs.Derived.{AreKept, AreNumbered};
 ghost use Rattle.sql_tables.specs.Rows.{IsFilled};
 ghost use Rattle.sql_tables.specs.Asking.{IsAnswered};
 ghost use Rattle.sql_tables.specs.State.{MayBeStopped, LeavesUnchanged, LeavesUnchangedOr, Holds, Idles};
-ghost use Rattle.sql_tables.specs.Agreeing.{ShowsOf, HasRisen, HasCounted, AreUncountable, BeginsUncountable, ShowsSome, HasEach, AreOfRecords, AreReached, HasCurrents, HasVectors};
+ghost use Rattle.sql_tables.specs.Agreeing.{ShowsOf, HasRisen, HasCounted, AreUncountable, BeginsUncountable, ShowsSome, AreStamped, AreSingle, AreTelling, AreShown, HasCurrents, AreOfRecords, AreReached, HasVectors};
 ghost use Rattle.sql_tables.specs.Connections.{WhereClean, Sees, tables_of, CommitsNothing};
 
 use crate::decoding::int_at;
@@ -150,31 +149,51 @@ fn shows_none<S: Alter>(conn: &mut Connection<S>, sql: &str) -> Result<bool, Sto
     Ok(are_none(&rows))
 }
 
-/// Whether each current value that follows from the records is there, as it is where they are kept.
-fn currents_fit<S: Alter>(conn: &mut Connection<S>) -> Result<bool, StoreFault>
+/// Whether each current value has the moment and the stamp of a record, as it has where they are kept. No two of one moment stand in
+/// the table.
+fn currents_stand<S: Alter>(conn: &mut Connection<S>) -> Result<bool, StoreFault>
     requires idles { WhereClean S.Store conn.old Idles }
     requires filled { WhereClean S.Store conn.old (Sees IsFilled) }
     ensures { LeavesUnchanged (state S.Store conn.old) (state S.Store conn.new) result
-        (λ fit. (IsTrue fit → HasEach (map current_columns (tables_of S.Store conn.old 4))
-        (currents_of (cells (tables_of S.Store conn.old 1))))
-        × (fit ≡ false → HasCurrents (tables_of S.Store conn.old) → ⊥)) }
+        (λ stand. (IsTrue stand → AreStamped (tables_of S.Store conn.old)
+        × AreSingle (tables_of S.Store conn.old))
+        × (stand ≡ false → HasCurrents (tables_of S.Store conn.old) → ⊥)) }
 {
     let _schema = conn.schema();
     shows_none(
         conn,
-        "SELECT r.origin FROM records2 AS r WHERE NOT EXISTS (SELECT 1 FROM records2 AS s WHERE s.node = r.node AND s.time = r.time AND s.pico = r.pico AND s.tick >= r.tick AND (s.tick > r.tick OR s.origin > r.origin)) AND NOT EXISTS (SELECT 1 FROM currents2 AS c WHERE c.node = r.node AND c.time = r.time AND c.pico = r.pico AND c.tick = r.tick AND c.origin = r.origin AND c.live = (r.asked <> 4) AND c.extra = EXISTS (SELECT 1 FROM records2 AS s WHERE s.node = r.node AND s.time = r.time AND s.pico = r.pico AND (s.tick <> r.tick OR s.origin <> r.origin)) AND c.value = r.value) LIMIT 1",
+        "SELECT c.origin FROM currents2 AS c WHERE NOT EXISTS (SELECT 1 FROM records2 AS r WHERE r.node = c.node AND r.time = c.time AND r.pico = c.pico AND r.tick = c.tick AND r.origin = c.origin) LIMIT 1",
     )
 }
 
-/// How many current values follow from the records.
-fn currents_wanted<S: Alter>(conn: &mut Connection<S>) -> Result<u64, StoreFault>
+/// Whether each current value that tells of other records has another at its moment, as it has where they are kept.
+fn currents_tell<S: Alter>(conn: &mut Connection<S>) -> Result<bool, StoreFault>
     requires idles { WhereClean S.Store conn.old Idles }
+    requires filled { WhereClean S.Store conn.old (Sees IsFilled) }
     ensures { LeavesUnchanged (state S.Store conn.old) (state S.Store conn.new) result
-        (λ n. n ≡ length (currents_of (cells (tables_of S.Store conn.old 1)))) }
+        (λ tell. (IsTrue tell → AreTelling (tables_of S.Store conn.old))
+        × (tell ≡ false → HasCurrents (tables_of S.Store conn.old) → ⊥)) }
 {
-    ids_in(
+    let _schema = conn.schema();
+    shows_none(
         conn,
-        "SELECT r.rowid FROM records2 AS r WHERE NOT EXISTS (SELECT 1 FROM records2 AS s WHERE s.node = r.node AND s.time = r.time AND s.pico = r.pico AND s.tick >= r.tick AND (s.tick > r.tick OR s.origin > r.origin)) ORDER BY r.rowid",
+        "SELECT c.origin FROM currents2 AS c WHERE c.extra <> 0 AND NOT EXISTS (SELECT 1 FROM records2 AS r WHERE r.node = c.node AND r.time = c.time AND r.pico = c.pico AND (r.tick <> c.tick OR r.origin <> c.origin)) LIMIT 1",
+    )
+}
+
+/// Whether the current value of each record's moment is the record's, or a later one's and tells of others, as it is where they are
+/// kept.
+fn currents_show<S: Alter>(conn: &mut Connection<S>) -> Result<bool, StoreFault>
+    requires idles { WhereClean S.Store conn.old Idles }
+    requires filled { WhereClean S.Store conn.old (Sees IsFilled) }
+    ensures { LeavesUnchanged (state S.Store conn.old) (state S.Store conn.new) result
+        (λ show. (IsTrue show → AreShown (tables_of S.Store conn.old))
+        × (show ≡ false → HasCurrents (tables_of S.Store conn.old) → ⊥)) }
+{
+    let _schema = conn.schema();
+    shows_none(
+        conn,
+        "SELECT r.origin FROM records2 AS r WHERE NOT EXISTS (SELECT 1 FROM currents2 AS c WHERE c.node = r.node AND c.time = r.time AND c.pico = r.pico AND (c.extra = 1 AND (c.tick > r.tick OR c.tick = r.tick AND c.origin > r.origin) OR c.tick = r.tick AND c.origin = r.origin AND c.live = (r.asked <> 4) AND c.value = r.value)) LIMIT 1",
     )
 }
 
@@ -187,30 +206,31 @@ fn currents_held<S: Alter>(conn: &mut Connection<S>) -> Result<u64, StoreFault>
     ids_in(conn, "SELECT rowid FROM currents2 ORDER BY rowid")
 }
 
-/// Nothing, where all fits and there are as many as there have to be.
-fn agree(fit: bool, wanted: u64, held: u64) -> Result<(), StoreFault>
-    ensures same { OnOk result (IsTrue fit × (wanted ≡ held)) }
+/// Nothing, where all three are so.
+fn all_hold(one: bool, other: bool, third: bool) -> Result<(), StoreFault>
+    ensures same { OnOk result (IsTrue one × IsTrue other × IsTrue third) }
     ensures met { IfErr result (λ fault. IsOfOpening fault → ⊥) }
-    ensures refused { IfErr result (λ _. IsTrue fit → wanted ≡ held → ⊥) }
+    ensures refused { IfErr result (λ _. IsTrue one → IsTrue other → IsTrue third → ⊥) }
 {
-    if fit && wanted == held {
+    if one && other && third {
         return Ok(());
     }
     Err(StoreFault::Refused)
 }
 
-/// Refuses current values that aren't those of the records: each that follows has to be there, and there have to
-/// be as many.
+/// Refuses current values that aren't those of the records: each has to be of a record, and each record has to be shown by the one of
+/// its moment.
 fn check_currents<S: Alter>(conn: &mut Connection<S>) -> Result<(), StoreFault>
     requires idles { WhereClean S.Store conn.old Idles }
     requires filled { WhereClean S.Store conn.old (Sees IsFilled) }
     ensures { LeavesUnchanged (state S.Store conn.old) (state S.Store conn.new) result
         (λ _. HasCurrents (tables_of S.Store conn.old)) }
 {
-    let fit = currents_fit(conn)?;
-    let wanted = currents_wanted(conn)?;
-    let held = currents_held(conn)?;
-    agree(fit, wanted, held)
+    let stand = currents_stand(conn)?;
+    let tell = currents_tell(conn)?;
+    let show = currents_show(conn)?;
+    let _held = currents_held(conn)?;
+    all_hold(stand, tell, show)
 }
 
 /// Whether each last number is a record's, as it is where they are kept.
@@ -279,8 +299,8 @@ fn check_vectors<S: Alter>(conn: &mut Connection<S>) -> Result<(), StoreFault>
 }
 
 /// Refuses tables of current values and of vectors whose rows aren't those that follow from the records. Nothing is changed, and no
-/// row is kept in memory: of current values it is asked whether all that follow are there, how many follow, and how many there are; of
-/// last numbers whether each is a record's, and reaches the records of its origin.
+/// row is kept in memory: of current values it is asked whether each is of a record and tells of others where there are some, and shows
+/// the records of its moment; of last numbers whether each is a record's, and reaches the records of its origin.
 pub fn check_kept<S: Alter>(conn: &mut Connection<S>) -> Result<(), StoreFault>
     requires idles { WhereClean S.Store conn.old Idles }
     requires filled { WhereClean S.Store conn.old (Sees IsFilled) }

@@ -390,8 +390,9 @@ static OTHER_RECORDS: [&[&str]; 2] = [
 ];
 
 /// Current values that aren't those of the records: of another stamp, of no record, of the one before the last, with another flag or
-/// another value, none, one of another moment, and one that tells of others where its record is alone.
-static OTHER_VALUES: [&[&str]; 15] = [
+/// another value, none, one of another moment, and one that tells of others where its record is alone. So it is of the first record, of
+/// one of two moments, and where two records of a moment have one tick.
+static OTHER_VALUES: [&[&str]; 24] = [
     &["UPDATE currents2 SET tick = 100"],
     &["UPDATE currents2 SET tick = 103"],
     &["UPDATE currents2 SET origin = 2"],
@@ -417,6 +418,42 @@ static OTHER_VALUES: [&[&str]; 15] = [
     &[
         "INSERT INTO currents2 SELECT node, time, 1, tick, origin, live, extra, value FROM currents2",
     ],
+    &[
+        "DELETE FROM currents2",
+        "INSERT INTO currents2 SELECT node, time, pico, tick, origin, 1, 1, value FROM records2 WHERE number = 1",
+    ],
+    &[SECOND_RECORD, SECOND_NUMBER],
+    &[
+        SECOND_RECORD,
+        SECOND_NUMBER,
+        SECOND_VALUE,
+        "DELETE FROM currents2 WHERE time <> 15",
+    ],
+    &[
+        SECOND_RECORD,
+        SECOND_NUMBER,
+        SECOND_VALUE,
+        "UPDATE currents2 SET extra = 1 WHERE time = 15",
+    ],
+    &[
+        SECOND_RECORD,
+        SECOND_NUMBER,
+        SECOND_VALUE,
+        "UPDATE currents2 SET live = 0 WHERE time = 15",
+    ],
+    &[
+        SECOND_RECORD,
+        SECOND_NUMBER,
+        SECOND_VALUE,
+        "UPDATE currents2 SET value = x'' WHERE time = 15",
+    ],
+    &[TIED_RECORD, TIED_NUMBER],
+    &[
+        TIED_RECORD,
+        TIED_NUMBER,
+        "UPDATE currents2 SET origin = 2, extra = 0",
+    ],
+    &[TIED_RECORD, TIED_NUMBER, "UPDATE currents2 SET origin = 3"],
 ];
 
 /// Last numbers that aren't those of the records: another tick, too new or too old a number, that of the record before the last, none,
@@ -451,19 +488,24 @@ const SECOND_RECORD: &str =
 const SECOND_VALUE: &str =
     "INSERT INTO currents2 SELECT node, time, pico, tick, origin, 1, 0, value FROM records2 WHERE origin = 2";
 
-/// Changed tables that agree: of one record, and of two origins.
-static AGREEING: [&[&str]; 2] = [
+const SECOND_NUMBER: &str = "INSERT INTO vectors VALUES (2, 1, 105)";
+
+/// A record of a second origin at the moment of the last one, with its tick, and its origin's last number.
+const TIED_RECORD: &str =
+    "INSERT INTO records2 SELECT 2, 1, tick, node, time, pico, asked, who, value FROM records2 WHERE number = 3";
+
+const TIED_NUMBER: &str = "INSERT INTO vectors SELECT 2, 1, tick FROM vectors WHERE origin = 1";
+
+/// Changed tables that agree: of one record, of two origins, and of two records with one tick.
+static AGREEING: [&[&str]; 3] = [
     &[
         "DELETE FROM records2 WHERE number > 1",
         "UPDATE vectors SET number = 1, tick = 100",
         "DELETE FROM currents2",
         "INSERT INTO currents2 SELECT node, time, pico, tick, origin, 1, 0, value FROM records2",
     ],
-    &[
-        SECOND_RECORD,
-        SECOND_VALUE,
-        "INSERT INTO vectors VALUES (2, 1, 105)",
-    ],
+    &[SECOND_RECORD, SECOND_VALUE, SECOND_NUMBER],
+    &[TIED_RECORD, TIED_NUMBER, "UPDATE currents2 SET origin = 2"],
 ];
 
 /// Whether a store of three records is opened after each of some statements.

@@ -2,13 +2,12 @@ use Rattle.std.proofs.Common.{arith}
 use Rattle.sqlite.specs.Held.{state}
 use Rattle.sql_tables.proofs.AskLemmas.{asked_as}
 use Rattle.sql_tables.proofs.KeptLemmas.{filled_cells}
-use Rattle.sql_tables.proofs.AnsweredLemmas.{currents_lack_answered}
-use Rattle.sql_tables.proofs.AgreeLemmas.{currents_fit_of}
-use Rattle.sql_tables.proofs.WholeLemmas.{currents_show_none}
-use Rattle.sql_tables.proofs.integrity.currents_fit.Goals as goal
+use Rattle.sql_tables.proofs.AnsweredLemmas.{currents_hide_answered}
+use Rattle.sql_tables.proofs.ShownLemmas.{currents_show_of, currents_hide_some}
+use Rattle.sql_tables.proofs.integrity.currents_show.Goals as goal
 
 pub shows_none-requires-clause-answered : goal.shows_none-requires-clause-answered
-shows_none-requires-clause-answered g c = currents_lack_answered
+shows_none-requires-clause-answered g c = currents_hide_answered
 
 pub returns : goal.returns
 returns g c =
@@ -19,7 +18,7 @@ returns g c =
     let early = c.requires.idles (omega (arith, c.shows_none.ensures.crash.clean, clean)) in
     let filled = c.requires.filled (omega (arith, c.shows_none.ensures.crash.clean, clean)) in
     let typed = filled_cells filled.0 old.now.trees filled.2 in (
-      λ none. currents_fit_of old.now early.tables (c.schema-schema.ensures.live early.is_open).0
-          typed (told.0 none),
-      λ some. currents_show_none old.now early.tables typed (told.1 some),
+      λ none. currents_show_of old.now early.tables (c.schema-schema.ensures.live early.is_open).0 typed
+          (told.0 none),
+      λ some. currents_hide_some old.now early.tables typed (told.1 some),
     )) c.shows_none.ensures
