@@ -1,0 +1,5 @@
+pub mod Canons
+pub mod Sizes
+pub mod Chunking
+pub mod Pieces
+pub mod Parts

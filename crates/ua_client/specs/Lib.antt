@@ -1,0 +1,4 @@
+pub mod Faults
+pub mod Asking
+pub mod Answers
+pub mod Talking
