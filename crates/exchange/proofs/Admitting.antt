@@ -11,6 +11,7 @@ use Rattle.exchange.specs.declared.message.Party.{Party}
 use Rattle.exchange.specs.Dialogs.{records_in}
 use Rattle.exchange.specs.Frames.{frame_header, message_at}
 use Rattle.exchange.specs.Streams.{FrameContent}
+use Rattle.exchange.specs.declared.admission.Bound.{Bound}
 use Rattle.exchange.specs.Admissions.{Admission, is_open, all_admitted, message_admitted, first_frame, first_admitted}
 
 -- ---- the frame that stands first
@@ -41,7 +42,7 @@ front waiting piece header is long same =
 -- ---- where all records are taken
 
 abbrev open_to : ℤ → Admission
-open_to time = record { replicas = None; ahead = None; time = time }
+open_to time = record { replicas = None; bound = None; ahead = None; time = time }
 
 all_open : (time : ℤ) (rs : List Record) → all_admitted (open_to time) rs ≡ Ok tt
 all_open time [] = refl
@@ -58,10 +59,12 @@ frame_open : (time : ℤ) (p : Party) (frame : Option FrameContent)
 frame_open time p None = refl
 frame_open time p (Some frame) = message_open time (message_at p frame.kind frame.body)
 
-pub open_takes : (replicas : Option (List ℕ)) (ahead : Option ℕ) (time : ℤ) (p : Party)
-    (waiting : List ℕ)
-    → (let a : Admission = record { replicas = replicas; ahead = ahead; time = time } in
+pub open_takes : (replicas : Option (List ℕ)) (bound : Option Bound) (ahead : Option ℕ) (time : ℤ)
+    (p : Party) (waiting : List ℕ)
+    → (let a : Admission =
+    record { replicas = replicas; bound = bound; ahead = ahead; time = time } in
     is_open a ≡ true → first_admitted a p waiting ≡ Ok tt)
-open_takes None None time p waiting is = frame_open time p (first_frame waiting)
-open_takes None (Some seconds) time p waiting is = absurd (false≢true is)
-open_takes (Some replicas) ahead time p waiting is = absurd (false≢true is)
+open_takes None None None time p waiting is = frame_open time p (first_frame waiting)
+open_takes None None (Some seconds) time p waiting is = absurd (false≢true is)
+open_takes None (Some bound) ahead time p waiting is = absurd (false≢true is)
+open_takes (Some replicas) bound ahead time p waiting is = absurd (false≢true is)

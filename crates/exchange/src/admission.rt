@@ -1,11 +1,11 @@
 //! Which records are taken from peers.
 
-ghost use Rattle.std.specs.Prelude.{◌≡◌, ◌==◌, false, Ok, Err, IfErr};
+ghost use Rattle.std.specs.Prelude.{◌≡◌, ◌==◌, ◌&&◌, nat_lt, false, Ok, Err, IfErr};
 ghost use Rattle.std.specs.List.{list_any};
 ghost use Rattle.records.specs.Spelling.{GivesUnless};
 ghost use Rattle.exchange.specs.declared.fault.ExchangeFault.TheVariants as fault;
 ghost use Rattle.exchange.specs.Dialogs.{party_of, records_in};
-ghost use Rattle.exchange.specs.Admissions.{admission_of, is_open, is_admitted, is_ahead, admitted, all_admitted, first_admitted};
+ghost use Rattle.exchange.specs.Admissions.{admission_of, is_open, is_admitted, is_above, is_ahead, admitted, all_admitted, first_admitted};
 
 use crate::fault::ExchangeFault;
 use crate::framing::Frames;
@@ -20,11 +20,22 @@ use std::alloc::Global;
 /// How many ticks of 100 ns a second has.
 const TICKS_OF_A_SECOND: i128 = 10_000_000;
 
+/// The greatest number that is taken of a replica's records.
+#[derive(Clone, Copy, Debug)]
+pub struct Bound {
+    /// The replica.
+    pub replica: ReplicaNo,
+    /// The number.
+    pub number: u64,
+}
+
 /// Which records are taken from peers at a time, beyond what a dialog asks of them.
 #[derive(Clone, Copy, Debug)]
 pub struct Admission<'a> {
     /// The replicas whose records are taken; none: those of all.
     pub replicas: Option<&'a [ReplicaNo]>,
+    /// Up to which number the records of one of them are taken; none: no number is too great.
+    pub bound: Option<Bound>,
     /// How many seconds a record's tick may be ahead of the time; none: any number.
     pub ahead: Option<u32>,
     /// The time, in ticks of 100 ns since 1601.
@@ -43,7 +54,7 @@ impl<'a> Admission<'a> {
     fn is_open(&self) -> bool
         ensures { result ≡ is_open (admission_of self.now) }
     {
-        self.replicas.is_none() && self.ahead.is_none()
+        self.replicas.is_none() && self.bound.is_none() && self.ahead.is_none()
     }
 
     /// Whether the records of a replica are taken.
@@ -53,6 +64,16 @@ impl<'a> Admission<'a> {
         match self.replicas {
             None => true,
             Some(replicas) => is_among(replicas, origin),
+        }
+    }
+
+    /// Whether a record is beyond the bound.
+    fn is_above(&self, candidate: &Record) -> bool
+        ensures { result ≡ is_above (admission_of self.now) candidate.now }
+    {
+        match self.bound {
+            None => false,
+            Some(bound) => bound.replica == candidate.origin && bound.number < candidate.number,
         }
     }
 
@@ -74,6 +95,9 @@ impl<'a> Admission<'a> {
         ensures { result ≡ admitted (admission_of self.now) candidate.now }
     {
         if !self.has(candidate.origin) {
+            return Err(ExchangeFault::NotAdmitted);
+        }
+        if self.is_above(candidate) {
             return Err(ExchangeFault::NotAdmitted);
         }
         if self.is_ahead(candidate.tick) {

@@ -1,7 +1,7 @@
 //! Which records are taken from a peer.
 
 use crate::exchanges::list_replica;
-use exchange::{Admission, Dialog, ExchangeFault, Frames};
+use exchange::{Admission, Bound, Dialog, ExchangeFault, Frames};
 use history_rows::exchanges::{Row, merge_rows, replica_number};
 use std::alloc::Global;
 use std::test::Fail;
@@ -31,40 +31,73 @@ fn brought(alloc: Global, rows: &[Row]) -> Result<Vec<u8>, Fail> {
 /// Records of the replicas 2 and 3, the second a minute behind the time 0.
 static ROWS: [Row; 2] = [(2, 1, 100, 7), (3, 1, MINUTE, 8)];
 
-/// The replicas whose records are taken, how many seconds they may be ahead of which time, and what is told.
+/// The bound at the number of a replica.
+fn bound_of(pair: Option<(u8, u64)>) -> Result<Option<Bound>, Fail> {
+    match pair {
+        None => Ok(None),
+        Some((replica, number)) => Ok(Some(Bound {
+            replica: replica_number(replica)?,
+            number,
+        })),
+    }
+}
+
+/// The replicas whose records are taken, up to which number those of one of them, how many seconds they may be ahead of which
+/// time, and what is told.
 type Judged = (
     Option<&'static [u8]>,
+    Option<(u8, u64)>,
     Option<u32>,
     i64,
     Result<(), ExchangeFault>,
 );
 
-static JUDGED: [Judged; 11] = [
-    (None, None, 0, Ok(())),
-    (Some(&[2, 3]), None, 0, Ok(())),
-    (Some(&[3, 4, 2]), Some(60), 0, Ok(())),
-    (Some(&[2]), None, 0, Err(ExchangeFault::NotAdmitted)),
-    (Some(&[3]), None, 0, Err(ExchangeFault::NotAdmitted)),
-    (Some(&[]), None, 0, Err(ExchangeFault::NotAdmitted)),
-    (None, Some(60), 0, Ok(())),
-    (None, Some(60), -1, Err(ExchangeFault::AheadOfClock)),
-    (None, Some(59), 0, Err(ExchangeFault::AheadOfClock)),
-    (None, Some(1), i64::MAX, Ok(())),
-    (Some(&[2]), Some(1), 0, Err(ExchangeFault::NotAdmitted)),
+static JUDGED: [Judged; 18] = [
+    (None, None, None, 0, Ok(())),
+    (Some(&[2, 3]), None, None, 0, Ok(())),
+    (Some(&[3, 4, 2]), None, Some(60), 0, Ok(())),
+    (Some(&[2]), None, None, 0, Err(ExchangeFault::NotAdmitted)),
+    (Some(&[3]), None, None, 0, Err(ExchangeFault::NotAdmitted)),
+    (Some(&[]), None, None, 0, Err(ExchangeFault::NotAdmitted)),
+    (None, None, Some(60), 0, Ok(())),
+    (None, None, Some(60), -1, Err(ExchangeFault::AheadOfClock)),
+    (None, None, Some(59), 0, Err(ExchangeFault::AheadOfClock)),
+    (None, None, Some(1), i64::MAX, Ok(())),
+    (
+        Some(&[2]),
+        None,
+        Some(1),
+        0,
+        Err(ExchangeFault::NotAdmitted),
+    ),
+    (None, Some((2, 1)), None, 0, Ok(())),
+    (None, Some((2, 0)), None, 0, Err(ExchangeFault::NotAdmitted)),
+    (None, Some((3, 1)), None, 0, Ok(())),
+    (None, Some((3, 0)), None, 0, Err(ExchangeFault::NotAdmitted)),
+    (None, Some((4, 0)), None, 0, Ok(())),
+    (Some(&[2, 3]), Some((3, 9)), Some(60), 0, Ok(())),
+    (
+        None,
+        Some((2, 0)),
+        Some(1),
+        0,
+        Err(ExchangeFault::NotAdmitted),
+    ),
 ];
 
 #[test]
-fn records_are_taken_by_replica_and_tick(rt: HostRuntime) -> Result<(), Fail> {
+fn records_are_taken_by_replica_number_and_tick(rt: HostRuntime) -> Result<(), Fail> {
     let alloc = rt.alloc();
     let frame = brought(alloc, &ROWS)?;
     let replica = list_replica(alloc, 1)?;
-    for (i, (numbers, ahead, time, want)) in JUDGED.iter().enumerate() {
+    for (i, (numbers, bound, ahead, time, want)) in JUDGED.iter().enumerate() {
         let mut replicas = Vec::new(alloc);
         for number in numbers.unwrap_or(&[]) {
             replicas.push(replica_number(*number)?)?;
         }
         let admission = Admission {
             replicas: numbers.map(|_| replicas.as_slice()),
+            bound: bound_of(*bound)?,
             ahead: *ahead,
             time: *time,
         };
@@ -86,6 +119,7 @@ fn what_is_no_message_is_left_to_the_dialog(rt: HostRuntime) -> Result<(), Fail>
     let peer = list_replica(alloc, 2)?;
     let admission = Admission {
         replicas: Some(&[]),
+        bound: None,
         ahead: None,
         time: 0,
     };

@@ -6,5 +6,5 @@ use Rattle.exchange.proofs.replica.Replica.judge_first.Goals as goal
 pub returns-then-is_open-clause-judged : goal.returns-then-is_open-clause-judged
 returns-then-is_open-clause-judged g c =
     let a : Admission = admission_of c.args.admission.now in
-    open_takes a.replicas a.ahead a.time _ c.args.frames.now.waiting
+    open_takes a.replicas a.bound a.ahead a.time _ c.args.frames.now.waiting
     (sym c.is_open.ensures ∙ c.if-is_open.true)
