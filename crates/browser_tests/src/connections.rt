@@ -48,6 +48,8 @@ fn take_step<A: Archive>(
     let overview = Overview {
         settings,
         calls: &LastCalls::none(*out.allocator()),
+        connections: 1,
+        now: 0,
     };
     connection.answer(overview, archive, out)
 }
@@ -217,14 +219,14 @@ static ANSWERED: [Row; 10] = [
     (
         true,
         "GET /status.json HTTP/1.1\r\nHost: a\r\n\r\n",
-        "HTTP/1.1 200 OK\r\nContent-Type: application/json\r\nContent-Length: 93\r\nConnection: close\r\n",
-        "\r\n\r\n{\"archive\":\"12345678-9abc-def0-1234-56789abcdef0\",\"replica\":7,\"records\":{\"7\":41},\"peers\":[]}\n",
+        "HTTP/1.1 200 OK\r\nContent-Type: application/json\r\nContent-Length: 109\r\nConnection: close\r\n",
+        "\r\n\r\n{\"archive\":\"12345678-9abc-def0-1234-56789abcdef0\",\"replica\":7,\"connections\":1,\"records\":{\"7\":41},\"peers\":[]}\n",
         0,
     ),
     (
         true,
         "HEAD /status.json HTTP/1.1\r\nHost: a\r\n\r\n",
-        "HTTP/1.1 200 OK\r\nContent-Type: application/json\r\nContent-Length: 93\r\nConnection: close\r\n",
+        "HTTP/1.1 200 OK\r\nContent-Type: application/json\r\nContent-Length: 109\r\nConnection: close\r\n",
         "\r\nReferrer-Policy: no-referrer\r\n\r\n",
         0,
     ),

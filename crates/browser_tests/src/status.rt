@@ -22,7 +22,7 @@ const REQUEST: &str = "GET /status.json HTTP/1.1\r\nHost: a\r\n\r\n";
 
 /// What the status begins by, behind the head.
 const BEGIN: &str =
-    "\r\n\r\n{\"archive\":\"12345678-9abc-def0-1234-56789abcdef0\",\"replica\":7,\"records\":{},\"peers\":[";
+    "\r\n\r\n{\"archive\":\"12345678-9abc-def0-1234-56789abcdef0\",\"replica\":7,\"connections\":12,\"records\":{},\"peers\":[";
 
 /// A call that came to its end.
 const DONE: CallEnd = CallEnd {
@@ -104,6 +104,8 @@ fn is_told(alloc: Global, ends: &[Option<CallEnd>], peers: &str) -> Result<bool,
     let overview = Overview {
         settings: &settings,
         calls: &calls,
+        connections: 12,
+        now: NOON,
     };
     let text = status_of(alloc, overview)?;
     Ok(is_status_of(text.as_slice(), peers))

@@ -33,14 +33,14 @@ pub status-told : {A : Type 0} (items : A → List ℕ) (result : Result A Alloc
     (overview : Overview) (numbers : ℕ → ℕ) (lent : List LastCall)
     (members given peers slice : List ℕ) → lent ≡ overview.calls → given ≡ members
     → members ≡ members_text numbers → slice ≡ peers → AreLines IsPeerJson lent peers
-    → IfOk result (λ text. items text ≡ status_json overview.settings given slice)
+    → IfOk result (λ text. items text ≡ status_json overview given slice)
     → IfOk result (λ text. IsStatusJson overview numbers (items text))
 status-told items (Ok text) overview numbers lent members given peers slice is same by also are
     told = (
       peers,
       subst (λ (l : List LastCall). AreLines IsPeerJson l peers) is are,
-      told ∙ (ap (λ (m : List ℕ). status_json overview.settings m slice) (same ∙ by)
-          ∙ ap (status_json overview.settings (members_text numbers)) also),
+      told ∙ (ap (λ (m : List ℕ). status_json overview m slice) (same ∙ by)
+          ∙ ap (status_json overview (members_text numbers)) also),
     )
 status-told items (Err why) overview numbers lent members given peers slice is same by also are
     told = tt

@@ -82,8 +82,8 @@ TellsPage kind head_only IsPage faults text =
     TellsStoreFault head_only faults text
     ⊎ ((faults ≡ []) × (page : List ℕ) × IsPage page × (text ≡ answer_text kind page head_only))
 
--- the page says how the server does, by the number of each replica's last record and by its last
--- calls of peers
+-- the page says how the server does, by how many connections it has, the number of each replica's
+-- last record and its last calls of peers
 abbrev pub IsStatus : Overview → Content → List ℕ → Type 0
 IsStatus overview R page = IsStatusJson overview (vec R) page
 

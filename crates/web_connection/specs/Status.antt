@@ -81,14 +81,15 @@ IsPeerJson call text =
 -- ---- the whole
 
 -- the text around these members and these peers, each of which stands behind a comma
-abbrev pub status_json : SettingsValues → (members peers : List ℕ) → List ℕ
-status_json s members peers =
-    codes "{" ++ replica_text s ++ codes ",\"records\":{" ++ drop 1 members
+abbrev pub status_json : Overview → (members peers : List ℕ) → List ℕ
+status_json overview members peers =
+    codes "{" ++ replica_text overview.settings ++ codes ",\"connections\":"
+    ++ decimal overview.connections ++ codes ",\"records\":{" ++ drop 1 members
     ++ codes "},\"peers\":[" ++ drop 1 peers ++ codes "]}\n"
 
--- which replica of which archive it is, the number of the last record of each replica that has any,
--- and the last call of each peer that is called
+-- which replica of which archive it is, how many connections there are, the number of the last
+-- record of each replica that has any, and the last call of each peer that is called
 abbrev pub IsStatusJson : Overview → (numbers : ℕ → ℕ) → List ℕ → Type 0
 IsStatusJson overview numbers page =
     (peers : List ℕ) × AreLines IsPeerJson overview.calls peers
-    × (page ≡ status_json overview.settings (members_text numbers) peers)
+    × (page ≡ status_json overview (members_text numbers) peers)

@@ -82,17 +82,19 @@ fn replica_text(alloc: Global, settings: &Settings) -> Result<Vec<u8>, AllocErro
 /// Around these members and these peers, each of which stands behind a comma.
 fn whole_text(
     alloc: Global,
-    settings: &Settings,
+    overview: Overview<'_>,
     members: &[u8],
     peers: &[u8],
 ) -> Result<Vec<u8>, AllocError>
     ensures { IfOk result
-        (λ text. text.items ≡ status_json settings.now members.now peers.now) }
+        (λ text. text.items ≡ status_json (overview_of overview.entry) members.now peers.now) }
 {
-    let replica = replica_text(alloc, settings)?;
+    let replica = replica_text(alloc, overview.settings)?;
     let mut out = Vec::new(alloc);
     out.push(b'{')?;
     out.extend_from_slice(replica.as_slice())?;
+    out.extend_from_slice(b",\"connections\":")?;
+    put_number(&mut out, overview.connections)?;
     out.extend_from_slice(b",\"records\":{")?;
     out.extend_from_slice(behind_comma(members))?;
     out.extend_from_slice(b"},\"peers\":[")?;
@@ -101,8 +103,8 @@ fn whole_text(
     Ok(out)
 }
 
-/// Which replica of which archive it is, the number of the last record of each replica, and the
-/// last call of each peer that is called.
+/// Which replica of which archive it is, how many connections there are, the number of the last
+/// record of each replica, and the last call of each peer that is called.
 pub(crate) fn status_text(
     alloc: Global,
     overview: Overview<'_>,
@@ -113,10 +115,5 @@ pub(crate) fn status_text(
 {
     let members = members_text(alloc, vector)?;
     let peers = peers_text(alloc, overview.calls.as_slice())?;
-    whole_text(
-        alloc,
-        overview.settings,
-        members.as_slice(),
-        peers.as_slice(),
-    )
+    whole_text(alloc, overview, members.as_slice(), peers.as_slice())
 }

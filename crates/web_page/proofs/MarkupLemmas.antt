@@ -71,36 +71,40 @@ anchor_text address text rest =
     six a b c d e f = simp append_assoc
 
 -- the cells of a row, one behind the other
-row_parts : (a c1 c2 c3 c4 c5 c6 c7 e : List ℕ)
-    → a ++ (c1 ++ c2 ++ c3 ++ c4) ++ (c5 ++ c6 ++ c7) ++ e
-    ≡ a ++ (c1 ++ (c2 ++ (c3 ++ (c4 ++ (c5 ++ (c6 ++ (c7 ++ e)))))))
-row_parts a c1 c2 c3 c4 c5 c6 c7 e = simp append_assoc
+row_parts : (a c1 c2 c3 c4 c5 c6 c7 c8 e : List ℕ)
+    → a ++ (c1 ++ c2 ++ c3 ++ c4) ++ (c5 ++ c6 ++ c7 ++ c8) ++ e
+    ≡ a ++ (c1 ++ (c2 ++ (c3 ++ (c4 ++ (c5 ++ (c6 ++ (c7 ++ (c8 ++ e))))))))
+row_parts a c1 c2 c3 c4 c5 c6 c7 c8 e = simp append_assoc
 
 -- between the tags of a row stand its texts
-pub row_texts : (space : Layout) (one : Listed) (value status time : List ℕ)
-    → texts_in (front_row space one value status time)
+pub row_texts : (space : Layout) (one : Listed) (value status time age : List ℕ)
+    → texts_in (front_row space one value status time age)
     ≡ [] ∷ escaped (unwrap_or one.folder []) ∷ [] ∷ escaped one.name
     ∷ [] ∷ [] ∷ escaped (node_text one.node) ∷ []
     ∷ [] ∷ escaped (type_text (value_type_at space one.node))
-    ∷ [] ∷ escaped (cut_text value) ∷ [] ∷ escaped status ∷ [] ∷ escaped time ∷ [] ∷ []
-row_texts space one value status time =
+    ∷ [] ∷ escaped (cut_text value) ∷ [] ∷ escaped status ∷ [] ∷ escaped time
+    ∷ [] ∷ escaped age ∷ [] ∷ []
+row_texts space one value status time age =
     let end = codes "</tr>\n" in
     let folder = unwrap_or one.folder [] in
     let id = node_text one.node in
     let type = type_text (value_type_at space one.node) in
     let shown = cut_text value in
-    let seventh : List ℕ = data_cell time ++ end in
+    let eighth : List ℕ = data_cell age ++ end in
+    let seventh : List ℕ = data_cell time ++ eighth in
     let sixth : List ℕ = data_cell status ++ seventh in
     let fifth : List ℕ = data_cell shown ++ sixth in
     let fourth : List ℕ = data_cell type ++ fifth in
     let third : List ℕ = link_cell one.node ++ fourth in
     let second : List ℕ = data_cell one.name ++ third in
     ap texts_in (row_parts (codes "<tr>") (data_cell folder) (data_cell one.name)
-    (link_cell one.node) (data_cell type) (data_cell shown) (data_cell status) (data_cell time) end)
+    (link_cell one.node) (data_cell type) (data_cell shown) (data_cell status) (data_cell time)
+    (data_cell age) end)
     ∙ (cell_text folder second
     ∙ ap (λ l. [] ∷ escaped folder ∷ l) (cell_text one.name third
     ∙ ap (λ l. [] ∷ escaped one.name ∷ l) (anchor_text (history_link id) id fourth
     ∙ ap (λ l. [] ∷ [] ∷ escaped id ∷ [] ∷ l) (cell_text type fifth
     ∙ ap (λ l. [] ∷ escaped type ∷ l) (cell_text shown sixth
     ∙ ap (λ l. [] ∷ escaped shown ∷ l) (cell_text status seventh
-    ∙ ap (λ l. [] ∷ escaped status ∷ l) (cell_text time end)))))))
+    ∙ ap (λ l. [] ∷ escaped status ∷ l) (cell_text time eighth
+    ∙ ap (λ l. [] ∷ escaped time ∷ l) (cell_text age end))))))))

@@ -1,5 +1,5 @@
 -- Rows of variables, one behind the other, and the page around them.
-use Rattle.std.proofs.Common.{◌≡◌, ℕ, ◌+◌, ◌<◌, ◌≤◌, List, [], ◌∷◌, ◌++◌, take, get_or, length, append-nil, append_assoc, refl, sym, ap, ◌∙◌, subst}
+use Rattle.std.proofs.Common.{◌≡◌, ℕ, ℤ, ◌+◌, ◌<◌, ◌≤◌, List, [], ◌∷◌, ◌++◌, take, get_or, length, append-nil, append_assoc, refl, sym, ap, ◌∙◌, subst}
 use Rattle.std.proofs.lemmas.List.{take_more, take_all}
 use Rattle.std.specs.Prelude.{⊤, is_ok, if◌then◌else◌, Option, Result, Ok, Err, MatchResult, OnOk}
 use Rattle.std.specs.declared.alloc.AllocError.{AllocError}
@@ -83,53 +83,53 @@ five-put (Err why) old a b c d e one two three four new p q r s last = tt
 
 -- the row with these texts of a live value is put
 pub told-put : (result : Result (Unit {0}) AllocError) (old new : List ℕ) (space : Layout)
-    (one : Listed) (held : Option Held) (value status time : List ℕ)
-    → AreLatestTexts held value status time
-    → OnOk result (new ≡ old ++ front_row space one value status time)
-    → OnOk result (IsPut old new (IsRowOf space one held))
-told-put (Ok done) old new space one held value status time are puts = (
-  front_row space one value status time,
+    (now : ℤ) (one : Listed) (held : Option Held) (value status time age : List ℕ)
+    → AreLatestTexts now held value status time age
+    → OnOk result (new ≡ old ++ front_row space one value status time age)
+    → OnOk result (IsPut old new (IsRowOf space now one held))
+told-put (Ok done) old new space now one held value status time age are puts = (
+  front_row space one value status time age,
   puts,
-  (value, status, time, are, refl),
+  (value, status, time, age, are, refl),
 )
-told-put (Err why) old new space one held value status time are puts = tt
+told-put (Err why) old new space now one held value status time age are puts = tt
 
 -- the rows within the vector that was asked for, or why there are none
-pub rows-told : (result : Result (Unit {0}) PageFault) (s t u : Store) (space : Layout)
+pub rows-told : (result : Result (Unit {0}) PageFault) (s t u : Store) (space : Layout) (now : ℤ)
     (within : List ℕ) (old new : List ℕ)
     → Reads s t [] (λ R. IsLawfulContent R × IsVectorOf within R)
     → MatchResult result
     (λ done. Reads t u [] (λ R. IsVectorOf within R
-    → IsPut old new (AreRows space R (listed_variables space))))
+    → IsPut old new (AreRows space now R (listed_variables space))))
     (λ why. Reads t u (page_faults why) (λ R. ⊤))
     → MatchResult result
-    (λ done. Reads s u [] (λ R. IsPut old new (AreRows space R (listed_variables space))))
+    (λ done. Reads s u [] (λ R. IsPut old new (AreRows space now R (listed_variables space))))
     (λ why. Reads s u (page_faults why) (λ R. ⊤))
-rows-told (Ok done) s t u space within old new counts told =
+rows-told (Ok done) s t u space now within old new counts told =
     reads-both s t u [] (λ R. IsLawfulContent R × IsVectorOf within R)
-    (λ R. IsVectorOf within R → IsPut old new (AreRows space R (listed_variables space)))
-    (λ R. IsPut old new (AreRows space R (listed_variables space)))
+    (λ R. IsVectorOf within R → IsPut old new (AreRows space now R (listed_variables space)))
+    (λ R. IsPut old new (AreRows space now R (listed_variables space)))
     (λ R p q. q p.1) counts told
-rows-told (Err why) s t u space within old new counts stops =
+rows-told (Err why) s t u space now within old new counts stops =
     reads-both s t u (page_faults why) (λ R. IsLawfulContent R × IsVectorOf within R)
     (λ R. ⊤) (λ R. ⊤) (λ R p q. tt) counts stops
 
 -- the page around rows that were put behind nothing
-pub front-put : (overview : Overview) (space : Layout) (R : Content)
-    (empty rows slice old new : List ℕ) → empty ≡ [] → space ≡ overview.settings.space
-    → slice ≡ rows → IsPut empty rows (AreRows space R (listed_variables space))
+pub front-put : (overview : Overview) (R : Content) (empty rows slice old new : List ℕ)
+    → empty ≡ [] → slice ≡ rows
+    → IsPut empty rows (AreRows overview.settings.space overview.now R
+    (listed_variables overview.settings.space))
     → IsPut old new (IsPageAround overview slice) → IsPut old new (IsFront overview R)
-front-put overview space R empty rows slice old new none same is (lines, put, are)
-    (page, whole, around) = (
-      page,
-      whole,
-      (
-        lines,
-        subst (λ (l : Layout). AreRows l R (listed_variables l) lines) same are,
-        subst (λ (t : List ℕ). IsPageAround overview t page)
-            (is ∙ (put ∙ ap (λ t. t ++ lines) none)) around,
-      ),
-    )
+front-put overview R empty rows slice old new none is (lines, put, are) (page, whole, around) = (
+  page,
+  whole,
+  (
+    lines,
+    are,
+    subst (λ (t : List ℕ). IsPageAround overview t page)
+        (is ∙ (put ∙ ap (λ t. t ++ lines) none)) around,
+  ),
+)
 
 -- four parts, one behind the other
 pub four-parts : (a b c d none one two three four : List ℕ) → none ≡ [] → one ≡ none ++ a

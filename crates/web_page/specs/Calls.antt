@@ -25,15 +25,22 @@ after_call callee end calls = elim (slice_get calls callee) [
   | Some call ↦ set calls callee (record call { end = Some end })
 ]
 
--- what pages tell of a server beside what its archive holds: what it is set to, and how its last
--- calls of peers ended
+-- what pages tell of a server beside what its archive holds: what it is set to, how its last calls
+-- of peers ended, how many connections there are, and the time
 pub record Overview : Type 0 where
   pub settings : SettingsValues
   pub calls : List LastCall
+  pub connections : ℕ
+  pub now : ℤ
 
 -- the one that is lent so
 abbrev pub overview_of : Lent → Overview
-overview_of lent = record { settings = lent.settings.now; calls = lent.calls.now }
+overview_of lent = record {
+  settings = lent.settings.now;
+  calls = lent.calls.now;
+  connections = lent.connections;
+  now = lent.now;
+}
 
 -- ---- how it is told
 

@@ -1,5 +1,5 @@
 -- The page that a person begins at.
-use Rattle.std.specs.Prelude.{◌≡◌, ℕ, ◌==◌, List, [], ◌∷◌, ◌++◌, length, codes, slice_get, unwrap_or, Option, if◌then◌else◌}
+use Rattle.std.specs.Prelude.{◌≡◌, ℕ, ℤ, ◌==◌, List, [], ◌∷◌, ◌++◌, length, codes, slice_get, unwrap_or, Option, if◌then◌else◌}
 use Rattle.std.specs.Fmt.{decimal}
 use Rattle.uuid.specs.Text.{hyphenated_text, lower}
 use Rattle.form_urlencoded.specs.Form.{byte_serialize}
@@ -46,29 +46,30 @@ settings_cells space one =
     ++ data_cell (type_text (value_type_at space one.node))
 
 -- the texts of a live value as cells, the value's cut where it is long
-abbrev pub latest_cells : (value status time : List ℕ) → List ℕ
-latest_cells value status time =
-    data_cell (cut_text value) ++ data_cell status ++ data_cell time
+abbrev pub latest_cells : (value status time age : List ℕ) → List ℕ
+latest_cells value status time age =
+    data_cell (cut_text value) ++ data_cell status ++ data_cell time ++ data_cell age
 
 -- the latest live value of a node
 abbrev pub latest_value : Content → NodeId → Option Held
 latest_value R node = slice_get (in_direction Backward (lives R node)) 0
 
 -- the row of a variable: what the settings say, and these texts of a live value
-abbrev pub front_row : Layout → Listed → (value status time : List ℕ) → List ℕ
-front_row space one value status time =
-    codes "<tr>" ++ settings_cells space one ++ latest_cells value status time
+abbrev pub front_row : Layout → Listed → (value status time age : List ℕ) → List ℕ
+front_row space one value status time age =
+    codes "<tr>" ++ settings_cells space one ++ latest_cells value status time age
     ++ codes "</tr>\n"
 
 -- the same with the texts of a live value, empty ones where there is none
-abbrev pub IsRowOf : Layout → Listed → Option Held → List ℕ → Type 0
-IsRowOf space one held row =
-    (value : List ℕ) × (status : List ℕ) × (time : List ℕ)
-    × AreLatestTexts held value status time × (row ≡ front_row space one value status time)
+abbrev pub IsRowOf : Layout → (now : ℤ) → Listed → Option Held → List ℕ → Type 0
+IsRowOf space now one held row =
+    (value : List ℕ) × (status : List ℕ) × (time : List ℕ) × (age : List ℕ)
+    × AreLatestTexts now held value status time age
+    × (row ≡ front_row space one value status time age)
 
 -- the row of a variable with its latest live value
-abbrev pub IsVariableRow : Layout → Content → Listed → List ℕ → Type 0
-IsVariableRow space R one row = IsRowOf space one (latest_value R one.node) row
+abbrev pub IsVariableRow : Layout → (now : ℤ) → Content → Listed → List ℕ → Type 0
+IsVariableRow space now R one row = IsRowOf space now one (latest_value R one.node) row
 
 -- ---- above and below the rows
 
@@ -89,21 +90,29 @@ unfoldable pub front_style : List ℕ
 front_style =
     codes "</title>\n<style>\n:root{color-scheme:light dark}\n"
     ++ codes "body{margin:2rem;font-family:system-ui,sans-serif}\n" ++ table_style
-    ++ codes "td{white-space:pre-wrap;overflow-wrap:anywhere}\ntd:last-child{white-space:nowrap}\n"
+    ++ codes "td{white-space:pre-wrap;overflow-wrap:anywhere}\n"
+    ++ codes "td:nth-last-child(-n+2){white-space:nowrap}\n"
     ++ codes "tr:nth-child(even) td{background:#8882}\n</style>\n</head>\n<body>\n<h1>"
 
--- from the heading to the rows: the names of the columns
+-- how many connections there are
+unfoldable pub connections_text : (count : ℕ) → List ℕ
+connections_text count =
+    codes "</h1>\n<p>" ++ decimal count
+    ++ (if count == 1 then codes " connection</p>\n" else codes " connections</p>\n")
+
+-- from there to the rows: the names of the columns
 unfoldable pub front_columns : List ℕ
 front_columns =
-    codes "</h1>\n<table>\n<thead>\n<tr><th scope=\"col\">folder</th>"
+    codes "<table>\n<thead>\n<tr><th scope=\"col\">folder</th>"
     ++ codes "<th scope=\"col\">name</th><th scope=\"col\">id</th><th scope=\"col\">type</th>"
     ++ codes "<th scope=\"col\">value</th><th scope=\"col\">status</th>"
-    ++ codes "<th scope=\"col\">time</th></tr>\n</thead>\n<tbody>\n"
+    ++ codes "<th scope=\"col\">time</th><th scope=\"col\">age</th></tr>\n</thead>\n<tbody>\n"
 
 -- the part of the page above its rows
-abbrev pub front_begin : SettingsValues → List ℕ
-front_begin s =
-    page_begin ++ escaped (front_heading s) ++ front_style ++ escaped (front_heading s)
+abbrev pub front_begin : Overview → List ℕ
+front_begin overview =
+    let heading : List ℕ = escaped (front_heading overview.settings) in
+    page_begin ++ heading ++ front_style ++ heading ++ connections_text overview.connections
     ++ front_columns
 
 -- the part below them
@@ -132,20 +141,20 @@ ArePeers calls text =
 -- ---- the page
 
 -- rows of these variables, one behind the other
-abbrev pub AreRows : Layout → Content → List Listed → List ℕ → Type 0
-AreRows space R listed rows = AreLines (IsVariableRow space R) listed rows
+abbrev pub AreRows : Layout → (now : ℤ) → Content → List Listed → List ℕ → Type 0
+AreRows space now R listed rows = AreLines (IsVariableRow space now R) listed rows
 
 -- the page around these rows: above them what the settings say, and below them the peers
 abbrev pub IsPageAround : Overview → (rows : List ℕ) → List ℕ → Type 0
 IsPageAround overview rows page =
     (peers : List ℕ) × ArePeers overview.calls peers
-    × (page ≡ front_begin overview.settings ++ rows ++ peers ++ front_end)
+    × (page ≡ front_begin overview ++ rows ++ peers ++ front_end)
 
 -- the page of a server, over what its archive holds
 abbrev pub IsFront : Overview → Content → List ℕ → Type 0
 IsFront overview R page =
     let space : Layout = overview.settings.space in
-    (rows : List ℕ) × AreRows space R (listed_variables space) rows
+    (rows : List ℕ) × AreRows space overview.now R (listed_variables space) rows
     × IsPageAround overview rows page
 
 -- the fault of the store by which a page ended, if it is one of the store's

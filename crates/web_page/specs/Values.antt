@@ -1,11 +1,13 @@
 -- How a live value and a type are shown in a few words.
-use Rattle.std.specs.Prelude.{◌≡◌, ◌⊎◌, ℕ, ◌-◌, ◌==◌, ◌||◌, ◌&&◌, nat_eq, nat_lt, nat_le, Bool, false, true, List, [], ◌∷◌, ◌++◌, codes, Option, Some, None, unwrap_or, if◌then◌else◌}
+use Rattle.std.specs.Prelude.{◌≡◌, ◌⊎◌, ℕ, ℤ, ◌-ℤ◌, ◌/◌, unsigned_abs, int_lt, ◌-◌, ◌==◌, ◌||◌, ◌&&◌, nat_eq, nat_lt, nat_le, Bool, false, true, List, [], ◌∷◌, ◌++◌, codes, Option, Some, None, unwrap_or, if◌then◌else◌}
+use Rattle.std.specs.Fmt.{decimal}
 use Rattle.std.specs.Map.{lookup}
 use Rattle.ua_variant.specs.Scalar.{scalar_number}
 use Rattle.ua_variant.specs.Values.{array_number}
 use Rattle.ua_variant.specs.declared.value.ValueType.{ValueType}
 use Rattle.ua_variant.specs.declared.value.Variant.{Variant}
 use Rattle.ua_variant.specs.declared.value.Variant.TheVariants.{Null, Scalar, Array}
+use Rattle.records.specs.Moments.{ticks_of}
 use Rattle.records.specs.declared.shown.Held.{Held}
 use Rattle.history_text.specs.Times.{IsTimeText}
 use Rattle.history_csv.specs.Rows.{IsVariantText, IsTextless, code_text, time_of}
@@ -52,13 +54,34 @@ bracketed given =
 abbrev pub IsShown : Option Variant → List ℕ → Type 0
 IsShown given text = IsVariantText given text ⊎ (IsTextless given × (text ≡ bracketed given))
 
--- the texts of the latest live value, of its status and of its time; empty where there is none
-abbrev pub AreLatestTexts : Option Held → (value status time : List ℕ) → Type 0
-AreLatestTexts latest value status time =
+-- ---- ages
+
+-- how many whole seconds lie between two times, in ticks of 100 ns
+abbrev pub seconds_between : (now time : ℤ) → ℕ
+seconds_between now time = unsigned_abs (now -ℤ time) / 10000000
+
+-- so many seconds: below a minute as they are, else in minutes, hours or days
+unfoldable pub age_words : (seconds : ℕ) → List ℕ
+age_words seconds =
+    if nat_lt seconds 60 then decimal seconds ++ codes " s"
+    else if nat_lt seconds 3600 then decimal (seconds / 60) ++ codes " min"
+    else if nat_lt seconds 86400 then decimal (seconds / 3600) ++ codes " h"
+    else decimal (seconds / 86400) ++ codes " d"
+
+-- how long ago a time was; nothing of one that is to come
+abbrev pub age_text : (now time : ℤ) → List ℕ
+age_text now time = if int_lt now time then [] else age_words (seconds_between now time)
+
+-- ---- the latest live value
+
+-- its texts, those of its status and of its time, and how long ago that was; empty where there is
+-- none
+abbrev pub AreLatestTexts : (now : ℤ) → Option Held → (value status time age : List ℕ) → Type 0
+AreLatestTexts now latest value status time age =
     elim latest [
-      | None ↦ (value ≡ []) × (status ≡ []) × (time ≡ [])
+      | None ↦ (value ≡ []) × (status ≡ []) × (time ≡ []) × (age ≡ [])
       | Some held ↦ IsShown held.value.value value × (status ≡ code_text held.value.status)
-          × IsTimeText (time_of held.time) time
+          × IsTimeText (time_of held.time) time × (age ≡ age_text now (ticks_of held.time))
     ]
 
 -- ---- long texts

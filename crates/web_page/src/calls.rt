@@ -172,4 +172,8 @@ pub struct Overview<'a> {
     pub settings: &'a Settings,
     /// How its last calls of peers ended.
     pub calls: &'a LastCalls,
+    /// How many connections there are of those that came.
+    pub connections: u64,
+    /// The time, in ticks of 100 ns since 1601.
+    pub now: i64,
 }

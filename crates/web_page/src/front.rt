@@ -6,7 +6,7 @@ ghost use Rattle.history_report.specs.Html.{page_begin};
 ghost use Rattle.history_report.specs.Paging.{IsPut};
 ghost use Rattle.settings_check.specs.Stored.{IsVectorOf, Reads};
 ghost use Rattle.web_page.specs.Listing.{listed_variables};
-ghost use Rattle.web_page.specs.Front.{IsRowOf, IsVariableRow, AreRows, IsFront, IsPageAround, front_heading, front_style, front_columns, front_begin, front_end, page_faults};
+ghost use Rattle.web_page.specs.Front.{IsRowOf, IsVariableRow, AreRows, IsFront, IsPageAround, front_heading, front_style, connections_text, front_columns, front_begin, front_end, page_faults};
 ghost use Rattle.web_page.specs.Calls.{overview_of};
 
 use crate::asking::latest_of;
@@ -23,7 +23,6 @@ use records::Held;
 use stamp::Vector;
 use std::alloc::{AllocError, Global};
 use ua_settings::Settings;
-use ua_space::Space;
 use uuid::Uuid;
 
 // ---- above and below the rows
@@ -52,20 +51,20 @@ fn front_style() -> &'static [u8]
       th,td{padding:.25rem .75rem;text-align:left;vertical-align:top}\n\
       th{position:sticky;top:0;background:Canvas;box-shadow:0 1px}\n\
       td{white-space:pre-wrap;overflow-wrap:anywhere}\n\
-      td:last-child{white-space:nowrap}\n\
+      td:nth-last-child(-n+2){white-space:nowrap}\n\
       tr:nth-child(even) td{background:#8882}\n\
       </style>\n</head>\n<body>\n<h1>"
 }
 
-/// What stands between the heading and the rows: the names of the columns.
+/// What stands above the rows: the names of the columns.
 #[tactic(auto, unfolding(crate::specs::Front::front_columns))]
 fn front_columns() -> &'static [u8]
     ensures { result.now ≡ front_columns }
 {
-    b"</h1>\n<table>\n<thead>\n\
+    b"<table>\n<thead>\n\
       <tr><th scope=\"col\">folder</th><th scope=\"col\">name</th><th scope=\"col\">id</th>\
       <th scope=\"col\">type</th><th scope=\"col\">value</th><th scope=\"col\">status</th>\
-      <th scope=\"col\">time</th></tr>\n\
+      <th scope=\"col\">time</th><th scope=\"col\">age</th></tr>\n\
       </thead>\n<tbody>\n"
 }
 
@@ -85,15 +84,37 @@ fn heading(alloc: Global, settings: &Settings) -> Result<Vec<u8>, AllocError>
     Ok(text)
 }
 
-/// Appends the part of the page above its rows.
-fn put_begin(alloc: Global, out: &mut Vec<u8>, settings: &Settings) -> Result<(), AllocError>
-    ensures { OnOk result (out.new.items ≡ out.old.items ++ front_begin settings.now) }
+/// How many connections there are, between the heading and the table.
+#[tactic(auto, unfolding(crate::specs::Front::connections_text))]
+fn connections_text(alloc: Global, count: u64) -> Result<Vec<u8>, AllocError>
+    ensures { IfOk result (λ text. text.items ≡ connections_text count) }
 {
-    let text = heading(alloc, settings)?;
+    let mut buffer = Buffer::new();
+    let digits = buffer.format(count);
+    let noun: &[u8] = if count == 1 {
+        b" connection</p>\n"
+    } else {
+        b" connections</p>\n"
+    };
+    let mut text = Vec::new(alloc);
+    text.extend_from_slice(b"</h1>\n<p>")?;
+    text.extend_from_slice(digits.as_bytes())?;
+    text.extend_from_slice(noun)?;
+    Ok(text)
+}
+
+/// Appends the part of the page above its rows.
+fn put_begin(alloc: Global, out: &mut Vec<u8>, overview: Overview<'_>) -> Result<(), AllocError>
+    ensures { OnOk result
+        (out.new.items ≡ out.old.items ++ front_begin (overview_of overview.entry)) }
+{
+    let text = heading(alloc, overview.settings)?;
+    let connections = connections_text(alloc, overview.connections)?;
     out.extend_from_slice(page_begin())?;
     put_escaped(out, text.as_slice())?;
     out.extend_from_slice(front_style())?;
     put_escaped(out, text.as_slice())?;
+    out.extend_from_slice(connections.as_slice())?;
     out.extend_from_slice(front_columns())
 }
 
@@ -103,21 +124,22 @@ fn put_begin(alloc: Global, out: &mut Vec<u8>, settings: &Settings) -> Result<()
 fn put_told(
     alloc: Global,
     out: &mut Vec<u8>,
-    space: &Space,
+    overview: Overview<'_>,
     listed: &Listed,
     values: &[Held],
 ) -> Result<(), AllocError>
     ensures { OnOk result (IsPut out.old.items out.new.items
-        (IsRowOf space.now listed.now (slice_get values.now 0))) }
+        (IsRowOf overview.entry.settings.now.space overview.entry.now listed.now
+        (slice_get values.now 0))) }
 {
-    let latest = latest_texts(alloc, values)?;
-    put_row(alloc, out, space, listed, &latest)
+    let latest = latest_texts(alloc, values, overview.now)?;
+    put_row(alloc, out, overview.settings.space(), listed, &latest)
 }
 
 /// Appends the row of a variable.
 fn put_variable<A: Archive>(
     archive: &mut A,
-    space: &Space,
+    overview: Overview<'_>,
     listed: &Listed,
     within: &Vector,
     out: &mut Vec<u8>,
@@ -125,7 +147,7 @@ fn put_variable<A: Archive>(
     ensures answers { MatchResult result
         (λ done. Reads (A.state archive.old) (A.state archive.new) []
         (λ R. IsVectorOf within.now R → IsPut out.old.items out.new.items
-        (IsVariableRow space.now R listed.now)))
+        (IsVariableRow overview.entry.settings.now.space overview.entry.now R listed.now)))
         (λ why. Reads (A.state archive.old) (A.state archive.new) (page_faults why) (λ R. ⊤)) }
     ensures asked { IsAskedWithin 1 (A.asked archive.old) (A.asked archive.new) }
 {
@@ -134,7 +156,7 @@ fn put_variable<A: Archive>(
         Ok(values) => values,
         Err(fault) => return Err(PageFault::Store(fault)),
     };
-    match put_told(alloc, out, space, listed, values.as_slice()) {
+    match put_told(alloc, out, overview, listed, values.as_slice()) {
         Ok(()) => Ok(()),
         Err(_) => Err(PageFault::OutOfMemory),
     }
@@ -143,7 +165,7 @@ fn put_variable<A: Archive>(
 /// Appends the rows of these variables.
 fn put_rows<A: Archive>(
     archive: &mut A,
-    space: &Space,
+    overview: Overview<'_>,
     listed: &[Listed],
     within: &Vector,
     out: &mut Vec<u8>,
@@ -151,12 +173,12 @@ fn put_rows<A: Archive>(
     ensures answers { MatchResult result
         (λ done. Reads (A.state archive.old) (A.state archive.new) []
         (λ R. IsVectorOf within.now R → IsPut out.old.items out.new.items
-        (AreRows space.now R listed.now)))
+        (AreRows overview.entry.settings.now.space overview.entry.now R listed.now)))
         (λ why. Reads (A.state archive.old) (A.state archive.new) (page_faults why) (λ R. ⊤)) }
     ensures asked { IsAskedWithin 1 (A.asked archive.old) (A.asked archive.new) }
 {
     for one in listed {
-        match put_variable(archive, space, one, within, out) {
+        match put_variable(archive, overview, one, within, out) {
             Ok(()) => {}
             Err(fault) => return Err(fault),
         }
@@ -164,38 +186,41 @@ fn put_rows<A: Archive>(
     Ok(())
 }
 
-/// Appends the rows of the variables of a space.
+/// Appends the rows of the variables of the settings.
 fn put_listed<A: Archive>(
     alloc: Global,
     archive: &mut A,
-    space: &Space,
+    overview: Overview<'_>,
     within: &Vector,
     out: &mut Vec<u8>,
 ) -> Result<(), PageFault>
     ensures answers { MatchResult result
         (λ done. Reads (A.state archive.old) (A.state archive.new) []
         (λ R. IsVectorOf within.now R → IsPut out.old.items out.new.items
-        (AreRows space.now R (listed_variables space.now))))
+        (AreRows overview.entry.settings.now.space overview.entry.now R
+        (listed_variables overview.entry.settings.now.space))))
         (λ why. Reads (A.state archive.old) (A.state archive.new) (page_faults why) (λ R. ⊤)) }
     ensures asked { IsAskedWithin 1 (A.asked archive.old) (A.asked archive.new) }
 {
-    let listed = match variables_of(alloc, space) {
+    let listed = match variables_of(alloc, overview.settings.space()) {
         Ok(listed) => listed,
         Err(_) => return Err(PageFault::OutOfMemory),
     };
-    put_rows(archive, space, listed.as_slice(), within, out)
+    put_rows(archive, overview, listed.as_slice(), within, out)
 }
 
-/// Appends the rows of the variables of a space, as the archive is now.
+/// Appends the rows of the variables of the settings, as the archive is now.
 fn put_table<A: Archive>(
     alloc: Global,
     archive: &mut A,
-    space: &Space,
+    overview: Overview<'_>,
     out: &mut Vec<u8>,
 ) -> Result<(), PageFault>
     ensures answers { MatchResult result
         (λ done. Reads (A.state archive.old) (A.state archive.new) []
-        (λ R. IsPut out.old.items out.new.items (AreRows space.now R (listed_variables space.now))))
+        (λ R. IsPut out.old.items out.new.items
+        (AreRows overview.entry.settings.now.space overview.entry.now R
+        (listed_variables overview.entry.settings.now.space))))
         (λ why. Reads (A.state archive.old) (A.state archive.new) (page_faults why) (λ R. ⊤)) }
     ensures asked { IsAskedWithin 1 (A.asked archive.old) (A.asked archive.new) }
 {
@@ -203,7 +228,7 @@ fn put_table<A: Archive>(
         Ok(within) => within,
         Err(fault) => return Err(PageFault::Store(fault)),
     };
-    put_listed(alloc, archive, space, &within, out)
+    put_listed(alloc, archive, overview, &within, out)
 }
 
 // ---- the page
@@ -215,7 +240,7 @@ fn page_around(alloc: Global, overview: Overview<'_>, rows: &[u8]) -> Result<Vec
 {
     let peers = peers_text(alloc, overview.calls)?;
     let mut page = Vec::new(alloc);
-    put_begin(alloc, &mut page, overview.settings)?;
+    put_begin(alloc, &mut page, overview)?;
     page.extend_from_slice(rows)?;
     page.extend_from_slice(peers.as_slice())?;
     page.extend_from_slice(b"</tbody>\n</table>\n</body>\n</html>\n")?;
@@ -237,13 +262,15 @@ fn put_whole(
     out.extend_from_slice(page.as_slice())
 }
 
-/// Appends the front page: plain HTML without a script: which replica of which archive it is, and a
-/// table of the variables of the settings: folder, name, id (a link to `/history` of it), type, and
-/// the value, status and time of the latest live value. First stand those in no folder, then folder
-/// by folder. Of a value its first 200 characters are shown, and of one that has no text, as an
-/// array, its type in brackets. Where peers are called, a second table tells the last call of each:
-/// when it ended, how, and how many records it moved. The archive stays as it is; it is asked for
-/// one value of each variable. The page is made in memory before it is appended.
+/// Appends the front page: plain HTML without a script: which replica of which archive it is, how
+/// many connections there are, and a table of the variables of the settings: folder, name, id (a
+/// link to `/history` of it), type, and the value, status, time and age of the latest live value.
+/// The age is in seconds below a minute, in minutes below an hour, in hours below a day, else in
+/// days, each cut; a time that is to come has none. First stand those in no folder, then folder by
+/// folder. Of a value its first 200 characters are shown, and of one that has no text, as an array,
+/// its type in brackets. Where peers are called, a second table tells the last call of each: when it
+/// ended, how, and how many records it moved. The archive stays as it is; it is asked for one value
+/// of each variable. The page is made in memory before it is appended.
 ///
 /// Errors: `Store` where the archive met a fault of its store, and `OutOfMemory` where memory was
 /// wanting; then nothing is appended.
@@ -261,7 +288,7 @@ pub fn put_front<A: Archive>(
     ensures asked { IsAskedWithin 1 (A.asked archive.old) (A.asked archive.new) }
 {
     let mut rows = Vec::new(alloc);
-    match put_table(alloc, archive, overview.settings.space(), &mut rows) {
+    match put_table(alloc, archive, overview, &mut rows) {
         Ok(()) => {}
         Err(fault) => return Err(fault),
     }

@@ -13,10 +13,11 @@ ghost use Rattle.web_page.specs.Front.{front_row};
 /// settings or of a value begins or ends a tag, nor does an address its attribute.
 #[tactic(auto, using(crate::proofs::MarkupLemmas::row_texts))]
 pub fn a_front_rows_texts_are_its_cells()
-    ensures { (space : Layout) → (one : Listed) → (value status time : List ℕ)
-        → texts_in (front_row space one value status time)
+    ensures { (space : Layout) → (one : Listed) → (value status time age : List ℕ)
+        → texts_in (front_row space one value status time age)
         ≡ [] ∷ escaped (unwrap_or one.folder []) ∷ [] ∷ escaped one.name
         ∷ [] ∷ [] ∷ escaped (node_text one.node) ∷ []
         ∷ [] ∷ escaped (type_text (value_type_at space one.node))
-        ∷ [] ∷ escaped (cut_text value) ∷ [] ∷ escaped status ∷ [] ∷ escaped time ∷ [] ∷ [] }
+        ∷ [] ∷ escaped (cut_text value) ∷ [] ∷ escaped status ∷ [] ∷ escaped time
+        ∷ [] ∷ escaped age ∷ [] ∷ [] }
 {}

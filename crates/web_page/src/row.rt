@@ -107,12 +107,14 @@ fn put_settings(
 /// Appends the texts of a live value as cells.
 fn put_latest(alloc: Global, out: &mut Vec<u8>, latest: &Latest) -> Result<(), AllocError>
     ensures { OnOk result (out.new.items ≡ out.old.items
-        ++ latest_cells latest.now.value.items latest.now.status.items latest.now.time.items) }
+        ++ latest_cells latest.now.value.items latest.now.status.items latest.now.time.items
+        latest.now.age.items) }
 {
     let value = cut_text(alloc, latest.value.as_slice())?;
     put_cell(out, value.as_slice())?;
     put_cell(out, latest.status.as_slice())?;
-    put_cell(out, latest.time.as_slice())
+    put_cell(out, latest.time.as_slice())?;
+    put_cell(out, latest.age.as_slice())
 }
 
 /// Appends the row of a variable, with these texts of its latest live value.
@@ -124,8 +126,8 @@ pub(crate) fn put_row(
     latest: &Latest,
 ) -> Result<(), AllocError>
     ensures { OnOk result (out.new.items ≡ out.old.items
-        ++ front_row space.now listed.now
-        latest.now.value.items latest.now.status.items latest.now.time.items) }
+        ++ front_row space.now listed.now latest.now.value.items latest.now.status.items
+        latest.now.time.items latest.now.age.items) }
 {
     out.extend_from_slice(b"<tr>")?;
     put_settings(alloc, out, space, listed)?;

@@ -41,21 +41,24 @@ const STYLE: &str = "<style>\n\
      th,td{padding:.25rem .75rem;text-align:left;vertical-align:top}\n\
      th{position:sticky;top:0;background:Canvas;box-shadow:0 1px}\n\
      td{white-space:pre-wrap;overflow-wrap:anywhere}\n\
-     td:last-child{white-space:nowrap}\n\
+     td:nth-last-child(-n+2){white-space:nowrap}\n\
      tr:nth-child(even) td{background:#8882}\n\
      </style>\n";
 
-/// What stands between the look of the page and its rows.
-const HEADING: &str = "</head>\n<body>\n\
-     <h1>Archive 12345678-9abc-def0-1234-56789abcdef0, replica 7</h1>\n<table>\n<thead>\n\
+/// What stands between the look of the page and how many connections there are.
+const HEADING: &str =
+    "</head>\n<body>\n<h1>Archive 12345678-9abc-def0-1234-56789abcdef0, replica 7</h1>\n";
+
+/// What stands between those and the rows.
+const COLUMNS: &str = "<table>\n<thead>\n\
      <tr><th scope=\"col\">folder</th><th scope=\"col\">name</th><th scope=\"col\">id</th>\
      <th scope=\"col\">type</th><th scope=\"col\">value</th><th scope=\"col\">status</th>\
-     <th scope=\"col\">time</th></tr>\n</thead>\n<tbody>\n";
+     <th scope=\"col\">time</th><th scope=\"col\">age</th></tr>\n</thead>\n<tbody>\n";
 
-/// The row of the variable in no folder, with its latest value: the later of two.
+/// The row of the variable in no folder, with its latest value, the later of two, up to its age.
 const DOOR: &str =
     "<tr><td></td><td>door</td><td><a href=\"/history?node=ns%3D1%3Bs%3Ddoor\">ns=1;s=door</a></td>\
-     <td>Boolean</td><td>true</td><td>Good</td><td>2026-03-01T12:00:09.0000000Z</td></tr>\n";
+     <td>Boolean</td><td>true</td><td>Good</td><td>2026-03-01T12:00:09.0000000Z</td><td>";
 
 /// The row of the one with a long text, up to the text.
 const NOTE: &str = "<tr><td>Hall &lt;1&gt;</td><td>the &quot;note&quot;</td>\
@@ -64,12 +67,15 @@ const NOTE: &str = "<tr><td>Hall &lt;1&gt;</td><td>the &quot;note&quot;</td>\
 /// The row of the one without a value.
 const NEVER: &str = "<tr><td>Hall &lt;1&gt;</td><td>it&#39;s &lt;new&gt;</td>\
      <td><a href=\"/history?node=ns%3D1%3Bs%3Dnever%22%2F%26\">ns=1;s=never&quot;/&amp;</a></td>\
-     <td>Int32</td><td></td><td></td><td></td></tr>\n";
+     <td>Int32</td><td></td><td></td><td></td><td></td></tr>\n";
 
-/// The row of the one with an array.
+/// The row of the one with an array, up to its age.
 const LIST: &str = "<tr><td>Yard &amp; gate</td><td>list</td>\
      <td><a href=\"/history?node=ns%3D1%3Bs%3Da+list\">ns=1;s=a list</a></td>\
-     <td>Double array</td><td>[Double array]</td><td>Good</td><td>2026-03-01T12:00:02.0000000Z</td></tr>\n";
+     <td>Double array</td><td>[Double array]</td><td>Good</td><td>2026-03-01T12:00:02.0000000Z</td><td>";
+
+/// What stands behind an age.
+const ROW_END: &str = "</td></tr>\n";
 
 /// What the page ends by.
 const END: &str = "</tbody>\n</table>\n</body>\n</html>\n";
@@ -166,26 +172,55 @@ fn empty_archive(alloc: Global) -> Result<ListArchive, StoreFault> {
     }
 }
 
-/// What the long text's cell holds, and what stands behind it.
+/// What the long text's cell holds, and what stands behind it, up to its age.
 fn put_long(text: &mut Vec<u8>) -> Result<(), Fail> {
     for _ in 0..200 {
         text.extend_from_slice("\u{e9}".as_bytes())?;
     }
-    text.extend_from_slice(b"...</td><td>Good</td><td>2026-03-01T12:00:01.0000000Z</td></tr>\n")?;
+    text.extend_from_slice(b"...</td><td>Good</td><td>2026-03-01T12:00:01.0000000Z</td><td>")?;
     Ok(())
 }
 
-/// The page.
-fn wanted(alloc: Global) -> Result<Vec<u8>, Fail> {
+/// The page above its rows, with these words for how many connections there are.
+fn wanted_begin(alloc: Global, connections: &str) -> Result<Vec<u8>, Fail> {
     let mut text = Vec::new(alloc);
     text.extend_from_slice(BEGIN.as_bytes())?;
     text.extend_from_slice(STYLE.as_bytes())?;
     text.extend_from_slice(HEADING.as_bytes())?;
+    text.extend_from_slice(connections.as_bytes())?;
+    text.extend_from_slice(COLUMNS.as_bytes())?;
+    Ok(text)
+}
+
+/// How many seconds behind noon a page is asked for, and how old the values of the door, the note and the list are then.
+type Aged = (i64, &'static str, &'static str, &'static str);
+
+static AGES: [Aged; 8] = [
+    (9, "0 s", "8 s", "7 s"),
+    (8, "", "7 s", "6 s"),
+    (61, "52 s", "1 min", "59 s"),
+    (129, "2 min", "2 min", "2 min"),
+    (3602, "59 min", "1 h", "1 h"),
+    (7208, "1 h", "2 h", "2 h"),
+    (86_402, "23 h", "1 d", "1 d"),
+    (31_536_009, "365 d", "365 d", "365 d"),
+];
+
+/// The page with these ages.
+fn wanted(alloc: Global, aged: &Aged) -> Result<Vec<u8>, Fail> {
+    let (_, door, note, list) = *aged;
+    let mut text = wanted_begin(alloc, "<p>3 connections</p>\n")?;
     text.extend_from_slice(DOOR.as_bytes())?;
+    text.extend_from_slice(door.as_bytes())?;
+    text.extend_from_slice(ROW_END.as_bytes())?;
     text.extend_from_slice(NOTE.as_bytes())?;
     put_long(&mut text)?;
+    text.extend_from_slice(note.as_bytes())?;
+    text.extend_from_slice(ROW_END.as_bytes())?;
     text.extend_from_slice(NEVER.as_bytes())?;
     text.extend_from_slice(LIST.as_bytes())?;
+    text.extend_from_slice(list.as_bytes())?;
+    text.extend_from_slice(ROW_END.as_bytes())?;
     text.extend_from_slice(END.as_bytes())?;
     Ok(text)
 }
@@ -204,20 +239,24 @@ fn is_told(alloc: Global, overview: Overview<'_>, page: &[u8]) -> Result<bool, L
     Ok(is_put(alloc, &mut archive, overview, page))
 }
 
-/// Whether it is where the settings are these, and no peer is called.
-fn is_right(alloc: Global) -> Result<bool, Fail> {
+/// Whether it is where the settings are these, no peer is called, there are three connections, and it is asked for at this time.
+fn is_right(alloc: Global, aged: &Aged) -> Result<bool, Fail> {
     let settings = Settings::read(alloc, SETTINGS)?;
-    let page = wanted(alloc)?;
+    let page = wanted(alloc, aged)?;
     let overview = Overview {
         settings: &settings,
         calls: &LastCalls::none(alloc),
+        connections: 3,
+        now: NOON.saturating_add(SECOND.saturating_mul(aged.0)),
     };
     Ok(is_told(alloc, overview, page.as_slice()) == Ok(true))
 }
 
 #[test]
 fn a_plants_page_is_put(rt: HostRuntime) -> Result<(), Fail> {
-    assert!(rt; is_right(rt.alloc())?);
+    for aged in &AGES {
+        assert!(rt; is_right(rt.alloc(), aged)?, "{}", aged.0);
+    }
     Ok(())
 }
 
@@ -283,10 +322,7 @@ static ENDS: [(usize, CallEnd); 4] = [
 
 /// The page of the peers.
 fn wanted_calls(alloc: Global) -> Result<Vec<u8>, Fail> {
-    let mut text = Vec::new(alloc);
-    text.extend_from_slice(BEGIN.as_bytes())?;
-    text.extend_from_slice(STYLE.as_bytes())?;
-    text.extend_from_slice(HEADING.as_bytes())?;
+    let mut text = wanted_begin(alloc, "<p>1 connection</p>\n")?;
     text.extend_from_slice(CALLS.as_bytes())?;
     text.extend_from_slice(END.as_bytes())?;
     Ok(text)
@@ -303,6 +339,8 @@ fn are_called(alloc: Global) -> Result<bool, Fail> {
     let overview = Overview {
         settings: &settings,
         calls: &calls,
+        connections: 1,
+        now: NOON,
     };
     match empty_archive(alloc) {
         Ok(mut archive) => Ok(is_put(alloc, &mut archive, overview, page.as_slice())),

@@ -1,4 +1,5 @@
 use Rattle.std.proofs.Common.{◌++◌, List, ℕ, ap, ◌∙◌}
+use Rattle.web_page.specs.Calls.{overview_of}
 use Rattle.web_page.specs.Front.{front_begin, front_end}
 use Rattle.web_page.proofs.RowLemmas.{four-parts}
 use Rattle.web_page.proofs.front.page_around.Goals as goal
@@ -8,7 +9,7 @@ returns c =
     let peers = c.in_ok-peers.peers.items in (
       peers,
       c.in_ok-peers.ensures,
-      four-parts (front_begin c.args.overview.settings.now) c.args.rows.now peers front_end
+      four-parts (front_begin (overview_of c.args.overview)) c.args.rows.now peers front_end
           c.new-page.result.items c.put_begin.new.out.items c.extend_from_slice.new.self.items
           c.extend_from_slice-2.new.self.items c.extend_from_slice-3.new.self.items
           c.new-page.ensures.items c.in_ok-put_begin.ensures

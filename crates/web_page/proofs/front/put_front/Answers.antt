@@ -13,22 +13,23 @@ pub returns-in-Ok-put_whole-clause-answers : goal.returns-in-Ok-put_whole-clause
 returns-in-Ok-put_whole-clause-answers g c =
     let state = g.A.Archive.state in
     let overview = overview_of c.args.overview in
-    let space = c.space.result.now in
+    let space = overview.settings.space in
     let rows = c.put_table.new.out.items in
     let empty = c.new-rows.result.items in
     reads-as (state c.args.archive.now) (state c.put_table.new.archive) []
-    (λ (R : Content). IsPut empty rows (AreRows space R (listed_variables space)))
+    (λ (R : Content). IsPut empty rows (AreRows space overview.now R (listed_variables space)))
     (λ (R : Content). IsPut c.args.out.now.items c.put_whole.new.out.items (IsFront overview R))
-    (λ R p. front-put overview space R empty rows c.as_slice.result.now c.args.out.now.items
-    c.put_whole.new.out.items c.new-rows.ensures.items c.space.ensures c.as_slice.ensures.value p
+    (λ R p. front-put overview R empty rows c.as_slice.result.now c.args.out.now.items
+    c.put_whole.new.out.items c.new-rows.ensures.items c.as_slice.ensures.value p
     c.in-Ok-put_whole.ensures.put) c.in-Ok.ensures.answers
 
 pub returns-clause-answers : goal.returns-clause-answers
 returns-clause-answers g c =
     let state = g.A.Archive.state in
-    let space = c.space.result.now in
+    let overview = overview_of c.args.overview in
+    let space = overview.settings.space in
     let empty = c.new-rows.result.items in
     reads-as (state c.args.archive.now) (state c.put_table.new.archive) []
     (λ (R : Content). IsPut empty c.put_table.new.out.items
-    (AreRows space R (listed_variables space)))
+    (AreRows space overview.now R (listed_variables space)))
     (λ R. ⊤) (λ R p. tt) c.in-Ok.ensures.answers

@@ -9,6 +9,6 @@ abbrev pub invariant-loop-one : goal.invariant-loop-one
 invariant-loop-one g l = record {
   told : Reads (g.A.Archive.state l.fn.archive) (g.A.Archive.state l.archive) []
       (λ R. IsVectorOf l.within R → IsPut l.initial.out.items l.out.items
-      (AreRows l.space R (take l.one-index l.listed)));
+      (AreRows l.overview.settings.now.space l.overview.now R (take l.one-index l.listed)));
   asked : IsAskedWithin 1 (g.A.Archive.asked l.fn.archive) (g.A.Archive.asked l.archive);
 }

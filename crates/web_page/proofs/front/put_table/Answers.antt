@@ -16,7 +16,8 @@ returns-clause-answers g c =
     let state = g.A.Archive.state in
     let within = c.in-Ok.within in
     rows-told c.put_listed.result (state c.args.archive.now) (state c.vector.new.self)
-    (state c.put_listed.new.archive) c.args.space.now within c.args.out.now.items
+    (state c.put_listed.new.archive) c.args.overview.settings.now.space c.args.overview.now within
+    c.args.out.now.items
     c.put_listed.new.out.items
     (reads-answer (state c.args.archive.now) (state c.vector.new.self)
     (λ (R : Content) (v : List ℕ). IsVectorOf v R) within c.in-Ok.ensures.asks)

@@ -13,14 +13,15 @@ returns-in-Ok-put_told-clause-answers g c =
     let state = g.A.Archive.state in
     let old = c.args.out.now.items in
     let new = c.put_told.new.out.items in
-    let space = c.args.space.now in
+    let space = c.args.overview.settings.now.space in
+    let now = c.args.overview.now in
     let one = c.args.listed.now in
     reads-as (state c.args.archive.now) (state c.latest_of.new.archive) []
     (λ (R : Content). IsVectorOf c.args.within.now R
     → slice_get c.in-Ok.values.items 0 ≡ latest_value R one.node)
     (λ (R : Content). IsVectorOf c.args.within.now R
-    → IsPut old new (IsVariableRow space R one))
-    (λ R p same. subst (λ (h : Option Held). IsPut old new (IsRowOf space one h))
+    → IsPut old new (IsVariableRow space now R one))
+    (λ R p same. subst (λ (h : Option Held). IsPut old new (IsRowOf space now one h))
     (ap (λ l. slice_get l 0) c.as_slice.ensures.value ∙ p same) c.in-Ok-put_told.ensures)
     c.in-Ok.ensures.answers
 

@@ -1,4 +1,4 @@
-use Rattle.std.proofs.Common.{◌≡◌, arith, List, ℕ, ap, ◌∙◌}
+use Rattle.std.proofs.Common.{arith, ap, ◌∙◌}
 use Rattle.web_page.proofs.CallLemmas.{uncalled-more}
 use Rattle.web_page.proofs.calls.LastCalls.new.Goals as goal
 
