@@ -1,4 +1,5 @@
 pub mod Alone
+pub mod Asked
 pub mod ClientsDoor
 pub mod Framing
 pub mod Spelled

@@ -17,11 +17,11 @@ use Rattle.ua_settings.specs.declared.peers.PeerCall.{PeerCall}
 use Rattle.conversation.specs.OtherEnds.{ConversationEnding, moved_by, none_moved}
 use Rattle.conversation.specs.Events.{LogEvent, Telling, Logs}
 use Rattle.conversation.specs.Answering.{AnswersFirst}
-use Rattle.conversation.specs.Closing.{TellsCallOf, TellsEnd, TellsEndOf, TellsTurn, TellsTurnOf, with_now, call_outcome, is_slow}
+use Rattle.conversation.specs.Closing.{TellsCallOf, TellsEnd, TellsEndOf, TellsTurn, TellsTurnOf, with_connection, without_connection, with_now, call_outcome, is_slow}
 use Rattle.conversation.specs.Starting.{AsksPeer, BeginsBy, StartsCall}
 use Rattle.conversation.specs.Moves.{OnlyGrows, Moves}
 use Rattle.conversation.specs.Conversing.{behavior_over}
-use Rattle.conversation.specs.Growing.{transitions_grow, talks_grow, greets_grow, grows_none, grows_more}
+use Rattle.conversation.specs.Growing.{transitions_grow, talks_grow, greets_grow, own_grows, grows_none, grows_more}
 
 -- a frame that asks
 ask_grows : (a b : Store) (made : List ℕ) (result : Result (Unit {0}) ExchangeFault)
@@ -54,12 +54,12 @@ module _ {A C L : Type 0} (state : A → Store) where
       (a.settings, transitions_grow _ _ _ _ a.advances)
   answer_moves gave told stay v w (Browser web) new made ending a =
       (a.settings, transitions_grow _ _ _ _ a.answers.1.1)
-  answer_moves gave told stay v w (Peer peer) new made ending (inl a) =
-      (a.settings, talks_grow _ _ _ _ _ _ _ _ a.talks)
+  answer_moves gave told stay v w (Peer peer) new made ending (inl a) = (
+    a.settings,
+    grows_more _ _ _ (own_grows state _ _ a.between _ a.asks) (talks_grow _ _ _ _ _ _ _ _ a.talks),
+  )
   answer_moves gave told stay v w (Peer peer) new made ending (inr a) =
-      subst (λ s. (s.settings ≡ v.server.settings)
-      × OnlyGrows (state v.server.replica.archive) (state s.replica.archive)) (sym a.server)
-      (none_moves v)
+      (a.settings, own_grows state _ _ _ a.asked a.asks)
 
   -- what is told
   log_moves : (told : Telling L) (event : LogEvent) (v w : World A C L) → Logs told event v w
@@ -102,7 +102,7 @@ module _ {A C L : Type 0} (state : A → Store) where
       by : (party : Party) → TellsEndOf gave told stay v other ending w party → Moves state v w
       by (Called callee) tells =
           call_moves gave told callee v w (call_outcome ending) (moved_by other) _ tells
-      by (Accepted origin) logs = log_moves told _ v w logs
+      by (Accepted origin) logs = log_moves told _ (without_connection v) w logs
 
   -- how long a turn took
   turn_told : (told : Telling L) (v : World A C L) (longest : ℕ) (w : World A C L) (slow : Bool)
@@ -123,7 +123,7 @@ module _ {A C L : Type 0} (state : A → Store) where
     none = none_moves;
     more = more_moves;
     passes = λ v w now longest_turn passed. pass_moves told v now longest_turn w passed;
-    begins = λ origin v w other begun. log_moves told _ v w begun.1;
+    begins = λ origin v w other begun. log_moves told _ (with_connection v) w begun.1;
     answers = λ stay v w old new made ending a.
         answer_moves gave told stay v w old new made ending a;
     closes = λ stay v w other ending closed. end_moves gave told stay v w other ending closed;

@@ -1,10 +1,11 @@
 -- What stands first on a connection, and what it is answered.
-use Rattle.std.specs.Prelude.{◌≡◌, ◌⊎◌, ℕ, ℤ, Bool, true, false, ◌+◌, ◌≤◌, List, [], Option, None, Some, Result, Ok, Err}
+use Rattle.std.specs.Prelude.{◌≡◌, ◌⊎◌, ℕ, ℤ, Bool, true, false, ◌+◌, ◌≤◌, List, [], ◌∷◌, Option, None, Some, Result, Ok, Err}
 use Rattle.std.specs.Option.{option_map}
 use Rattle.std.specs.Result.{result_map_both}
 use Rattle.archive.specs.Store.{Store}
 use Rattle.exchange.specs.Dialogs.{DialogState, party_of}
 use Rattle.exchange.specs.Frames.{frame_header}
+use Rattle.archive.specs.declared.fault.StoreFault.{StoreFault}
 use Rattle.counted_io.specs.declared.fault.ServeFault.{ServeFault}
 use Rattle.counted_io.specs.declared.fault.ServeFault.TheVariants.{OutOfMemory}
 use Rattle.ua_connection.specs.Environments.{Environment}
@@ -17,12 +18,13 @@ use Rattle.conversation.specs.declared.other_end.PeerDialog.{PeerDialog}
 use Rattle.conversation.specs.declared.other_end.OtherEnd.{OtherEnd}
 use Rattle.conversation.specs.declared.other_end.OtherEnd.TheVariants.{Client, Peer, Browser, Stranger, Over}
 use Rattle.conversation.specs.declared.world.World.{World}
-use Rattle.conversation.specs.Admitting.{IsTimed, IsAdmitted, Refuses}
+use Rattle.conversation.specs.Admitting.{IsTimed, is_own_asked, AsksOwn, restoring_with, restoring_behind, restoring_unless, own_bound, IsAdmitted, Refuses}
 use Rattle.multiplex.specs.declared.stay.Stay.{Stay}
 use Rattle.conversation.specs.Events.{Telling, Denied, audited_by, LogsAudit}
 use Rattle.conversation.specs.Logins.{after_audit, after_step, is_denied, unheld}
 use Rattle.conversation.specs.OtherEnds.{ConversationEnding, none_moved, peer_at, unless_over}
 use Rattle.std.specs.declared.alloc.AllocError.{AllocError}
+use Rattle.web_page.specs.Calls.{Overview}
 use Rattle.web_connection.specs.declared.step.WebStep.{WebStep}
 use Rattle.web_connection.specs.declared.step.WebStep.TheVariants.{Ended, Denied as WebDenied}
 use Rattle.web_connection.specs.Answers.{WebState, AnswersWeb, NeedsRequest}
@@ -61,6 +63,9 @@ pub record AnswersClient {A C L : Type 0} (state : A → Store) (gave : C → Li
   pub from : w.from ≡ v.from
   pub now : w.now ≡ v.now
   pub calls : w.calls ≡ v.calls
+  pub connections : w.connections ≡ v.connections
+  pub restoring : w.restoring
+      ≡ restoring_unless v.restoring (audited_by link.client.sessions later.client.sessions)
   pub advances : Advances v.server.settings (state v.server.replica.archive)
       (state w.server.replica.archive) link used made ends later
   pub ended_so : ending ≡ client_ending ends
@@ -74,12 +79,15 @@ Tells said ends made ending =
     ⊎ ((made ≡ []) × (ending ≡ Some (Err OutOfMemory)))
 
 -- the frame that stood first in a peer's dialog, if it was whole, was answered over an archive,
--- since its records are taken; what the server is set to stays, and nothing is told
+-- since its records are taken; what the server is set to stays, and nothing is told. Between the
+-- two the archive may have been asked how many records of its own number it holds
 pub record AnswersPeer {A C L : Type 0} (state : A → Store) (gave : C → List ℤ → C → Type 0)
     (v : World A C L) (peer : PeerDialog) (made : List ℕ) (ending : Option ConversationEnding)
     (w : World A C L) (next : OtherEnd) : Type 0 where
   pub readings : List ℤ
   pub time : ℤ
+  pub between : A
+  pub held : Option ℕ
   pub said : List ℕ
   pub rest : List ℕ
   pub ends : Option (Result PeerEnded ServeFault)
@@ -92,25 +100,31 @@ pub record AnswersPeer {A C L : Type 0} (state : A → Store) (gave : C → List
   pub from : w.from ≡ v.from
   pub now : w.now ≡ v.now
   pub calls : w.calls ≡ v.calls
-  pub admitted : IsAdmitted v.server.settings time (party_of (state v.server.replica.archive))
-      peer.frames.waiting
-  pub talks : Talks peer.dialog (state v.server.replica.archive) (state w.server.replica.archive)
+  pub connections : w.connections ≡ v.connections
+  pub restoring : w.restoring ≡ restoring_with v.restoring held
+  pub asks : AsksOwn state (is_own_asked v.server.settings peer.frames.waiting)
+      v.server.replica.archive between (Ok held)
+  pub admitted : IsAdmitted v.server.settings time
+      (own_bound (restoring_with v.restoring held) (state between).own held)
+      (party_of (state between)) peer.frames.waiting
+  pub talks : Talks peer.dialog (state between) (state w.server.replica.archive)
       peer.frames.waiting said rest ends last
   pub one : ends ≡ None → last.taken ≤ peer.dialog.taken + 1
   pub tells : Tells said ends made ending
   pub leaves : next ≡ unless_over ending (Peer (peer_at last rest))
 
 -- the records of the frame that stood first in a peer's dialog aren't taken, or memory to tell that
--- was wanting, and the settings don't take all: the peer is told, the connection is over, and what
--- is held stays
+-- was wanting, or the archive met a fault as it was asked: the peer is told, the connection is
+-- over, and what is held stays
 pub record RefusesPeer {A C L : Type 0} (state : A → Store) (gave : C → List ℤ → C → Type 0)
     (v : World A C L) (peer : PeerDialog) (made : List ℕ) (ending : Option ConversationEnding)
     (w : World A C L) (next : OtherEnd) : Type 0 where
   pub readings : List ℤ
   pub time : ℤ
+  pub asked : Result (Option ℕ) StoreFault
   pub said : List ℕ
   pub ends : Option (Result PeerEnded ServeFault)
-  pub server : w.server ≡ v.server
+  pub settings : w.server.settings ≡ v.server.settings
   pub clock : gave v.clock readings w.clock
   pub timed : IsTimed v.server.settings readings time
   pub log : w.log ≡ v.log
@@ -118,8 +132,12 @@ pub record RefusesPeer {A C L : Type 0} (state : A → Store) (gave : C → List
   pub from : w.from ≡ v.from
   pub now : w.now ≡ v.now
   pub calls : w.calls ≡ v.calls
-  pub refuses : Refuses v.server.settings time (party_of (state v.server.replica.archive))
-      peer.frames.waiting said ends
+  pub connections : w.connections ≡ v.connections
+  pub restoring : w.restoring ≡ restoring_behind v.restoring asked
+  pub asks : AsksOwn state (is_own_asked v.server.settings peer.frames.waiting)
+      v.server.replica.archive w.server.replica.archive asked
+  pub refuses : Refuses v.server.settings time v.restoring
+      (party_of (state w.server.replica.archive)) peer.frames.waiting asked said ends
   pub tells : Tells said ends made ending
   pub leaves : next ≡ unless_over ending (Peer peer)
 
@@ -144,22 +162,35 @@ abbrev pub LogsDenial : {L : Type 0} → Telling L → Stay → (denied : Bool) 
 LogsDenial told stay true old new = told old (Denied stay) new
 LogsDenial told stay false old new = new ≡ old
 
+-- what pages tell of a server at this time
+abbrev pub overview_at : {A C L : Type 0} → World A C L → (time : ℤ) → Overview
+overview_at v time = record {
+  settings = v.server.settings;
+  calls = v.calls;
+  connections = v.connections;
+  now = time;
+}
+
 -- what stood first on a browser's connection was answered, by one step over an archive, which stays
--- as it is, and by the last calls of peers; that it was denied what it asked for is told
-pub record AnswersBrowser {A C L : Type 0} (state : A → Store) (told : Telling L) (stay : Stay)
-    (v : World A C L) (web : WebState) (made : List ℕ) (ending : Option ConversationEnding)
-    (w : World A C L) (next : OtherEnd) : Type 0 where
+-- as it is, by the last calls of peers, and by the time; that it was denied what it asked for is
+-- told
+pub record AnswersBrowser {A C L : Type 0} (state : A → Store) (gave : C → List ℤ → C → Type 0)
+    (told : Telling L) (stay : Stay) (v : World A C L) (web : WebState) (made : List ℕ)
+    (ending : Option ConversationEnding) (w : World A C L) (next : OtherEnd) : Type 0 where
+  pub time : ℤ
   pub step : Result WebStep AllocError
   pub later : WebState
   pub settings : w.server.settings ≡ v.server.settings
-  pub clock : w.clock ≡ v.clock
+  pub clock : gave v.clock (time ∷ []) w.clock
   pub log : LogsDenial told stay (is_denied step) v.log w.log
   pub logins : w.logins ≡ after_step v.server.settings.logins stay v.now step v.logins
   pub from : w.from ≡ v.from
   pub now : w.now ≡ v.now
   pub calls : w.calls ≡ v.calls
-  pub answers : AnswersWeb (record { settings = v.server.settings; calls = v.calls })
-      (state v.server.replica.archive) (state w.server.replica.archive) web made step later
+  pub connections : w.connections ≡ v.connections
+  pub restoring : w.restoring ≡ v.restoring
+  pub answers : AnswersWeb (overview_at v time) (state v.server.replica.archive)
+      (state w.server.replica.archive) web made step later
   pub ended_so : ending ≡ web_ending step
   pub leaves : next ≡ unless_over ending (Browser later)
 
@@ -178,7 +209,7 @@ abbrev pub AnswersFirst : {A C L : Type 0} → (A → Store) → (C → List ℤ
 AnswersFirst state gave told stay v other made ending w new = elim other [
   | Client link ↦ AnswersClient state gave told stay v link made ending w new
   | Peer peer ↦ MeetsPeer state gave v peer made ending w new
-  | Browser web ↦ AnswersBrowser state told stay v web made ending w new
+  | Browser web ↦ AnswersBrowser state gave told stay v web made ending w new
   | Stranger ↦ TurnsAway v made ending w new
   | same ↦ (made ≡ []) × (ending ≡ None) × (w ≡ v) × (new ≡ same)
 ]

@@ -1,5 +1,5 @@
 -- What is told of connections: how each ended, and that a turn of one took long.
-use Rattle.std.specs.Prelude.{◌≡◌, ℕ, ℤ, nat_le, Bool, true, false, List, [], ◌∷◌, Option, None, Some, Result, Ok, Err, slice_get}
+use Rattle.std.specs.Prelude.{◌≡◌, ℕ, ℤ, ◌-◌, nat_le, Bool, true, false, List, [], ◌∷◌, Option, None, Some, Result, Ok, Err, slice_get}
 use Rattle.std.specs.Option.{option_map_or}
 use Rattle.multiplex.specs.declared.handler.SlotEnd.{SlotEnd}
 use Rattle.multiplex.specs.declared.handler.SlotEnd.TheVariants.{Finished, EndOfInput, ReadFailed, WriteFailed, IdleTimeout, Displaced}
@@ -8,6 +8,7 @@ use Rattle.multiplex.specs.declared.stay.Party.{Party}
 use Rattle.multiplex.specs.declared.stay.Party.TheVariants.{Accepted, Called}
 use Rattle.exchange.specs.declared.fault.ExchangeFault.TheVariants.{Frame}
 use Rattle.exchange.specs.Fault.{exchange_number}
+use Rattle.counted_io.specs.Bytes.{counted}
 use Rattle.counted_io.specs.Fault.{serve_fault_number}
 use Rattle.counted_io.specs.declared.fault.ServeFault.{ServeFault}
 use Rattle.counted_io.specs.declared.fault.ServeFault.TheVariants.{Read, Write}
@@ -106,13 +107,23 @@ abbrev pub parting_of : Stay → (at : ℕ) → SlotEnd ConversationEnding → S
 parting_of stay at ending moved =
     record { stay = stay; at = at; ending = ending; moved = moved }
 
--- it was told how a connection of this party ended, and of a call how that ended
+-- one connection more is counted
+abbrev pub with_connection : {A C L : Type 0} → World A C L → World A C L
+with_connection v = record v { connections = counted v.connections }
+
+-- one less is
+abbrev pub without_connection : {A C L : Type 0} → World A C L → World A C L
+without_connection v = record v { connections = v.connections - 1 }
+
+-- it was told how a connection of this party ended, which isn't counted any more, and of a call how
+-- that ended
 abbrev pub TellsEndOf : {A C L : Type 0} → (C → List ℤ → C → Type 0) → Telling L → Stay
     → World A C L → OtherEnd → SlotEnd ConversationEnding → World A C L → Party → Type 0
 TellsEndOf gave told stay v other ending w (Called callee) =
     TellsCall gave told v callee (call_outcome ending) (moved_by other) w
 TellsEndOf gave told stay v other ending w (Accepted origin) =
-    Logs told (Parted (parting_of stay v.now ending (moved_by other))) v w
+    Logs told (Parted (parting_of stay v.now ending (moved_by other))) (without_connection v)
+    w
 
 -- the same of a connection of which this is known
 abbrev pub TellsEnd : {A C L : Type 0} → (C → List ℤ → C → Type 0) → Telling L → Stay

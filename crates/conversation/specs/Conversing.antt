@@ -1,5 +1,5 @@
 -- What is said on a connection, as the loop over many of them knows it.
-use Rattle.std.specs.Prelude.{◌≡◌, ◌&&◌, ℤ, List, [], Bool, Option, None, if◌then◌else◌}
+use Rattle.std.specs.Prelude.{◌≡◌, ◌&&◌, ℤ, List, [], Bool, false, Option, None, if◌then◌else◌}
 use Rattle.archive.specs.Store.{Store}
 use Rattle.multiplex.specs.Behavior.{Behavior}
 use Rattle.multiplex.specs.declared.stay.Origin.{Origin}
@@ -13,7 +13,7 @@ use Rattle.conversation.specs.Doors.{door_of_listener, is_stranger}
 use Rattle.conversation.specs.OtherEnds.{ConversationEnding, is_established}
 use Rattle.conversation.specs.Receiving.{TakesBytes}
 use Rattle.conversation.specs.Answering.{IsIncomplete, AnswersFirst}
-use Rattle.conversation.specs.Closing.{TellsEnd, TellsTurn, with_now}
+use Rattle.conversation.specs.Closing.{TellsEnd, TellsTurn, with_connection, with_now}
 use Rattle.conversation.specs.Events.{Telling, Logs, Connected, AcceptFailed}
 use Rattle.conversation.specs.Logins.{delay_of, no_logins}
 use Rattle.historian.specs.declared.server.Server.{Server}
@@ -28,8 +28,8 @@ first_end from origin =
       | door ↦ Unknown door []
     ]
 
--- what connections share that haven't begun: peers are taken from everywhere, no refused login is
--- kept, and no last call
+-- what connections share that haven't begun: peers are taken from everywhere, no refused login and
+-- no last call is kept, no connection is counted, and nothing comes back
 abbrev pub new_world : {A C L : Type 0} → Server A → C → L → World A C L
 new_world server clock log = record {
   server = server;
@@ -39,6 +39,8 @@ new_world server clock log = record {
   now = 0;
   logins = no_logins 0;
   calls = [];
+  connections = 0;
+  restoring = false;
 }
 
 -- the store is broken, and the settings say that nobody is served then
@@ -47,15 +49,15 @@ serves_nobody state w =
     w.server.settings.ends_broken && (state w.server.replica.archive).broken
 
 -- a connection begins with a stranger, with a browser, or with nobody known at its other end, at
--- the door of its listener, which is told, or is a call of a peer; answers to logins may wait; what
--- time it is is kept, and a long turn is told
+-- the door of its listener, which is told and counted, or is a call of a peer; answers to logins
+-- may wait; what time it is is kept, and a long turn is told
 abbrev pub behavior_over : {A C L : Type 0} → (A → Store) → (C → List ℤ → C → Type 0)
     → Telling L → Behavior OtherEnd (World A C L) ConversationEnding
 behavior_over state gave told = record {
   passes = λ v now longest_turn w. TellsTurn told (with_now v now) longest_turn w;
   is_over = serves_nobody state;
   begins = λ origin v other w.
-      (other ≡ first_end v.from origin) × Logs told (Connected origin) v w;
+      (other ≡ first_end v.from origin) × Logs told (Connected origin) (with_connection v) w;
   calls = StartsCall state gave told;
   receives = TakesBytes;
   answers = AnswersFirst state gave told;

@@ -1,12 +1,13 @@
 -- Lemmas: by an answer what is held only grows. A trait's law may name only what stands here.
-use Rattle.std.proofs.Common.{◌≡◌, ℕ, List, [], ◌∷◌, ◌++◌, take, Option, Result, refl, sym, ◌∙◌, subst, inl, inr}
+use Rattle.std.proofs.Common.{◌≡◌, ℕ, Bool, true, false, List, [], ◌∷◌, ◌++◌, take, Option, Result, refl, sym, ◌∙◌, subst, inl, inr}
 use Rattle.records.specs.Lists.{Has}
 use Rattle.records.specs.Contents.{Content, IsWithin, put}
 use Rattle.records.proofs.PutLemmas.{has-put}
 use Rattle.records.proofs.PartLemmas.{batch_above}
 use Rattle.records.specs.declared.record.Record.{Record}
 use Rattle.archive.specs.Growth.{GrowsBy}
-use Rattle.archive.specs.Store.{Store, StepResult, IsLeft}
+use Rattle.archive.specs.declared.fault.StoreFault.{StoreFault}
+use Rattle.archive.specs.Store.{Store, StepResult, Asks, IsLeft}
 use Rattle.archive.specs.Steps.{Transitions}
 use Rattle.archive.proofs.Acting.{left-stays}
 use Rattle.archive.proofs.Calls.{passes-none, passes-then}
@@ -18,6 +19,7 @@ use Rattle.exchange.proofs.LeftLemmas.{answered_left}
 use Rattle.counted_io.specs.declared.fault.ServeFault.{ServeFault}
 use Rattle.ua_peers.specs.declared.peers.PeerEnded.{PeerEnded}
 use Rattle.ua_peers.specs.Peers.{Taken, Side, side_of, side_after, after_all, IsLeftBy, Talks}
+use Rattle.conversation.specs.Admitting.{AsksOwn}
 use Rattle.conversation.specs.Moves.{OnlyGrows}
 
 -- the same content in other words
@@ -81,6 +83,24 @@ greets_grow a b out written result greets = record {
   grows = λ honest S left.
       (S, left-stays a b _ S greets.stays greets.passes honest left, λ r h. h);
 }
+
+-- what is asked of an archive
+asks_grow : {X : Type 0} (a b : Store) (result : Result X StoreFault) (P : X → Type 0)
+    → Asks a b result P → OnlyGrows a b
+asks_grow a b result P asked = record {
+  faults = _;
+  passes = asked.leaves.passes;
+  grows = λ honest S left.
+      (S, left-stays a b _ S asked.stays asked.leaves.passes honest left, λ r h. h);
+}
+
+-- how many records of its own it holds
+pub own_grows : {A : Type 0} (state : A → Store) (asks : Bool) (v w : A)
+    (result : Result (Option ℕ) StoreFault) → AsksOwn state asks v w result
+    → OnlyGrows (state v) (state w)
+own_grows state true v w result asked = asks_grow (state v) (state w) result _ asked
+own_grows state false v w result same =
+    subst (λ u. OnlyGrows (state v) (state u)) (sym same.0) (grows_none (state v))
 
 -- a client's step
 pub transitions_grow : (a b : Store) (used : List StepResult)

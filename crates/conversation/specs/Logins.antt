@@ -1,5 +1,5 @@
 -- How many logins were refused of late, and which answers wait for that.
-use Rattle.std.specs.Prelude.{ℕ, List, ◌+◌, ◌-◌, ◌==◌, nat_eq, nat_le, nat_lt, ◌&&◌, Bool, true, false, filter, length, set, replicate, Option, None, Some, is_some, Result, Ok, Err, if◌then◌else◌}
+use Rattle.std.specs.Prelude.{ℕ, List, ◌+◌, ◌-◌, ◌==◌, nat_eq, nat_le, nat_lt, ◌&&◌, Bool, true, false, filter, length, set, replicate, Option, None, Some, is_some, Result, Ok, if◌then◌else◌}
 use Rattle.std.specs.declared.alloc.AllocError.{AllocError}
 use Rattle.std.specs.Cmp.Lexicographic.{pointwise}
 use Rattle.std.specs.Option.{option_map, option_map_or}

@@ -43,6 +43,8 @@ pub record StartsCall {A C L : Type 0} (state : A → Store) (gave : C → List 
   pub now : between.now ≡ v.now
   pub logins : between.logins ≡ v.logins
   pub calls : between.calls ≡ v.calls
+  pub connections : between.connections ≡ v.connections
+  pub restoring : between.restoring ≡ v.restoring
   pub asks : AsksPeer (state v.server.replica.archive) (state between.server.replica.archive) made
       result
   pub begins : BeginsBy gave told callee between other w result

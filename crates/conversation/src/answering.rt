@@ -1,6 +1,6 @@
 //! What stands first in what came, and its answer.
 
-ghost use Rattle.std.specs.Prelude.{◌≡◌, ◌⊎◌, ◌++◌, ◌+◌, ◌≤◌, List, ℕ, [], true, false, None, Ok, Result};
+ghost use Rattle.std.specs.Prelude.{◌≡◌, ◌⊎◌, ◌++◌, ◌+◌, ◌≤◌, List, ℕ, [], true, false, Option, None, Ok, Result};
 ghost use Rattle.multiplex.specs.Progress.{end_in};
 ghost use Rattle.multiplex.specs.declared.handler.Progress.TheVariants.{NeedsMore as Lacks};
 ghost use Rattle.exchange.specs.Frames.{frame_header};
@@ -12,7 +12,7 @@ ghost use Rattle.exchange.specs.Dialogs.{party_of, TellsFault};
 ghost use Rattle.exchange.specs.declared.fault.ExchangeFault.{ExchangeFault as Fault};
 ghost use Rattle.exchange.specs.declared.message.State.{State as Standing};
 ghost use Rattle.ua_peers.specs.Peers.{ended_as, is_silent};
-ghost use Rattle.conversation.specs.Admitting.{IsAdmitted, Refuses};
+ghost use Rattle.conversation.specs.Admitting.{is_own_asked, AsksOwn, restoring_with, restoring_behind, own_bound, IsAdmitted, Refuses};
 ghost use Rattle.conversation.specs.OtherEnds.{unless_over, is_established, IsUsable};
 ghost use Rattle.conversation.specs.Answering.{IsIncomplete, client_ending, peer_ending, web_ending, AnswersClient, MeetsPeer, AnswersBrowser, LogsDenial, AnswersFirst};
 ghost use Rattle.conversation.specs.Events.{audited_by, LogsAudit};
@@ -22,13 +22,15 @@ ghost use Rattle.conversation.specs.declared.other_end.OtherEnd.TheVariants.{Cli
 ghost use Rattle.web_connection.specs.Answers.{NeedsRequest};
 ghost use Rattle.web_connection.specs.declared.step.WebStep.TheVariants.{NeedsInput as NeedsBytesFirst};
 
-use crate::admitting::{admission_at, time_at};
+use crate::admitting::{
+    admission_at, ask_own, own_bound, restoring_unless, restoring_with, time_at,
+};
 use crate::ended::Ended;
 use crate::log::Log;
 use crate::logins::is_denied;
 use crate::other_end::{NONE_MOVED, OtherEnd, PeerDialog, moved_by};
 use crate::world::World;
-use archive::Archive;
+use archive::{Archive, StoreFault};
 use counted_io::ServeFault;
 use exchange::{ExchangeFault, State, tell_fault};
 use historian::Server;
@@ -93,6 +95,7 @@ fn answer_client<A: Archive, C: Clock, L: Log>(
     let event = audited_by(connection, before);
     let limit = world.server.settings.logins();
     world.logins.note_audit(limit, stay, world.now, event);
+    world.restoring = restoring_unless(world.restoring, event);
     tell_audit(&mut world.log, stay, event);
     client_progress(step)
 }
@@ -173,31 +176,47 @@ fn refuse_frame(
 }
 
 /// Answers the frame that stands first in a peer's dialog, if it is whole, where its records are taken at this time; else the
-/// peer is told why, and all stays. What is said is appended to `said`, which is empty.
+/// peer is told why, and what is held stays. Where a door names no replicas the archive is asked first how many records of its
+/// own number it holds; whether these come back is noted. What is said is appended to `said`, which is empty.
 fn answer_frame<A: Archive>(
     server: &mut Server<A>,
     time: i64,
+    restoring: &mut bool,
     peer: &mut PeerDialog,
     said: &mut Vec<u8>,
 ) -> Progress<Result<Ended, ServeFault>>
     requires sound { IsUsable (Peer peer.old) }
     requires empty { said.old.items ≡ [] }
     ensures answers { (ends : _) × (end_in result ≡ peer_ending ends)
-        × ((IsAdmitted server.old.settings time (party_of (A.state server.old.replica.archive))
-        peer.old.frames.waiting
-        × Talks peer.old.dialog (A.state server.old.replica.archive)
-        (A.state server.new.replica.archive) peer.old.frames.waiting said.new.items
-        peer.new.frames.waiting ends peer.new.dialog)
-        ⊎ (Refuses server.old.settings time (party_of (A.state server.old.replica.archive))
-        peer.old.frames.waiting said.new.items ends × (server.new ≡ server.old)
-        × (peer.new ≡ peer.old))) }
+        × (((between : A) × (held : Option ℕ)
+        × AsksOwn A.state (is_own_asked server.old.settings peer.old.frames.waiting)
+        server.old.replica.archive between (Ok held)
+        × IsAdmitted server.old.settings time
+        (own_bound (restoring_with restoring.old held) (A.state between).own held)
+        (party_of (A.state between)) peer.old.frames.waiting
+        × Talks peer.old.dialog (A.state between) (A.state server.new.replica.archive)
+        peer.old.frames.waiting said.new.items peer.new.frames.waiting ends peer.new.dialog
+        × (restoring.new ≡ restoring_with restoring.old held))
+        ⊎ ((asked : Result (Option ℕ) StoreFault)
+        × AsksOwn A.state (is_own_asked server.old.settings peer.old.frames.waiting)
+        server.old.replica.archive server.new.replica.archive asked
+        × Refuses server.old.settings time restoring.old
+        (party_of (A.state server.new.replica.archive)) peer.old.frames.waiting asked
+        said.new.items ends
+        × (restoring.new ≡ restoring_behind restoring.old asked) × (peer.new ≡ peer.old))) }
     ensures settings { server.new.settings ≡ server.old.settings }
     ensures goes { end_in result ≡ None
         → IsUsable (Peer peer.new) × (peer.new.dialog.taken ≤ peer.old.dialog.taken + 1) }
     ensures lacks { result ≡ Lacks
         → (said.new.items ≡ []) × (frame_header peer.new.frames.waiting ≡ Ok None) }
 {
-    let admission = admission_at(&server.settings, time);
+    let held = match ask_own(server, &peer.frames) {
+        Ok(held) => held,
+        Err(met) => return refuse_frame(server.alloc, ExchangeFault::Store(met), said),
+    };
+    *restoring = restoring_with(*restoring, held);
+    let bound = own_bound(*restoring, server.replica.archive.number(), held);
+    let admission = admission_at(&server.settings, time, bound);
     match server
         .replica
         .judge_first(server.alloc, &admission, &peer.frames)
@@ -239,7 +258,13 @@ fn answer_peer<A: Archive, C: Clock, L>(
     world.logins.release();
     let time = time_at(&world.server.settings, &mut world.clock);
     let mut said = Vec::new(world.server.alloc);
-    let progress = answer_frame(&mut world.server, time, peer, &mut said);
+    let progress = answer_frame(
+        &mut world.server,
+        time,
+        &mut world.restoring,
+        peer,
+        &mut said,
+    );
     if append(said, out) {
         progress
     } else {
@@ -269,22 +294,25 @@ fn tell_denial<L: Log>(log: &mut L, stay: Stay, denied: bool)
     }
 }
 
-/// Answers what stands first on a browser's connection, if it is whole. That it was denied what it asked for is told.
-fn answer_browser<A: Archive, C, L: Log>(
+/// Answers what stands first on a browser's connection, if it is whole. That it was denied what it asked for is told. The clock is
+/// read once.
+fn answer_browser<A: Archive, C: Clock, L: Log>(
     stay: Stay,
     world: &mut World<A, C, L>,
     web: &mut WebConnection,
     out: &mut Vec<u8>,
 ) -> Progress<Result<Ended, ServeFault>>
     ensures answers { (made : List ℕ) × (out.new.items ≡ out.old.items ++ made)
-        × AnswersBrowser A.state L.told stay world.old web.old made (end_in result) world.new
-        (unless_over (end_in result) (Browser web.new)) }
+        × AnswersBrowser A.state C.gave L.told stay world.old web.old made (end_in result)
+        world.new (unless_over (end_in result) (Browser web.new)) }
     ensures lacks { result ≡ Lacks → (out.new.items ≡ out.old.items) × NeedsRequest web.new }
 {
     let server = &mut world.server;
     let overview = Overview {
         settings: &server.settings,
         calls: &world.calls,
+        connections: world.connections,
+        now: world.clock.now(),
     };
     let step = web.answer(overview, &mut server.replica.archive, out);
     let limit = server.settings.logins();

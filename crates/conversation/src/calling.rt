@@ -24,6 +24,8 @@ pub(crate) fn start_call<A: Archive, C, L>(
     ensures now { world.new.now ≡ world.old.now }
     ensures logins { world.new.logins ≡ world.old.logins }
     ensures calls { world.new.calls ≡ world.old.calls }
+    ensures connections { world.new.connections ≡ world.old.connections }
+    ensures restoring { world.new.restoring ≡ world.old.restoring }
     ensures asks { (made : List ℕ) × (out.new.items ≡ out.old.items ++ made)
         × AsksPeer (A.state world.old.server.replica.archive)
         (A.state world.new.server.replica.archive) made

@@ -63,9 +63,10 @@ impl<A: Archive, C: Clock, L: Log> Handler for Conversation<A, C, L> {
         world.server.settings.ends_broken() && world.server.replica.archive.is_broken()
     }
 
-    /// Nothing came yet, and nobody is known, but for strangers at the door of peers, and for browsers. That it came is told. It
-    /// takes no memory.
+    /// Nothing came yet, and nobody is known, but for strangers at the door of peers, and for browsers. That it came is told, and
+    /// counted. It takes no memory.
     fn begin(alloc: Global, origin: Origin, world: &mut World<A, C, L>) -> Self {
+        world.connections = world.connections.saturating_add(1);
         world.log.tell_connected(origin);
         Conversation {
             other: first_end(alloc, &world.from, origin),
@@ -130,7 +131,7 @@ impl<A: Archive, C: Clock, L: Log> Handler for Conversation<A, C, L> {
         is_established(&self.other)
     }
 
-    /// Tells how a connection ended. How a call did is kept, too.
+    /// Tells how a connection ended, which isn't counted any more. How a call did is kept, too.
     fn close(
         self,
         stay: Stay,
@@ -142,12 +143,15 @@ impl<A: Archive, C: Clock, L: Log> Handler for Conversation<A, C, L> {
         let moved = moved_by(&self.other);
         match stay.party {
             Party::Called(callee) => tell_call(world, callee, call_outcome(ending), moved),
-            Party::Accepted(_) => world.log.tell_parted(Parting {
-                stay,
-                at: world.now,
-                ending,
-                moved,
-            }),
+            Party::Accepted(_) => {
+                world.connections = world.connections.saturating_sub(1);
+                world.log.tell_parted(Parting {
+                    stay,
+                    at: world.now,
+                    ending,
+                    moved,
+                })
+            }
         }
     }
 

@@ -25,13 +25,18 @@ pub struct World<A, C, L> {
     pub logins: Logins,
     /// How the last call of each peer of the settings ended.
     pub calls: LastCalls,
+    /// How many connections there are that came, and didn't end yet.
+    pub connections: u64,
+    /// Whether records of the server's own number come back from peers: none was held as a frame brought records, and no client
+    /// updated anything since.
+    pub restoring: bool,
 }
 
 impl<A, C, L> World<A, C, L> {
     ghost use Rattle.conversation.specs.Conversing.{new_world};
 
-    /// What connections share that haven't begun: peers are taken from everywhere, no login was refused, nor is any kept, and no
-    /// last call is. It takes no memory.
+    /// What connections share that haven't begun: peers are taken from everywhere, no login was refused, nor is any kept, no
+    /// last call is, there is no connection, and nothing comes back. It takes no memory.
     pub fn new(server: Server<A>, clock: C, log: L) -> World<A, C, L>
         ensures { result ≡ new_world server clock log }
     {
@@ -44,6 +49,8 @@ impl<A, C, L> World<A, C, L> {
             now: 0,
             logins: Logins::none(alloc),
             calls: LastCalls::none(alloc),
+            connections: 0,
+            restoring: false,
         }
     }
 }

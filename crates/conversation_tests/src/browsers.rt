@@ -11,7 +11,7 @@ static ROWS: [(&str, &str, &str); 9] = [
     (
         "GET /status.json HTTP/1.1\r\nHost: a\r\n\r\n",
         "HTTP/1.1 200 OK\r\n",
-        "\r\n\r\n{\"archive\":\"00000000-0000-0000-0000-000000000000\",\"replica\":1,\"records\":{},\"peers\":[]}\n",
+        ",\"records\":{},\"peers\":[]}\n",
     ),
     (
         "GET / HTTP/1.1\r\nHost: a\r\n\r\n",
@@ -76,6 +76,57 @@ fn browsers_are_answered(rt: HostRuntime) -> Result<(), Fail> {
             assert!(rt; read.ends_with(end.as_bytes()), "{said}");
             assert!(rt; begin.is_empty() == read.is_empty(), "{said}");
         }
+    }
+    Ok(())
+}
+
+/// How slowly the browsers who came before read and write: each is done before the next one has said all.
+static PACES: [usize; 3] = [40, 160, 640];
+
+/// So many browsers who take their time, and behind them one who asks at once how the server does.
+fn waiting(alloc: Global, silent: usize) -> Result<Vec<Caller<'static>>, Fail> {
+    let mut callers = Vec::new(alloc);
+    for pace in PACES.get(..silent).ok_or("so many")?.iter().chain(&[10]) {
+        callers.push(Caller {
+            door: Door::Browsers,
+            address: None,
+            text: b"GET /status.json HTTP/1.1\r\nHost: a\r\n\r\n",
+            each: 1000,
+            pace: *pace,
+        })?;
+    }
+    Ok(callers)
+}
+
+/// What the status tells of connections, where so many came before.
+static COUNTED: [(usize, &str); 3] = [
+    (
+        0,
+        "\"replica\":1,\"connections\":1,\"records\":{},\"peers\":[]}\n",
+    ),
+    (
+        1,
+        "\"replica\":1,\"connections\":2,\"records\":{},\"peers\":[]}\n",
+    ),
+    (
+        3,
+        "\"replica\":1,\"connections\":4,\"records\":{},\"peers\":[]}\n",
+    ),
+];
+
+/// Connections are counted while they last: the first answer tells of all, the last one of itself.
+#[test]
+fn connections_are_counted(rt: HostRuntime) -> Result<(), Fail> {
+    let alloc = rt.alloc();
+    let (_, alone) = COUNTED[0];
+    for (silent, want) in &COUNTED {
+        let callers = waiting(alloc, *silent)?;
+        let heard = heard_by(alloc, plant(alloc)?, callers.as_slice(), None)?;
+        assert_eq!(rt; heard.len(), silent.saturating_add(1));
+        let (_, first) = heard.first().ok_or("an answer")?;
+        assert!(rt; first.as_slice().ends_with(want.as_bytes()), "{silent}");
+        let (_, last) = heard.last().ok_or("an answer")?;
+        assert!(rt; last.as_slice().ends_with(alone.as_bytes()), "{silent}");
     }
     Ok(())
 }

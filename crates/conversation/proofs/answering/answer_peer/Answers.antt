@@ -5,7 +5,7 @@ use Rattle.std.proofs.lemmas.Int.{ints, to_z-of_z}
 use Rattle.std.specs.Prelude.{Option}
 use Rattle.exchange.specs.Dialogs.{party_of}
 use Rattle.multiplex.specs.Progress.{end_in}
-use Rattle.conversation.specs.Admitting.{IsAdmitted, Refuses}
+use Rattle.conversation.specs.Admitting.{restoring_with, own_bound, IsAdmitted, Refuses}
 use Rattle.conversation.specs.declared.other_end.OtherEnd.TheVariants.{Peer, Over}
 use Rattle.conversation.specs.declared.other_end.PeerDialog.{PeerDialog}
 use Rattle.conversation.specs.Answering.{peer_ending}
@@ -26,16 +26,18 @@ returns-then-append-clause-answers g c =
     let (readings, gave, timed) = c.time_at-time.ensures in
     let (ends, is, so) = answered.ensures.answers in
     let server = c.args.world.now.server in
-    let party = party_of (g.A.Archive.state server.replica.archive) in
+    let party = party_of (g.A.Archive.state answered.new.server.replica.archive) in
     let small : FitsSigned w64 c.time_at-time.result =
     omega (arith, ints, c.time_at-time.type_inv) in
     let same = to_z-of_z w64 c.time_at-time.result small in (
       answered.new.said.items,
       c.append.ensures.appended c.if-append.true,
       elim so [
-        | inl taken ↦ inl (record {
+        | inl taken ↦ let (between, held, asks, admitted, talks, restoring) = taken in inl (record {
           readings = readings;
           time = c.time_at-time.result;
+          between = between;
+          held = held;
           said = answered.new.said.items;
           rest = answered.new.peer.frames.waiting;
           ends = ends;
@@ -48,19 +50,25 @@ returns-then-append-clause-answers g c =
           from = refl;
           now = refl;
           calls = refl;
-          admitted = subst (λ (t : ℤ).
-              IsAdmitted server.settings t party c.args.peer.now.frames.waiting) same taken.0;
-          talks = taken.1;
+          connections = refl;
+          restoring = restoring;
+          asks = asks;
+          admitted = subst (λ (t : ℤ). IsAdmitted server.settings t
+              (own_bound (restoring_with c.args.world.now.restoring held)
+              (g.A.Archive.state between).own held) (party_of (g.A.Archive.state between))
+              c.args.peer.now.frames.waiting) same admitted;
+          talks = talks;
           one = λ none. (answered.ensures.goes (is ∙ ap peer_ending none)).1;
           tells = inl (refl, is);
           leaves = left_so _ answered.new.peer answered.ensures.goes;
         })
-        | inr refused ↦ inr (record {
+        | inr refused ↦ let (asked, asks, refuses, restoring, left) = refused in inr (record {
           readings = readings;
           time = c.time_at-time.result;
+          asked = asked;
           said = answered.new.said.items;
           ends = ends;
-          server = refused.1;
+          settings = answered.ensures.settings;
           clock = gave;
           timed = timed;
           log = refl;
@@ -68,10 +76,13 @@ returns-then-append-clause-answers g c =
           from = refl;
           now = refl;
           calls = refl;
-          refuses = subst (λ (t : ℤ). Refuses server.settings t party
-              c.args.peer.now.frames.waiting answered.new.said.items ends) same refused.0;
+          connections = refl;
+          restoring = restoring;
+          asks = asks;
+          refuses = subst (λ (t : ℤ). Refuses server.settings t c.args.world.now.restoring party
+              c.args.peer.now.frames.waiting asked answered.new.said.items ends) same refuses;
           tells = inl (refl, is);
-          leaves = ap (λ (p : PeerDialog). unless_over (end_in answered.result) (Peer p)) refused.2;
+          leaves = ap (λ (p : PeerDialog). unless_over (end_in answered.result) (Peer p)) left;
         })
       ],
     )
@@ -82,16 +93,18 @@ returns-else-append-clause-answers g c =
     let (readings, gave, timed) = c.time_at-time.ensures in
     let (ends, is, so) = answered.ensures.answers in
     let server = c.args.world.now.server in
-    let party = party_of (g.A.Archive.state server.replica.archive) in
+    let party = party_of (g.A.Archive.state answered.new.server.replica.archive) in
     let small : FitsSigned w64 c.time_at-time.result =
     omega (arith, ints, c.time_at-time.type_inv) in
     let same = to_z-of_z w64 c.time_at-time.result small in (
       [],
       c.append.ensures.starved c.if-append.false ∙ sym (append-nil c.args.out.now.items),
       elim so [
-        | inl taken ↦ inl (record {
+        | inl taken ↦ let (between, held, asks, admitted, talks, restoring) = taken in inl (record {
           readings = readings;
           time = c.time_at-time.result;
+          between = between;
+          held = held;
           said = answered.new.said.items;
           rest = answered.new.peer.frames.waiting;
           ends = ends;
@@ -104,19 +117,25 @@ returns-else-append-clause-answers g c =
           from = refl;
           now = refl;
           calls = refl;
-          admitted = subst (λ (t : ℤ).
-              IsAdmitted server.settings t party c.args.peer.now.frames.waiting) same taken.0;
-          talks = taken.1;
+          connections = refl;
+          restoring = restoring;
+          asks = asks;
+          admitted = subst (λ (t : ℤ). IsAdmitted server.settings t
+              (own_bound (restoring_with c.args.world.now.restoring held)
+              (g.A.Archive.state between).own held) (party_of (g.A.Archive.state between))
+              c.args.peer.now.frames.waiting) same admitted;
+          talks = talks;
           one = λ none. (answered.ensures.goes (is ∙ ap peer_ending none)).1;
           tells = inr (refl, refl);
           leaves = refl;
         })
-        | inr refused ↦ inr (record {
+        | inr refused ↦ let (asked, asks, refuses, restoring, left) = refused in inr (record {
           readings = readings;
           time = c.time_at-time.result;
+          asked = asked;
           said = answered.new.said.items;
           ends = ends;
-          server = refused.1;
+          settings = answered.ensures.settings;
           clock = gave;
           timed = timed;
           log = refl;
@@ -124,10 +143,13 @@ returns-else-append-clause-answers g c =
           from = refl;
           now = refl;
           calls = refl;
-          refuses = subst (λ (t : ℤ). Refuses server.settings t party
-              c.args.peer.now.frames.waiting answered.new.said.items ends) same refused.0;
+          connections = refl;
+          restoring = restoring;
+          asks = asks;
+          refuses = subst (λ (t : ℤ). Refuses server.settings t c.args.world.now.restoring party
+              c.args.peer.now.frames.waiting asked answered.new.said.items ends) same refuses;
           tells = inr (refl, refl);
-          leaves = ap (λ (p : PeerDialog). Over (moved_by (Peer p))) refused.2;
+          leaves = ap (λ (p : PeerDialog). Over (moved_by (Peer p))) left;
         })
       ],
     )

@@ -18,6 +18,8 @@ returns-in-Ok g c =
         now = begun.now;
         logins = begun.logins;
         calls = begun.calls;
+        connections = begun.connections;
+        restoring = begun.restoring;
         asks = asks;
         begins = (
           λ i. Some (Peer (record {
