@@ -7,7 +7,7 @@ use Rattle.ua_binary.specs.declared.codes.Status.{Status}
 use Rattle.ua_session.specs.declared.audit.UpdateAudit.{UpdateAudit}
 use Rattle.ua_session.specs.declared.audit.UpdateKind.{UpdateKind}
 use Rattle.ua_session.specs.declared.audit.UpdateKind.TheVariants.{Insert, Replace, Update, DeleteRange, DeleteAtTime, Other}
-use Rattle.event_lines.specs.Lines.{from_text, amount_text, asked_text, moved_text, exchanged_text, archived_text, doors_text, browsers_text, start_text, connected_text, login_text, denial_text, update_text, end_text, call_text}
+use Rattle.event_lines.specs.Lines.{from_text, amount_text, asked_text, moved_text, exchanged_text, archived_text, doors_text, browsers_text, records_text, start_text, connected_text, login_text, denial_text, update_text, end_text, call_text}
 use Rattle.event_lines.specs.OneLine.{IsOneLine, IsToldOnOneLine}
 use Rattle.event_lines.specs.declared.lines.Moved.{Moved}
 use Rattle.event_lines.proofs.OneLineLemmas.{said, onto, ◌&◌, number}
@@ -63,18 +63,25 @@ page : (browsers : Option (List ℕ)) → IfSome browsers IsOneLine → IsOneLin
 page None is = said [] refl
 page (Some address) is = said (codes ", browsers at ") refl & is
 
+held : (records : Option ℕ) → IsOneLine (records_text records)
+held None = said [] refl
+held (Some count) =
+    said (codes "; ") refl & amount count (codes "record") (said (codes "record") refl)
+
 -- ---- the events
 
 pub started : (version archive : List ℕ) (replica : ℕ) (clients : List ℕ)
-    (peers browsers : Option (List ℕ)) → IsOneLine version → IsOneLine archive
-    → IsOneLine clients → IfSome peers IsOneLine → IfSome browsers IsOneLine
-    → IsToldOnOneLine (start_text version archive replica
-    (doors_text clients peers ++ browsers_text browsers))
-started version archive replica clients peers browsers program id at own web =
-    told (start_text version archive replica (doors_text clients peers ++ browsers_text browsers))
+    (peers browsers : Option (List ℕ)) (records : Option ℕ) → IsOneLine version
+    → IsOneLine archive → IsOneLine clients → IfSome peers IsOneLine
+    → IfSome browsers IsOneLine → IsToldOnOneLine (start_text version archive replica
+    (doors_text clients peers ++ browsers_text browsers) records)
+started version archive replica clients peers browsers records program id at own web =
+    told
+    (start_text version archive replica (doors_text clients peers ++ browsers_text browsers)
+    records)
     (said (codes "started: version ") refl & program & said (codes ", archive ") refl & id
     & said (codes ", replica ") refl & number replica & said (codes "; ") refl
-    & (doors clients peers at own & page browsers web))
+    & (doors clients peers at own & page browsers web) & held records)
 
 pub connected : (from : Option SocketAddr) → (door : List ℕ) → IsOneLine door
     → IsToldOnOneLine (connected_text from door)

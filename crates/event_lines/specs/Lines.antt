@@ -67,13 +67,22 @@ abbrev pub browsers_text : (browsers : Option (List ℕ)) → List ℕ
 browsers_text browsers =
     elim browsers [ Some address ↦ codes ", browsers at " ++ address | None ↦ [] ]
 
+-- how many records are held, where that is known
+abbrev pub records_text : (records : Option ℕ) → List ℕ
+records_text records = elim records [
+  | Some count ↦ codes "; " ++ amount_text count (codes "record")
+  | None ↦ []
+]
+
 -- ---- what is said of an event
 
--- the program of this version serves this replica of this archive, from now on, at these places
-abbrev pub start_text : (version archive : List ℕ) → (replica : ℕ) → (places : List ℕ) → List ℕ
-start_text version archive replica places =
+-- the program of this version serves this replica of this archive, from now on, at these places;
+-- so many records are held
+abbrev pub start_text : (version archive : List ℕ) → (replica : ℕ) → (places : List ℕ)
+    → (records : Option ℕ) → List ℕ
+start_text version archive replica places records =
     codes "started: version " ++ version ++ codes ", archive " ++ archive ++ codes ", replica "
-    ++ decimal replica ++ codes "; " ++ places
+    ++ decimal replica ++ codes "; " ++ places ++ records_text records
 
 -- somebody came in by one of the server's doors
 abbrev pub connected_text : Option SocketAddr → (door : List ℕ) → List ℕ

@@ -12,10 +12,10 @@ ghost use Rattle.event_lines.specs.declared.lines.Moved.{Moved};
 /// in what a caller says (a version, a door, a reason, an address of the settings) and in the ids of the archived variables.
 pub fn a_line_is_one_line()
     ensures start { (version archive : List ℕ) (replica : ℕ) (clients : List ℕ)
-        (peers browsers : Option (List ℕ)) → IsOneLine version → IsOneLine archive
-        → IsOneLine clients → IfSome peers IsOneLine → IfSome browsers IsOneLine
-        → IsToldOnOneLine (start_text version archive replica
-        (doors_text clients peers ++ browsers_text browsers)) }
+        (peers browsers : Option (List ℕ)) (records : Option ℕ) → IsOneLine version
+        → IsOneLine archive → IsOneLine clients → IfSome peers IsOneLine
+        → IfSome browsers IsOneLine → IsToldOnOneLine (start_text version archive replica
+        (doors_text clients peers ++ browsers_text browsers) records) }
     ensures connected { (from : Option SocketAddr) (door : List ℕ)
         → IsOneLine door → IsToldOnOneLine (connected_text from door) }
     ensures login { (from : Option SocketAddr) (name : List ℕ) (refused : Option Status)

@@ -4,7 +4,7 @@ ghost use Rattle.std.specs.Prelude.{◌≡◌, ◌++◌, ◌∷◌, codes, optio
 ghost use Rattle.std.specs.Fmt.{decimal};
 ghost use Rattle.history_text.specs.Statuses.{status_text};
 ghost use Rattle.event_lines.specs.Names.{quoted_name};
-ghost use Rattle.event_lines.specs.Lines.{IsEventLine, from_text, amount_text, archived_text, asked_text, exchanged_text, doors_text, browsers_text, start_text, connected_text, login_text, denial_text, update_text, end_text, call_text};
+ghost use Rattle.event_lines.specs.Lines.{IsEventLine, from_text, amount_text, archived_text, asked_text, exchanged_text, doors_text, browsers_text, records_text, start_text, connected_text, login_text, denial_text, update_text, end_text, call_text};
 
 use crate::parts::{
     line_at, put_amount, put_asked, put_exchanged, put_from, put_moved, put_name, put_node,
@@ -52,6 +52,8 @@ pub struct Start<'a> {
     pub peers: Option<&'a str>,
     /// The one where browsers do, if they come.
     pub browsers: Option<&'a str>,
+    /// How many records are held, where that is known.
+    pub records: Option<u64>,
 }
 
 /// Appends which program serves what.
@@ -103,27 +105,41 @@ fn put_page(line: &mut Vec<u8>, browsers: Option<&str>) -> Result<(), AllocError
     }
 }
 
+/// Appends how many records are held, where that is known.
+fn put_records(line: &mut Vec<u8>, records: Option<u64>) -> Result<(), AllocError>
+    ensures { OnOk result (line.new.items ≡ line.old.items ++ records_text records) }
+{
+    match records {
+        None => Ok(()),
+        Some(count) => {
+            line.extend_from_slice(b"; ")?;
+            put_amount(line, count, "record")
+        }
+    }
+}
+
 /// Appends what is said of a server that begins.
 fn put_start(line: &mut Vec<u8>, start: &Start<'_>) -> Result<(), AllocError>
     ensures { OnOk result (line.new.items ≡ line.old.items ++ start_text start.now.version.now
         start.now.archive.now start.now.replica
         (doors_text start.now.clients.now (option_copied start.now.peers)
-        ++ browsers_text (option_copied start.now.browsers))) }
+        ++ browsers_text (option_copied start.now.browsers)) start.now.records) }
 {
     put_served(line, start)?;
     line.extend_from_slice(b"; ")?;
     put_doors(line, start.clients, start.peers)?;
-    put_page(line, start.browsers)
+    put_page(line, start.browsers)?;
+    put_records(line, start.records)
 }
 
 /// The line of a server that begins: `TIME started: version VERSION, archive ARCHIVE, replica REPLICA; clients at ADDRESS, peers at
-/// ADDRESS, browsers at ADDRESS`, or `clients and peers at ADDRESS`, and without the last part where browsers don't come. The one
-/// error is want of memory.
+/// ADDRESS, browsers at ADDRESS; N records`, or `clients and peers at ADDRESS`, and without the part of browsers where they don't
+/// come, and that of records where how many are held isn't known. The one error is want of memory.
 pub fn start_line(alloc: Global, at: i64, start: &Start<'_>) -> Result<Vec<u8>, AllocError>
     ensures { IfOk result (λ line. IsEventLine at (start_text start.now.version.now
         start.now.archive.now start.now.replica
         (doors_text start.now.clients.now (option_copied start.now.peers)
-        ++ browsers_text (option_copied start.now.browsers))) line.items) }
+        ++ browsers_text (option_copied start.now.browsers)) start.now.records) line.items) }
 {
     let mut line = line_at(alloc, at)?;
     put_start(&mut line, start)?;

@@ -18,6 +18,7 @@ use crate::host::Host;
 use crate::listening::listening_of;
 use crate::log::ErrorLog;
 use crate::program::ProgramFault;
+use crate::starting::count_records;
 use conversation::{Conversation, Door, Logins, Network, World, tell_turn};
 use counted_io::ServeFault;
 use multiplex::{Limits, serve};
@@ -111,7 +112,7 @@ fn calls_of(alloc: Global, settings: &Settings) -> Result<LastCalls, AllocError>
     LastCalls::new(alloc, settings.peers().as_slice())
 }
 
-/// Tells that the server begins, where events are told; then serves so many connections at the addresses of its settings, many at once, and calls the peers of these settings when
+/// Tells that the server begins, and how many records it holds, where events are told; then serves so many connections at the addresses of its settings, many at once, and calls the peers of these settings when
 /// they are due, till all connections have ended; or, where the settings say so, till the store is broken, which is a fault.
 pub(crate) fn serve_at<H: Host, C: Clock, E: Write>(
     world: &mut World<H::Archive, C, ErrorLog<E, C>>,
@@ -143,7 +144,10 @@ pub(crate) fn serve_at<H: Host, C: Clock, E: Write>(
     world.from = from;
     world.logins = logins;
     world.calls = calls;
-    world.log.log_start(&world.server.settings);
+    world.connections = 0;
+    world.restoring = false;
+    let records = count_records(&mut world.server.replica.archive, world.log.events);
+    world.log.log_start(&world.server.settings, records);
     let report = serve::<H::Source, Conversation<H::Archive, C, ErrorLog<E, C>>>(
         alloc,
         &mut source,

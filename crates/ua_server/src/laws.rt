@@ -1,4 +1,4 @@
-//! What holds of every connection of a client.
+//! What holds of every connection of a client, and of what is told of calls.
 
 ghost use Rattle.std.specs.Prelude.{◌≡◌, ℕ, false, List, Option};
 ghost use Rattle.records.specs.Lists.{Has};
@@ -11,6 +11,10 @@ ghost use Rattle.ua_settings.specs.Settings.{SettingsValues};
 ghost use Rattle.ua_connection.specs.Environments.{Environment};
 ghost use Rattle.ua_connection.specs.Serving.{ServesBehind};
 ghost use Rattle.ua_connection.specs.Client.{Ending};
+ghost use Rattle.ua_peers.specs.declared.calling.SyncFault.{SyncFault};
+ghost use Rattle.web_page.specs.Calls.{cause_words};
+ghost use Rattle.conversation.specs.Closing.{call_cause};
+ghost use Rattle.ua_server.specs.Telling.{fault_text, sync_fault};
 
 use archive::Archive;
 
@@ -28,4 +32,9 @@ pub fn connections_are_updates<A: Archive>()
         → ((r : Record) → Has R r → IsLawfulRecord r) → IsReplicaAt w i s
         → s.number ≡ (A.state a).own → s.content ≡ (A.state a).content
         → (events : List Event) × AreUpdates i events × IsUpdated w (run events w) i s R }
+{}
+
+/// The first page, `/status.json` and standard error tell the fault of a call of a peer in the same words.
+pub fn a_calls_fault_is_told_alike()
+    ensures { (fault : SyncFault) → cause_words (call_cause fault) ≡ fault_text (sync_fault fault) }
 {}

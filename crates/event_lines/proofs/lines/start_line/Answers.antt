@@ -11,6 +11,6 @@ returns c =
     let start = c.args.start.now in
     line_goes_on c.args.at (start_text start.version.now start.archive.now start.replica
     (doors_text start.clients.now (option_copied start.peers)
-    ++ browsers_text (option_copied start.browsers))) c.in_ok-line.line.items
+    ++ browsers_text (option_copied start.browsers)) start.records) c.in_ok-line.line.items
     c.put_start.new.line.items (rw (to_z-of_z w64 c.args.at c.ranges.at) at c.in_ok-line.ensures)
     c.in_ok-put_start.ensures

@@ -1,4 +1,4 @@
-use Rattle.std.proofs.Common.{◌∙◌, Bool, Err, refl, ap, sym, subst, subst₂}
+use Rattle.std.proofs.Common.{◌∙◌, Bool, false, Err, refl, ap, sym, subst, subst₂}
 use Rattle.std.specs.Prelude.{Result, IfErr}
 use Rattle.std.proofs.lemmas.Result.{err_from_is_err_and}
 use Rattle.multiplex.specs.declared.limits.Limits.{Limits}
@@ -9,7 +9,7 @@ use Rattle.ua_server.specs.Host.{known_machine}
 use Rattle.ua_server.specs.Listening.{IsFrom, networks_at}
 use Rattle.ua_server.specs.Network.{IsServingFault, conversations, serving_of}
 use Rattle.ua_server.specs.Program.{Listens}
-use Rattle.ua_server.proofs.Begun.{from-fresh}
+use Rattle.ua_server.proofs.Begun.{from-fresh, counts-by}
 use Rattle.ua_server.proofs.Refused.{unheard, unheard-serving}
 use Rattle.ua_server.proofs.connections.serve_at.Goals as goal
 
@@ -21,7 +21,14 @@ returns-clause-listens g c =
       from = c.in_ok-source.from;
       logins = c.in-Ok-logins_of.logins;
       calls = c.in-Ok-calls_of.calls;
+      connections = 0;
+      restoring = false;
       log = c.log_start.new.self;
+      server = record c.args.world.now.server {
+        replica = record c.args.world.now.server.replica {
+          archive = c.count_records-records.new.archive;
+        };
+      };
     } in
     let begun = state c.in_ok-source.source c.as_mut_slice.result.now world 0 in
     let ended = state c.serve-report.new.source c.serve-report.new.slots c.serve-report.new.world last in (
@@ -31,6 +38,11 @@ returns-clause-listens g c =
         c.in_ok-source.source,
         listens,
         record {
+          between = c.count_records-records.new.archive;
+          records = c.count_records-records.result;
+          counts = counts-by g.H.Archive.Archive.state c.args.world.now.server.replica.archive
+              c.count_records-records.new.archive c.count_records-records.result
+              c.args.world.now.log _ c.requires c.count_records-records.ensures;
           first = begun;
           last = ended;
           behind = c.tell_turn.new.world;
@@ -43,9 +55,11 @@ returns-clause-listens g c =
           settings_are = refl;
           from = refl;
           starts = from-fresh g.E.Write.contents g.C.Clock.gave c.args.world.now.server.settings
-              _ c.args.world.now.log c.log_start.new.self c.requires c.log_start.ensures;
+              c.count_records-records.result _ c.args.world.now.log c.log_start.new.self c.requires c.log_start.ensures;
           logins = c.in-Ok-logins_of.ensures;
           calls = c.in-Ok-calls_of.ensures;
+          connections = refl;
+          restoring = refl;
           peers_from = subst (IsFrom (networks_at c.args.world.now.server.settings)) (sym from)
               is.from;
           free = subst AreAllFree (sym c.as_mut_slice.ensures.value) c.in-Ok.ensures.0;
@@ -67,7 +81,14 @@ returns-then-report-clause-listens g c =
       from = c.in_ok-source.from;
       logins = c.in-Ok-logins_of.logins;
       calls = c.in-Ok-calls_of.calls;
+      connections = 0;
+      restoring = false;
       log = c.log_start.new.self;
+      server = record c.args.world.now.server {
+        replica = record c.args.world.now.server.replica {
+          archive = c.count_records-records.new.archive;
+        };
+      };
     } in
     let begun = state c.in_ok-source.source c.as_mut_slice.result.now world 0 in
     let ended = state c.serve-report.new.source c.serve-report.new.slots c.serve-report.new.world last in (
@@ -77,6 +98,11 @@ returns-then-report-clause-listens g c =
         c.in_ok-source.source,
         listens,
         record {
+          between = c.count_records-records.new.archive;
+          records = c.count_records-records.result;
+          counts = counts-by g.H.Archive.Archive.state c.args.world.now.server.replica.archive
+              c.count_records-records.new.archive c.count_records-records.result
+              c.args.world.now.log _ c.requires c.count_records-records.ensures;
           first = begun;
           last = ended;
           behind = c.tell_turn.new.world;
@@ -89,9 +115,11 @@ returns-then-report-clause-listens g c =
           settings_are = refl;
           from = refl;
           starts = from-fresh g.E.Write.contents g.C.Clock.gave c.args.world.now.server.settings
-              _ c.args.world.now.log c.log_start.new.self c.requires c.log_start.ensures;
+              c.count_records-records.result _ c.args.world.now.log c.log_start.new.self c.requires c.log_start.ensures;
           logins = c.in-Ok-logins_of.ensures;
           calls = c.in-Ok-calls_of.ensures;
+          connections = refl;
+          restoring = refl;
           peers_from = subst (IsFrom (networks_at c.args.world.now.server.settings)) (sym from)
               is.from;
           free = subst AreAllFree (sym c.as_mut_slice.ensures.value) c.in-Ok.ensures.0;

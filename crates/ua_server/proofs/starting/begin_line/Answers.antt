@@ -16,7 +16,7 @@ returns c =
     ∙ ap (λ (u : List ℕ). hyphenated_text lower u) (c.hyphenated.ensures ∙ c.archive.ensures) in
     subst P
     (begun c.args.settings.now c.encode_lower.result.now c.get.result c.listen.result.now
-    (option_copied c.peers_at.result) (option_copied c.browsers_at.result) id
+    (option_copied c.peers_at.result) (option_copied c.browsers_at.result) c.args.records id
     (c.get.ensures.same ∙ c.replica.ensures) c.listen.ensures c.peers_at.ensures
     c.browsers_at.ensures)
     (rw (to_z-of_z w64 c.args.at c.ranges.at) at c.start_line.ensures)
