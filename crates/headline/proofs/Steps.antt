@@ -263,7 +263,7 @@ module _ {A : Type 0} (state : A → Store) where
       let w : World = run p.events p.start in
       let a : Store = state turn.before in
       let does = turn.acts.does in
-      let left = left-stays a (state turn.acts.behind) [] (state turn.later).content does.stays
+      let left = left-stays a (state turn.acts.behind) _ (state turn.later).content does.stays
       does.passes turn.acts.honest turn.acts.goes.content in
       let same : (state turn.later).content ≡ x.s.content =
       left-alone a (state turn.later).content x.used.durable x.used.honest x.used.unbroken left

@@ -7,6 +7,7 @@ use Rattle.records.specs.Contents.{Content}
 use Rattle.records.specs.Spelling.{IsLawfulRecord}
 use Rattle.records.specs.declared.record.Record.{Record}
 use Rattle.ua_settings.specs.Settings.{SettingsValues}
+use Rattle.archive.specs.declared.fault.StoreFault.{StoreFault}
 use Rattle.archive.specs.Store.{Store, CountsFaults, KeepsContent}
 use Rattle.counted_io.specs.declared.fault.ServeFault.{ServeFault}
 use Rattle.exchange.specs.declared.fault.ExchangeFault.{ExchangeFault}
@@ -106,13 +107,14 @@ BeginsCall old new made =
     × Greets old new [] frame result × IsStartOf made frame
 
 -- a peer's records weren't taken: what is held stays, and so much of the frame that tells the peer
--- why was written
+-- why was written; the store may have met faults
 pub record RefusesRecords (old new : Store) (made : List ℕ) : Type 0 where
   pub fault : ExchangeFault
   pub told : Result State ExchangeFault
   pub said : List ℕ
+  pub faults : List StoreFault
   pub stays : KeepsContent old new
-  pub passes : CountsFaults old new []
+  pub passes : CountsFaults old new faults
   pub tells : TellsFault fault told [] said
   pub part : IsStartOf made said
 
