@@ -195,7 +195,12 @@ def front():
     page = paged.Page(dom(server.address("/")))
     shown = {row[1]: row for row in page.rows[1:]}
     tell(set(shown) == set(NAMES.values()), "Chromium shows each variable by its name, tags as text", list(shown))
-    tell(shown["Temperature"][0] == "Line 1" and shown["Temperature"][4:] == ["15.5", "Good", moment(NOW + 9 * 600_000_000)] or shown["Temperature"], "with its folder, its last value, status and time", shown["Temperature"])
+    last = NOW + 9 * 600_000_000
+    days = (time.time() - (last - 116_444_736_000_000_000) / 10_000_000) // 86_400
+    tell(shown["Temperature"][0] == "Line 1" and shown["Temperature"][4:7] == ["15.5", "Good", moment(last)], "with its folder, its last value, status and time", shown["Temperature"])
+    tell(shown["Temperature"][7] in (f"{days - 1:.0f} d", f"{days:.0f} d"), "and how old that is", (shown["Temperature"], days))
+    counted = re.search(rb"<p>(\d+) connections?</p>", body)
+    tell(counted and int(counted[1]) >= 1, "it tells how many connections there are", body[:1500])
     tell(shown[NAMES["U"]][4] == "<i>x</i>" and not page.tags & {"i", "b", "script"}, "values with tags are text", shown[NAMES["U"]])
     links = re.findall(r'<a href="([^"]*)"', dom(server.address("/")))
     asked = [server.ask(link.replace("&amp;", "&"))[0] for link in links]
@@ -204,7 +209,7 @@ def front():
     tell(status == 200 and body == b"" and int(fields["Content-Length"]) > 0, "HEAD gets the head alone", (status, fields))
     status, fields, body = server.ask("/status.json")
     told = json.loads(body)
-    tell(status == 200 and fields["Content-Type"] == "application/json" and told["archive"] == ARCHIVE and told["replica"] == 1 and told["records"] == {"1": 12} and told["peers"] == [], "/status.json tells the archive, the replica, its records and that no peer is called", told)
+    tell(status == 200 and fields["Content-Type"] == "application/json" and told["archive"] == ARCHIVE and told["replica"] == 1 and told["connections"] >= 1 and told["records"] == {"1": 12} and told["peers"] == [], "/status.json tells the archive, the replica, its connections, its records and that no peer is called", told)
     picture(server, "/", "front")
     server.stop()
 

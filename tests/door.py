@@ -336,6 +336,31 @@ def admitted_replicas():
     server.stop()
 
 
+def own_numbers():
+    """Records of the server's own number: none beyond those that it holds, but all of them where it holds none."""
+    server = Server().start()
+    line = server.line()
+    assert updates(line, [insert(1, 5)]) == [(0, [INSERTED])]
+    greatest = 2**63 - 1
+    for what, records in (("the next number", [record(1, 2, present(), 9)]), ("the next number at the greatest tick", [record(1, 2, greatest, 9)]),
+                          ("another's record, and then the next number", [record(2, 1, present(), 8), record(1, 2, present(), 9)])):
+        told = answer(server.door, brought(records))
+        found = server.values()
+        tell(frames(told.removesuffix(b" and a reset")) == ["RXE 10"] and found == {5: 1}, f"a record in the server's own name, {what}, is answered RXE 10, and none of the frame is learned", (told, found))
+    told = updates(line, [insert(2, 6)])
+    tell(told == [(0, [INSERTED])], "its clients write as before", told)
+    said = server.stop()
+    tell(said == "", "the server told nothing of all that", said)
+    server = Server().start()
+    first, second = record(1, 1, present(), 7), record(1, 2, present() + 1, 8)
+    told = answer(server.door, brought([first]) + brought([second]) + DONE)
+    found = server.values()
+    tell(frames(told) == ["RXVF", "RXVF"] and found == {7: 666, 8: 666}, "an empty store is brought its own records by all frames of a dialog", (told, found))
+    told = answer(server.door, brought([record(1, 3, present(), 9)]))
+    tell(frames(told.removesuffix(b" and a reset")) == ["RXE 10"] and server.values() == found, "and by no later one", told)
+    server.stop()
+
+
 def ticks_ahead():
     """A record whose tick is further ahead of the clock than the settings say isn't taken, nor any other of its frame."""
     top = 2**62 - 1
@@ -584,7 +609,7 @@ def one_connection():
             tell(told.status == 0 and frames(told.out) == ["RXVF"] and len(dump.splitlines()) == 1, "answer, without a door: a peer's frame is learned", seen)
 
 
-checks = [a_forged_record, a_client_at_the_door, one_place, two_with_doors, a_call_of_the_wrong_address, from_networks, admitted_replicas, ticks_ahead, calls_that_refuse, password_files, strict_files, sync, readers, addresses, settings, one_connection]
+checks = [a_forged_record, a_client_at_the_door, one_place, two_with_doors, a_call_of_the_wrong_address, from_networks, admitted_replicas, own_numbers, ticks_ahead, calls_that_refuse, password_files, strict_files, sync, readers, addresses, settings, one_connection]
 checks = [check for check in checks if not sys.argv[2:] or check.__name__ in sys.argv[2:]]
 for check in checks:
     try:

@@ -35,7 +35,7 @@ BYTES = [0, 1, 2, 3, 63, 64, 127, 128, 192, 255]
 HOST = r"uahist: \d{4}-\d\d-\d\dT\d\d:\d\d:\d\d\.\d{7}Z 127\.0\.\d+\.1:\d+ "
 EVENTS = [r"connected to (clients and peers|browsers)", r"ended after \d+ ms and \d+ answers?: .{1,100}", r'(logged in|was refused) as "[^\x00-\x1f\x7f]*"(: [0-9A-F]{8})?',
           r"was refused as a browser: no such user or password", r'as "[^\x00-\x1f\x7f]*" asked (to (insert|replace|update|delete)|for an update) [^\x00-\x1f\x7f]+: (Good|[0-9A-F]{8})']
-BEGAN = r"uahist: \d{4}-\d\d-\d\dT\d\d:\d\d:\d\d\.\d{7}Z started: version [0-9.]+, archive [0-9a-f-]{36}, replica \d+; clients and peers at 127\.0\.0\.1:\d+(, browsers at 127\.0\.0\.1:\d+)?"
+BEGAN = r"uahist: \d{4}-\d\d-\d\dT\d\d:\d\d:\d\d\.\d{7}Z started: version [0-9.]+, archive [0-9a-f-]{36}, replica \d+; clients and peers at 127\.0\.0\.1:\d+(, browsers at 127\.0\.0\.1:\d+)?; \d+ records?"
 SAID = [r"uahist: connection ended \([1-4]\)", r"uahist: exchange ended \(\d+\)", r"uahist: \d+ events? more weren't told", BEGAN, *(HOST + event for event in EVENTS)]
 SAID = [re.compile(shape) for shape in SAID]
 KINDS = ["a fault", "an exchange's end", "a count of more", "a start", "a connection", "an end", "a login", "a browser's refusal", "an update"]

@@ -43,7 +43,11 @@ class Server:
         text = text.replace("replica = 1\n", f"replica = {Server.made}\nstore = '{path}.db'\n").replace("anonymous = true\n", f"anonymous = true\n{keys}")
         self.settings = path
         open(path, "w").write(text + f"\n[web]\nlisten = '127.0.0.1:{self.web}'\n" + log + tables)
-        self.process = subprocess.Popen([program, "serve", "--settings", path], stdin=subprocess.DEVNULL, stderr=subprocess.PIPE, text=True)
+        self.serve()
+
+    def serve(self):
+        """Begins to serve."""
+        self.process = subprocess.Popen([program, "serve", "--settings", self.settings], stdin=subprocess.DEVNULL, stderr=subprocess.PIPE, text=True)
         threading.Thread(target=self.read, daemon=True).start()
         assert listens(self.port, self.process) and listens(self.web, self.process), "nobody listens"
 
@@ -60,9 +64,9 @@ class Server:
                 return found
             time.sleep(0.02)
 
-    def started(self, clients):
-        """Whether the first line of an event tells that it began, with these addresses of clients and peers."""
-        text = re.escape(f"replica {self.number}; {clients}, browsers at 127.0.0.1:{self.web}")
+    def started(self, clients, records="0 records"):
+        """Whether the first line of an event tells that it began, with these addresses of clients and peers, and so many records."""
+        text = re.escape(f"replica {self.number}; {clients}, browsers at 127.0.0.1:{self.web}; {records}")
         line = rf"uahist: {TIME} started: version \d+\.\d+\.\d+, archive 3f2c8a10-5b7e-4d21-9c44-0a1b2c3d4e5f, {text}"
         return self.lines(line) and re.fullmatch(line, next(said for said in self.said if re.match(f"uahist: {TIME} ", said)))
 
@@ -140,6 +144,11 @@ def shows_events():
     time.sleep(0.3)
     told = len(server.said) - before
     tell(told < 320 and server.lines(r"uahist: \d+ events more weren't told"), "of six hundred lines of strangers some are counted", (told, server.said[-3:]))
+    server.process.kill()
+    server.process.wait()
+    server.said = []
+    server.serve()
+    tell(server.started(f"clients and peers at 127.0.0.1:{server.port}", "3 records"), "begun again it tells how many records it holds", server.said)
     server.process.kill()
 
 
