@@ -337,11 +337,11 @@ def admitted_replicas():
 
 
 def own_numbers():
-    """Records of the server's own number: none beyond those that it holds, but all of them where it holds none."""
+    """Records of the server's own number: none beyond those that it holds, but all of them as they come back to an empty store."""
     server = Server().start()
     line = server.line()
     assert updates(line, [insert(1, 5)]) == [(0, [INSERTED])]
-    greatest = 2**63 - 1
+    greatest = 2**62 - 1
     for what, records in (("the next number", [record(1, 2, present(), 9)]), ("the next number at the greatest tick", [record(1, 2, greatest, 9)]),
                           ("another's record, and then the next number", [record(2, 1, present(), 8), record(1, 2, present(), 9)])):
         told = answer(server.door, brought(records))
@@ -351,13 +351,23 @@ def own_numbers():
     tell(told == [(0, [INSERTED])], "its clients write as before", told)
     said = server.stop()
     tell(said == "", "the server told nothing of all that", said)
-    server = Server().start()
+    server = Server(tables="\n[log]\nevents = true\n").start()
     first, second = record(1, 1, present(), 7), record(1, 2, present() + 1, 8)
     told = answer(server.door, brought([first]) + brought([second]) + DONE)
     found = server.values()
     tell(frames(told) == ["RXVF", "RXVF"] and found == {7: 666, 8: 666}, "an empty store is brought its own records by all frames of a dialog", (told, found))
-    told = answer(server.door, brought([record(1, 3, present(), 9)]))
-    tell(frames(told.removesuffix(b" and a reset")) == ["RXE 10"] and server.values() == found, "and by no later one", told)
+    told = answer(server.door, brought([record(1, 3, present() + 2, 9)]) + DONE)
+    tell(frames(told) == ["RXVF"] and server.values() == {7: 666, 8: 666, 9: 666}, "and by a later one", (told, server.values()))
+    line = server.line()
+    assert updates(line, [insert(10, 5)]) == [(0, [INSERTED])]
+    told = answer(server.door, brought([record(1, 5, present() + 3, 11)]))
+    tell(frames(told.removesuffix(b" and a reset")) == ["RXE 10"] and server.values() == {5: 10, 7: 666, 8: 666, 9: 666}, "but, where events are told, by none behind a client's update", (told, server.values()))
+    server.stop()
+    server = Server(door_keys="replicas = [1, 2]\n").start()
+    line = server.line()
+    assert updates(line, [insert(1, 5)]) == [(0, [INSERTED])]
+    told = answer(server.door, brought([record(1, 2, present() + 1, 9)]) + DONE)
+    tell(frames(told) == ["RXVF"] and server.values() == {5: 1, 9: 666}, "where the settings list its number they are taken as others are", (told, server.values()))
     server.stop()
 
 
