@@ -177,10 +177,10 @@ def browse(address, *flags):
     return subprocess.run(words, stdout=subprocess.PIPE, stderr=subprocess.DEVNULL, timeout=120).stdout.decode()
 
 
-def picture(server, path, name):
+def picture(server, path, name, size="900,700"):
     place = os.environ.get("PICTURES")
     if place:
-        browse(server.address(path), "--hide-scrollbars", "--window-size=900,700", f"--screenshot={os.path.join(os.path.abspath(place), name)}.png")
+        browse(server.address(path), "--hide-scrollbars", f"--window-size={size}", f"--screenshot={os.path.join(os.path.abspath(place), name)}.png")
 
 
 def front():
@@ -197,7 +197,7 @@ def front():
     tell(set(shown) == set(NAMES.values()), "Chromium shows each variable by its name, tags as text", list(shown))
     last = NOW + 9 * 600_000_000
     days = (time.time() - (last - 116_444_736_000_000_000) / 10_000_000) // 86_400
-    tell(shown["Temperature"][0] == "Line 1" and shown["Temperature"][4:7] == ["15.5", "Good", moment(last)], "with its folder, its last value, status and time", shown["Temperature"])
+    tell(shown["Temperature"][0] == "Line 1" and shown["Temperature"][4:7] == [day(10)[-1].split(",")[2], "Good", moment(last)], "with its folder, its last value, status and time", shown["Temperature"])
     tell(shown["Temperature"][7] in (f"{days - 1:.0f} d", f"{days:.0f} d"), "and how old that is", (shown["Temperature"], days))
     counted = re.search(rb"<p>(\d+) connections?</p>", body)
     tell(counted and int(counted[1]) >= 1, "it tells how many connections there are", body[:1500])
@@ -210,7 +210,7 @@ def front():
     status, fields, body = server.ask("/status.json")
     told = json.loads(body)
     tell(status == 200 and fields["Content-Type"] == "application/json" and told["archive"] == ARCHIVE and told["replica"] == 1 and told["connections"] >= 1 and told["records"] == {"1": 12} and told["peers"] == [], "/status.json tells the archive, the replica, its connections, its records and that no peer is called", told)
-    picture(server, "/", "front")
+    picture(server, "/", "front", "1200,560")
     server.stop()
 
 
