@@ -1,5 +1,5 @@
 -- Which users there are, and as whom an identity is allowed (Part 4, 5.7.3).
-use Rattle.std.specs.Prelude.{◌≡◌, ◌≢◌, ◌≤◌, ℕ, Bool, true, List, [], ◌∷◌, ◌++◌, length, codes, nat_eq, Option, option_and_then, None, Some, Result, Ok, Err, find, unwrap_or, if◌then◌else◌}
+use Rattle.std.specs.Prelude.{◌≡◌, ◌≢◌, ◌≤◌, ℕ, Bool, true, List, [], ◌∷◌, ◌++◌, length, codes, nat_eq, Option, option_and_then, option_map, None, Some, Result, Ok, Err, find, unwrap_or, if◌then◌else◌}
 use Rattle.std.specs.List.{AllByRecursion}
 use Rattle.std.specs.Borrow.{Bor}
 use Rattle.std.specs.Option.{option_copied}
@@ -37,6 +37,12 @@ access_of allowed name =
       | None ↦ Read
       | Some user ↦ user.access
     ]
+
+-- the password of the first user of a name
+abbrev pub password_of : Allowed → List ℕ → Option (List ℕ)
+password_of allowed name =
+    option_map (λ user. user.password)
+    (find (λ user. pointwise nat_eq user.name name) allowed.named)
 
 -- An identity without where it lies in memory: no name, or a name with a password and the algorithm
 -- that encrypted it, or something else.

@@ -42,7 +42,7 @@ impl Model for Users {
 }
 
 impl Users {
-    ghost use Rattle.ua_session.specs.Users.{claim_of, judgement, with_added, access_of};
+    ghost use Rattle.ua_session.specs.Users.{claim_of, judgement, with_added, access_of, password_of};
 
     /// No user with a name yet; a user without one is allowed or not, and may update histories. It takes no memory.
     pub fn new(alloc: Global, anonymous: bool) -> Self
@@ -123,6 +123,16 @@ impl Users {
         match find_user(&self.named, name) {
             Some(user) => user.access,
             None => Access::Read,
+        }
+    }
+
+    /// The password of the first user of this name, by which a client of that user's comes. It takes no memory.
+    pub fn password_of(&self, name: &str) -> Option<&[u8]>
+        ensures { option_copied result ≡ password_of self.now name.now }
+    {
+        match find_user(&self.named, name) {
+            Some(user) => Some(user.password.as_slice()),
+            None => None,
         }
     }
 
