@@ -22,7 +22,7 @@ use Rattle.historian.specs.Answers.{Answer, Response}
 use Rattle.historian.specs.Requests.{Call, ActivateSession, HistoryUpdate, call_in}
 use Rattle.historian.specs.declared.service.Service.TheVariants as services
 use Rattle.historian.specs.Services.{ServerConfig, MessageOutcome, activated, called, in_session, noting_activation, served, update_for, updates_of, answered_call, answered_request}
-use Rattle.historian.specs.Auditing.{activation_event, noting, updates_audited}
+use Rattle.historian.specs.Auditing.{activation_event, noting, notes_updates, updates_audited}
 use Rattle.historian.specs.Telling.{Asks, service_answer, response_made, ReportsAnswer, ComesTo, Performs, PerformsHere, Written, Responds}
 
 -- a call that was read is served
@@ -378,15 +378,16 @@ pub performs-updates : (a b : Store) (config : ServerConfig) (now : Ticks) (toke
     → call_in services.HistoryUpdate bytes ≡ Some (HistoryUpdate details)
     → user_at sessions token ≡ Ok user
     → ComesTo a b (λ R. update_for config now details R user) result
-    → new ≡ noting (updates_audited config.settings.events config.settings.space user details
-    (response_made result)) sessions
+    → new ≡ noting (updates_audited (notes_updates config.settings) config.settings.space user
+    details (response_made result)) sessions
     → Performs a b (answered_call config now token (call_in services.HistoryUpdate bytes) sessions)
     new result
 performs-updates a b config now token sessions new details bytes user result is known (used, acts)
     kept =
     let told = response_made result in
     let left : Response → SessionsState = λ answer.
-    noting (updates_audited config.settings.events config.settings.space user details answer)
+    noting (updates_audited (notes_updates config.settings) config.settings.space user details
+    answer)
     sessions in (
       Done ∷ used,
       told,

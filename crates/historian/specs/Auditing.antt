@@ -1,5 +1,5 @@
 -- What a log of the server is told of activations and updates (Part 5, 6.4).
-use Rattle.std.specs.Prelude.{ℕ, ℤ, pos, ◌/◌, ◌^◌, nat_lt, List, [], ◌∷◌, length, map, slice_get, slice_set, codes, Option, option_and_then, None, Some, is_some, unwrap_or, Bool, true, Ok, if◌then◌else◌}
+use Rattle.std.specs.Prelude.{ℕ, ℤ, pos, ◌/◌, ◌^◌, nat_lt, List, [], ◌∷◌, ◌||◌, length, map, slice_get, slice_set, codes, Option, option_and_then, None, Some, is_some, unwrap_or, Bool, true, Ok, if◌then◌else◌}
 use Rattle.std.specs.Ordering.{int_eq}
 use Rattle.std.specs.Fmt.Cut.{cut_to}
 use Rattle.std.specs.Result.{result_err}
@@ -16,6 +16,7 @@ use Rattle.ua_session.specs.declared.audit.UpdateKind.TheVariants as kind
 use Rattle.ua_services.specs.Updates.{Details, UpdateData, DeleteRawModified, DeleteAtTime, Other as OtherDetails}
 use Rattle.ua_services.specs.declared.updates.HistoryUpdateResult.{HistoryUpdateResult}
 use Rattle.ua_space.specs.declared.layout.Layout.{Layout}
+use Rattle.ua_settings.specs.Settings.{SettingsValues}
 use Rattle.ua_space.specs.Space.{value_type_at}
 use Rattle.historian.specs.Answers.{Response, Updated}
 use Rattle.historian.specs.Updating.{node_asked}
@@ -106,13 +107,18 @@ abbrev pub update_event : Layout → (user : List ℕ) → List Details → List
 update_event space user asked results =
     Update (cut_to 256 user) (answered_audits (map (asked_audit space) asked) results)
 
--- what a response to these updates of a user brings for a log, where one is kept: a refusal of all
--- of them brings nothing
-abbrev pub updates_audited : (kept : Bool) → Layout → (user : List ℕ) → List Details → Response
+-- whether what updates come to is noted: for a log of events; and where peers have a door, since
+-- records of one's own number come back there only to a store that no client updated
+abbrev pub notes_updates : SettingsValues → Bool
+notes_updates settings = settings.events || is_some settings.door
+
+-- what a response to these updates of a user brings to be noted, where it is: a refusal of all of
+-- them brings nothing
+abbrev pub updates_audited : (noted : Bool) → Layout → (user : List ℕ) → List Details → Response
     → Option AuditEvent
 updates_audited true space user asked (Ok (Updated results)) =
     Some (update_event space user asked results)
-updates_audited kept space user asked response = None
+updates_audited noted space user asked response = None
 
 -- the sessions, in which this was done last, if something was
 abbrev pub noting : Option AuditEvent → SessionsState → SessionsState

@@ -26,7 +26,7 @@ use Rattle.historian.specs.Browsing.{browse}
 use Rattle.historian.specs.Reading.{Served, read, read_history}
 use Rattle.historian.specs.Updating.{update_history}
 use Rattle.historian.specs.UserSpaces.{space_for}
-use Rattle.historian.specs.Auditing.{activation_event, updates_audited, noting}
+use Rattle.historian.specs.Auditing.{activation_event, notes_updates, updates_audited, noting}
 
 -- a server: its settings, and the number and the id of its replica of the archive
 pub record ServerConfig : Type 0 where
@@ -135,15 +135,16 @@ abbrev pub update_for : ServerConfig → Ticks → List Details → Content → 
 update_for config now details R user =
     update_history config.own (space_for config.settings user) user now details R
 
--- HistoryUpdates of this user, in one of these sessions; what they came to is kept for a log, where
--- the settings say so
+-- HistoryUpdates of this user, in one of these sessions; what they came to is noted, where the
+-- settings ask for it
 abbrev pub updated_by : ServerConfig → Ticks → List Details → SessionsState → Content
     → (user : List ℕ) → Fallible MessageOutcome
 updated_by config now details sessions R user =
     let s = config.settings in
     and_then (update_for config now details R user)
     (λ (response, S).
-    give ((response, noting (updates_audited s.events s.space user details response) sessions), S))
+    let event = updates_audited (notes_updates s) s.space user details response in
+    give ((response, noting event sessions), S))
 
 -- HistoryUpdates for whoever activated the session, if somebody did
 abbrev pub updates_of : ServerConfig → Ticks → List Details → SessionsState

@@ -8,7 +8,7 @@ ghost use Rattle.ua_services.specs.Updates.{Details};
 ghost use Rattle.ua_space.specs.declared.layout.Layout.{Layout};
 ghost use Rattle.historian.specs.Answers.{Response};
 ghost use Rattle.historian.specs.Telling.{response_made};
-ghost use Rattle.historian.specs.Auditing.{claimed_name, activation_event, archived_node, kind_numbered, kind_asked, worse, worst_of, asked_audit, answered_audit, audits_with, answered_audits, updates_audited, noting};
+ghost use Rattle.historian.specs.Auditing.{claimed_name, activation_event, archived_node, kind_numbered, kind_asked, worse, worst_of, asked_audit, answered_audit, audits_with, answered_audits, notes_updates, updates_audited, noting};
 
 use crate::answer::Answer;
 use crate::updating::node_asked;
@@ -16,6 +16,7 @@ use std::alloc::{AllocError, Global};
 use ua_binary::{Listing, NodeId, Status};
 use ua_services::{HistoryUpdateDetails, HistoryUpdateResult};
 use ua_session::{AuditEvent, AuditName, Identity, Sessions, UpdateAudit, UpdateKind};
+use ua_settings::Settings;
 use ua_space::Space;
 
 /// The name by which somebody asks to be let in.
@@ -153,7 +154,15 @@ fn add_results(audits: &mut [UpdateAudit], results: &[HistoryUpdateResult])
     }
 }
 
-/// What a log is told of these updates of a user, which were answered so.
+/// Whether what updates come to is noted: for a log of events; and where peers have a door, since records of one's own number
+/// come back there only to a store that no client updated.
+pub(crate) fn notes_updates(settings: &Settings) -> bool
+    ensures { result ≡ notes_updates settings.now }
+{
+    settings.tells_events() || settings.door().is_some()
+}
+
+/// What is noted of these updates of a user, which were answered so.
 pub(crate) fn update_event(
     user: &str,
     audits: Vec<UpdateAudit>,

@@ -14,12 +14,12 @@ ghost use Rattle.historian.specs.declared.service.Service.TheVariants as service
 ghost use Rattle.historian.specs.Updating.{node_asked, type_granted, update_of, asked_for, update_item, update_history};
 ghost use Rattle.historian.specs.Requests.{call_in};
 ghost use Rattle.historian.specs.Services.{site_of, answered_call};
-ghost use Rattle.historian.specs.Auditing.{updates_audited};
+ghost use Rattle.historian.specs.Auditing.{notes_updates, updates_audited};
 ghost use Rattle.historian.specs.Telling.{IsEncodable, ComesTo, Performs, response_made};
 ghost use Rattle.historian.specs.UserSpaces.{space_for, user_space_of};
 
 use crate::answer::Answer;
-use crate::auditing::{audits_of, note, update_event};
+use crate::auditing::{audits_of, note, notes_updates, update_event};
 use crate::browsing::list_refusal;
 use crate::requests::history_update_request;
 use crate::server::Server;
@@ -280,7 +280,7 @@ fn update_all<A: Archive>(
     Ok(Answer::Updated(results))
 }
 
-/// What updates were answered, and what a log is told of them.
+/// What updates were answered, and what is noted of them.
 #[derive(Drop)]
 struct Audited {
     answer: Result<Answer, Status>,
@@ -302,14 +302,14 @@ fn update_audited<A: Archive>(
         (update_history (A.state server.old.replica.archive).own
         (space_for server.old.settings user.now) user.now now (map details_of details.now))
         done.answer) }
-    ensures event { IfOk result (λ done. done.event ≡ updates_audited server.old.settings.events
-        server.old.settings.space user.now (map details_of details.now)
-        (response_made done.answer)) }
+    ensures event { IfOk result (λ done. done.event ≡ updates_audited
+        (notes_updates server.old.settings) server.old.settings.space user.now
+        (map details_of details.now) (response_made done.answer)) }
     ensures starved { OnErr result (server.new ≡ server.old) }
     ensures settings { server.new.settings ≡ server.old.settings }
     ensures short { IfOk result (λ done. IfOk done.answer IsEncodable) }
 {
-    if !server.settings.tells_events() {
+    if !notes_updates(&server.settings) {
         return Ok(Audited {
             answer: update_all(server, user, now, details),
             event: None,

@@ -9,7 +9,7 @@ use Rattle.historian.specs.UserSpaces.{space_for}
 use Rattle.historian.specs.Updating.{update_history}
 use Rattle.historian.specs.Requests.{HistoryUpdate, call_in}
 use Rattle.historian.specs.Services.{site_of, answered_call}
-use Rattle.historian.specs.Auditing.{noting, updates_audited}
+use Rattle.historian.specs.Auditing.{notes_updates, noting, updates_audited}
 use Rattle.historian.specs.Telling.{ComesTo, Performs, response_made}
 use Rattle.ua_binary.specs.declared.codes.TheConstants.Status.{BAD_OUT_OF_MEMORY}
 use Rattle.historian.proofs.Performing.{performs-unread, performs-unknown, performs-starved, performs-updates, performs-here}
@@ -73,8 +73,8 @@ returns-clause-performs g c =
     let Q : List HistoryUpdateDetails → Type 0 = λ details.
     ComesTo a b (update_history a.own (space_for settings user) user c.args.now
     (map details_of details)) done.answer
-    × (done.event ≡ updates_audited settings.events settings.space user (map details_of details)
-    (response_made done.answer)) in
+    × (done.event ≡ updates_audited (notes_updates settings) settings.space user
+    (map details_of details) (response_made done.answer)) in
     let so = subst Q c.deref.ensures.value (c.in-Ok.ensures.comes, c.in-Ok.ensures.event) in
     performs-updates a b config c.args.now (node_of c.args.request.token) sessions
     c.note.new.sessions (map details_of c.in_ok-asked.asked.details.items) c.args.request.body user
