@@ -45,8 +45,9 @@ same_party a b faults passes =
     ap (λ i. let p : Party = record { id = i; own = b.own } in p) passes.id
     ∙ ap (λ n. let p : Party = record { id = a.id; own = n } in p) passes.own
 
--- a dialog over what an archive holds once it was asked is one over what it held before
-pub talks_behind : (a b c : Store) (start last : DialogState) (came out rest : List ℕ)
+-- a dialog over what an archive holds once it was asked is one over what it held before, by the
+-- same frames
+unfoldable pub talks_behind : (a b c : Store) (start last : DialogState) (came out rest : List ℕ)
     (ending : Option (Result PeerEnded ServeFault)) → KeepsContent a b → CountsFaults a b []
     → Talks start b c came out rest ending last → Talks start a c came out rest ending last
 talks_behind a b c start last came out rest ending stays passes talks = record {

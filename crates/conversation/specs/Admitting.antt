@@ -1,5 +1,6 @@
 -- Which records the settings take from peers, and what becomes of a frame that brings others.
-use Rattle.std.specs.Prelude.{◌≡◌, ℕ, ℤ, ◌==◌, ◌&&◌, ◌||◌, not, is_some, Bool, true, false, List, [], ◌∷◌, Option, None, Some, Result, Ok, Err, if◌then◌else◌}
+use Rattle.std.specs.Prelude.{◌≡◌, ℕ, ℤ, ◌==◌, ◌&&◌, ◌||◌, not, is_some, nat_lt, ◌^◌, Bool, true, false, List, [], ◌∷◌, Option, None, Some, Result, Ok, Err, if◌then◌else◌}
+use Rattle.std.specs.List.{list_any}
 use Rattle.std.specs.Option.{option_and_then}
 use Rattle.records.specs.Spelling.{GivesUnless}
 use Rattle.records.specs.Contents.{vec}
@@ -15,6 +16,7 @@ use Rattle.exchange.specs.declared.message.FrameKind.TheVariants.{Records}
 use Rattle.exchange.specs.declared.message.State.{State}
 use Rattle.exchange.specs.Streams.{FrameContent}
 use Rattle.ua_session.specs.declared.audit.AuditEvent.{AuditEvent}
+use Rattle.ua_session.specs.declared.audit.UpdateAudit.{UpdateAudit}
 use Rattle.ua_session.specs.declared.audit.AuditEvent.TheVariants.{Update}
 use Rattle.counted_io.specs.declared.fault.ServeFault.{ServeFault}
 use Rattle.ua_settings.specs.Settings.{SettingsValues}
@@ -56,9 +58,18 @@ abbrev pub restoring_behind : (restoring : Bool) → Result (Option ℕ) StoreFa
 restoring_behind restoring asked =
     elim asked [ Ok held ↦ restoring_with restoring held | Err met ↦ restoring ]
 
+-- something was done of details: values have a status each, or all went well; whom the server
+-- refuses to write gets a bad status and no others
+abbrev pub was_done : UpdateAudit → Bool
+was_done update = nat_lt 0 update.values || nat_lt update.worst.0 (2 ^ 30)
+
 -- a client's update ends that
 abbrev pub restoring_unless : (restoring : Bool) → Option AuditEvent → Bool
-restoring_unless restoring event = elim event [ Some (Update user updates) ↦ false | _ ↦ restoring ]
+restoring_unless restoring event =
+    elim event [
+      | Some (Update user updates) ↦ restoring && not (list_any was_done updates)
+      | _ ↦ restoring
+    ]
 
 -- the greatest number that is taken of them: that of the last one that is held, unless they come
 -- back

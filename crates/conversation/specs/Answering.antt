@@ -1,5 +1,5 @@
 -- What stands first on a connection, and what it is answered.
-use Rattle.std.specs.Prelude.{◌≡◌, ◌⊎◌, ℕ, ℤ, Bool, true, false, ◌+◌, ◌≤◌, List, [], ◌∷◌, Option, None, Some, Result, Ok, Err}
+use Rattle.std.specs.Prelude.{◌≡◌, ◌⊎◌, ℕ, ℤ, Bool, true, false, ◌≤◌, List, [], ◌∷◌, length, Option, None, Some, Result, Ok, Err}
 use Rattle.std.specs.Option.{option_map}
 use Rattle.std.specs.Result.{result_map_both}
 use Rattle.archive.specs.Store.{Store}
@@ -78,9 +78,9 @@ Tells said ends made ending =
     ((made ≡ said) × (ending ≡ peer_ending ends))
     ⊎ ((made ≡ []) × (ending ≡ Some (Err OutOfMemory)))
 
--- the frame that stood first in a peer's dialog, if it was whole, was answered over an archive,
--- since its records are taken; what the server is set to stays, and nothing is told. Between the
--- two the archive may have been asked how many records of its own number it holds
+-- the frame that stood first in a peer's dialog, if it was whole, and no other one was answered
+-- over an archive, since its records are taken; what the server is set to stays, and nothing is
+-- told. Between the two the archive may have been asked how many records of its own number it holds
 pub record AnswersPeer {A C L : Type 0} (state : A → Store) (gave : C → List ℤ → C → Type 0)
     (v : World A C L) (peer : PeerDialog) (made : List ℕ) (ending : Option ConversationEnding)
     (w : World A C L) (next : OtherEnd) : Type 0 where
@@ -109,7 +109,7 @@ pub record AnswersPeer {A C L : Type 0} (state : A → Store) (gave : C → List
       (party_of (state between)) peer.frames.waiting
   pub talks : Talks peer.dialog (state between) (state w.server.replica.archive)
       peer.frames.waiting said rest ends last
-  pub one : ends ≡ None → last.taken ≤ peer.dialog.taken + 1
+  pub one : length talks.taken ≤ 1
   pub tells : Tells said ends made ending
   pub leaves : next ≡ unless_over ending (Peer (peer_at last rest))
 

@@ -1,16 +1,17 @@
 //! Which records are taken from peers.
 
 ghost use Rattle.std.specs.Prelude.{◌≡◌, ℤ, List};
+ghost use Rattle.std.specs.List.{list_any};
 ghost use Rattle.std.specs.Option.{option_copied};
 ghost use Rattle.exchange.specs.Admissions.{admission_of, first_frame};
-ghost use Rattle.conversation.specs.Admitting.{admission_at, ahead_at, IsTimed, brings_records, is_own_asked, AsksOwn, restoring_with, restoring_unless, own_bound};
+ghost use Rattle.conversation.specs.Admitting.{admission_at, ahead_at, IsTimed, brings_records, is_own_asked, AsksOwn, restoring_with, restoring_unless, own_bound, was_done};
 
 use archive::{Archive, StoreFault};
 use exchange::{Admission, Bound, FrameKind, Frames};
 use historian::Server;
 use stamp::ReplicaNo;
 use ua_connection::Clock;
-use ua_session::AuditEvent;
+use ua_session::{AuditEvent, UpdateAudit};
 use ua_settings::{DoorSettings, Settings};
 
 /// Whether a frame stands first that brings records.
@@ -62,12 +63,26 @@ pub(crate) fn restoring_with(restoring: bool, held: Option<u64>) -> bool
     }
 }
 
-/// Whether they still come back behind what a client did: an update ends that.
+/// Whether something was done of details: values have a status each, or all went well.
+fn was_done(update: &UpdateAudit) -> bool
+    ensures { result ≡ was_done update.now }
+{
+    update.values > 0 || update.worst.0 < 0x4000_0000
+}
+
+/// Whether something was done of any of these.
+fn are_done(updates: &[UpdateAudit]) -> bool
+    ensures { result ≡ list_any was_done updates.now }
+{
+    updates.iter().any(|update| was_done(update))
+}
+
+/// Whether they still come back behind what a client did: an update ends that, of which something was done.
 pub(crate) fn restoring_unless(restoring: bool, event: Option<&AuditEvent>) -> bool
     ensures { result ≡ restoring_unless restoring (option_copied event.entry) }
 {
     match event {
-        Some(AuditEvent::Update { .. }) => false,
+        Some(AuditEvent::Update { updates, .. }) => { restoring && !are_done(updates.as_slice()) }
         Some(AuditEvent::Activation { .. }) | None => restoring,
     }
 }

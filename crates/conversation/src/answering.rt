@@ -1,13 +1,13 @@
 //! What stands first in what came, and its answer.
 
-ghost use Rattle.std.specs.Prelude.{◌≡◌, ◌⊎◌, ◌++◌, ◌+◌, ◌≤◌, List, ℕ, [], true, false, Option, None, Ok, Result};
+ghost use Rattle.std.specs.Prelude.{◌≡◌, ◌⊎◌, ◌++◌, List, ℕ, [], true, false, Option, None, Ok, Result};
 ghost use Rattle.multiplex.specs.Progress.{end_in};
 ghost use Rattle.multiplex.specs.declared.handler.Progress.TheVariants.{NeedsMore as Lacks};
 ghost use Rattle.exchange.specs.Frames.{frame_header};
 ghost use Rattle.ua_connection.specs.Turns.{NeedsBytes, ending_of};
 ghost use Rattle.ua_connection.specs.declared.turn.Step.TheVariants.{NeedsInput};
 ghost use Rattle.ua_peers.specs.Talking.{ending_of as peer_ending_of};
-ghost use Rattle.ua_peers.specs.Peers.{Talks};
+ghost use Rattle.ua_peers.specs.Peers.{TalksOnce};
 ghost use Rattle.exchange.specs.Dialogs.{party_of, TellsFault};
 ghost use Rattle.exchange.specs.declared.fault.ExchangeFault.{ExchangeFault as Fault};
 ghost use Rattle.exchange.specs.declared.message.State.{State as Standing};
@@ -137,12 +137,11 @@ fn take_frame<A: Archive>(
     requires sound { IsUsable (Peer peer.old) }
     requires empty { said.old.items ≡ [] }
     ensures talks { (ends : _) × (end_in result ≡ peer_ending ends)
-        × Talks peer.old.dialog (A.state server.old.replica.archive)
+        × TalksOnce peer.old.dialog (A.state server.old.replica.archive)
         (A.state server.new.replica.archive) peer.old.frames.waiting said.new.items
         peer.new.frames.waiting ends peer.new.dialog }
     ensures settings { server.new.settings ≡ server.old.settings }
-    ensures goes { end_in result ≡ None
-        → IsUsable (Peer peer.new) × (peer.new.dialog.taken ≤ peer.old.dialog.taken + 1) }
+    ensures goes { end_in result ≡ None → IsUsable (Peer peer.new) }
     ensures lacks { result ≡ Lacks
         → (said.new.items ≡ []) × (frame_header peer.new.frames.waiting ≡ Ok None) }
 {
@@ -194,7 +193,7 @@ fn answer_frame<A: Archive>(
         × IsAdmitted server.old.settings time
         (own_bound (restoring_with restoring.old held) (A.state between).own held)
         (party_of (A.state between)) peer.old.frames.waiting
-        × Talks peer.old.dialog (A.state between) (A.state server.new.replica.archive)
+        × TalksOnce peer.old.dialog (A.state between) (A.state server.new.replica.archive)
         peer.old.frames.waiting said.new.items peer.new.frames.waiting ends peer.new.dialog
         × (restoring.new ≡ restoring_with restoring.old held))
         ⊎ ((asked : Result (Option ℕ) StoreFault)
@@ -205,8 +204,7 @@ fn answer_frame<A: Archive>(
         said.new.items ends
         × (restoring.new ≡ restoring_behind restoring.old asked) × (peer.new ≡ peer.old))) }
     ensures settings { server.new.settings ≡ server.old.settings }
-    ensures goes { end_in result ≡ None
-        → IsUsable (Peer peer.new) × (peer.new.dialog.taken ≤ peer.old.dialog.taken + 1) }
+    ensures goes { end_in result ≡ None → IsUsable (Peer peer.new) }
     ensures lacks { result ≡ Lacks
         → (said.new.items ≡ []) × (frame_header peer.new.frames.waiting ≡ Ok None) }
 {

@@ -27,8 +27,8 @@ pub struct World<A, C, L> {
     pub calls: LastCalls,
     /// How many connections there are that came, and didn't end yet.
     pub connections: u64,
-    /// Whether records of the server's own number come back from peers: none was held as a frame brought records, and no client
-    /// updated anything since.
+    /// Whether records of the server's own number come back from peers: none was held as a frame brought records, and nothing
+    /// was done since of a client's update.
     pub restoring: bool,
 }
 

@@ -1,17 +1,10 @@
 -- What is answered on one connection of many is a turn of a machine.
-use Rattle.std.proofs.Common.{◌≡◌, ℕ, ℤ, false, List, [], ◌++◌, map, Option, None, Some, Result, Ok, Err, refl, sym, ap, subst, ◌∙◌, inl, inr}
+use Rattle.std.proofs.Common.{◌≡◌, ℕ, ℤ, List, [], ◌++◌, map, Option, None, Some, Result, Ok, Err, refl, sym, ap, subst, ◌∙◌, inl, inr}
 use Rattle.std.proofs.lemmas.List.{append-nil}
-use Rattle.std.proofs.Math.Bool.{or-false}
-use Rattle.records.specs.Contents.{Content}
-use Rattle.archive.specs.declared.fault.StoreFault.{StoreFault}
-use Rattle.archive.specs.Store.{Store, KeepsContent, CountsFaults}
-use Rattle.archive.proofs.Calls.{passes-then}
-use Rattle.exchange.specs.Messages.{Party}
-use Rattle.exchange.proofs.HandleLemmas.{unbroken_before}
-use Rattle.ua_peers.specs.Peers.{side_of, after_all, AreAnswered, IsLeftBy, Talks}
+use Rattle.archive.specs.Store.{Store}
 use Rattle.counted_io.specs.declared.fault.ServeFault.{ServeFault}
 use Rattle.exchange.specs.declared.fault.ExchangeFault.{ExchangeFault}
-use Rattle.exchange.specs.Dialogs.{DialogState, IsHeld, party_of}
+use Rattle.exchange.specs.Dialogs.{party_of}
 use Rattle.ua_connection.specs.Turns.{ConnectionState}
 use Rattle.ua_peers.specs.Wires.{IsStartOf}
 use Rattle.ua_peers.specs.declared.peers.PeerEnded.{PeerEnded}
@@ -29,7 +22,7 @@ use Rattle.conversation.specs.OtherEnds.{none_moved}
 use Rattle.multiplex.specs.declared.stay.Stay.{Stay}
 use Rattle.ua_peers.specs.declared.calling.Synced.{Synced}
 use Rattle.conversation.specs.Starting.{AsksPeer, BeginsBy, StartsCall}
-use Rattle.conversation.proofs.Asked.{own_leaves, own_answered}
+use Rattle.conversation.proofs.Asked.{own_leaves, own_answered, talks_behind}
 use Rattle.headline.specs.Machines.{RestartsAs, IsMachine}
 use Rattle.headline.specs.Plants.{AreUnforged, BeginsCall, Plant, plant_after, IsClientTurn, IsPeerTurn, IsCallTurn, IsRefusalTurn}
 
@@ -48,59 +41,6 @@ begun_by : (a b : Store) (made : List ℕ) (result : Result (Unit {0}) ExchangeF
 begun_by a b made result (inl greets) = (made, result, greets, ([], sym (append-nil made)))
 begun_by a b made result (inr (frame, greets, none, starved)) =
     (frame, Ok tt, greets, (frame, ap (λ (l : List ℕ). l ++ frame) (sym none)))
-
--- the archive stands for the same party
-same_party : (a b : Store) (faults : List StoreFault) → CountsFaults a b faults
-    → party_of b ≡ party_of a
-same_party a b faults passes =
-    ap (λ i. let p : Party = record { id = i; own = b.own } in p) passes.id
-    ∙ ap (λ n. let p : Party = record { id = a.id; own = n } in p) passes.own
-
--- a dialog over what an archive holds once it was asked is one over what it held before, by the
--- same frames. Another crate's lemma that says so tells nothing of the frames
-talks_over : (a b c : Store) (start last : DialogState) (came out rest : List ℕ)
-    (ending : Option (Result PeerEnded ServeFault)) → KeepsContent a b → CountsFaults a b []
-    → Talks start b c came out rest ending last → Talks start a c came out rest ending last
-talks_over a b c start last came out rest ending stays passes talks = record {
-  taken = talks.taken;
-  beside = talks.beside;
-  frames = talks.frames;
-  wrote = talks.wrote;
-  ends = talks.ends;
-  passes = passes-then a b c [] _ passes talks.passes;
-  answered = λ honest R held.
-      subst (λ p. AreAnswered p (side_of start R) talks.taken) same
-      (talks.answered honest R (still R honest held));
-  stands = λ honest R held.
-      subst (λ p. last ≡ (after_all p (side_of start R) talks.taken).standing) same
-      (talks.stands honest R (still R honest held));
-  content = λ honest R held.
-      subst (λ p. IsHeld c (after_all p (side_of start R) talks.taken).content) same
-      (talks.content honest R (still R honest held));
-  used = λ honest unbroken none. talks.used honest (whole unbroken) none;
-  crash = λ honest R held left found. elim (talks.crash honest R (still R honest held) left found) [
-    | inl before ↦ inl (
-      stays.crash (talks.passes.honest honest) left before.0,
-      λ unbroken. subst (λ p. (after_all p (side_of start R) talks.taken).content ≡ R) same
-          (before.1 (whole unbroken)),
-    )
-    | inr more ↦ inr (
-      unbroken_before a b _ passes more.0,
-      subst (λ p. IsLeftBy p (side_of start R) talks.taken left) same more.1,
-    )
-  ];
-}
-  where
-    same : party_of b ≡ party_of a
-    same = same_party a b [] passes
-
-    still : (R : Content) → c.honest → IsHeld a R → IsHeld b R
-    still R honest held unbroken =
-        stays.content (talks.passes.honest honest) unbroken
-        ∙ held (unbroken_before a b _ passes unbroken)
-
-    whole : a.broken ≡ false → b.broken ≡ false
-    whole unbroken = passes.broken ∙ or-false a.broken ∙ unbroken
 
 module _ {A C L : Type 0} (state : A → Store) where
   pub client_turns : (gave : C → List ℤ → C → Type 0) (told : Telling L) (stay : Stay)
@@ -144,7 +84,7 @@ module _ {A C L : Type 0} (state : A → Store) where
       → (state w.server.replica.archive).honest
       → RestartsAs (state w.server.replica.archive) (state later)
       → IsPeerTurn state old (plant_after old place later made)
-  unfolding talks_over
+  unfolding talks_behind
   peer_turns gave v w peer made ending next old place later answers unforged there honest goes =
       let kept = own_answered state _ _ answers.between _ answers.asks in
       record {
@@ -162,7 +102,7 @@ module _ {A C L : Type 0} (state : A → Store) where
             rest = answers.rest;
             ending = answers.ends;
             last = answers.last;
-            talks = talks_over _ _ _ _ _ _ _ _ _ kept.0 kept.1 answers.talks;
+            talks = talks_behind _ _ _ _ _ _ _ _ _ kept.0 kept.1 answers.talks;
             unforged = unforged;
             part = told_part answers.said made answers.ends ending answers.tells;
           };

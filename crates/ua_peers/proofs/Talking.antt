@@ -24,9 +24,9 @@ use Rattle.counted_io.specs.declared.fault.ServeFault.TheVariants.{Read, Write, 
 use Rattle.ua_peers.specs.declared.peers.PeerEnded.{PeerEnded}
 use Rattle.ua_peers.specs.declared.peers.PeerEnded.TheVariants as parted
 use Rattle.counted_io.specs.Bytes.{AppendsPart}
-use Rattle.ua_peers.specs.Peers.{failed_as, ended_as, is_silent, Talks, Speaks, MeetsTo}
+use Rattle.ua_peers.specs.Peers.{failed_as, ended_as, is_silent, Talks, TalksOnce, Speaks, MeetsTo}
 use Rattle.ua_peers.specs.Talking.{ending_of, stop_of, ending_in, IsReady, TakesOne, LeavesOne, IsNoLess, IsDrained, LeavesAll, AnswersAll, SentAllReplies, TellsWant, DrainedSoFar, MeetsSoFar}
-use Rattle.ua_peers.proofs.Talks.{talks-start, talks-then, talks-more, talks-starved, talks-frame, talks-malformed}
+use Rattle.ua_peers.proofs.Talks.{talks-start, talks-then, talks-more, talks-starved, once-start, once-frame, once-malformed}
 
 -- ---- the ends of a dialog that the server spells itself
 
@@ -121,12 +121,12 @@ next-cut held sound = go held.failed sound
 pub first-none : (a : Store) (s : DialogState) (held left : ReceivedFrames) (out : List ℕ)
     → held.failed ≡ false → next_of held ≡ Ok None → left ≡ after_next held (next_of held)
     → out ≡ []
-    → Talks s a a held.waiting out left.waiting None s
+    → TalksOnce s a a held.waiting out left.waiting None s
 first-none a s held left out sound e is none =
     let same : left ≡ held = is ∙ ap (after_next held) e in
-    subst (λ (o : List ℕ). Talks s a a held.waiting o left.waiting None s) (sym none)
-    (subst (λ (h : ReceivedFrames). Talks s a a held.waiting [] h.waiting None s) (sym same)
-    (talks-start s a held.waiting))
+    subst (λ (o : List ℕ). TalksOnce s a a held.waiting o left.waiting None s) (sym none)
+    (subst (λ (h : ReceivedFrames). TalksOnce s a a held.waiting [] h.waiting None s) (sym same)
+    (once-start s a held.waiting))
 
 pub leaves-none : (s : DialogState) (held left : ReceivedFrames) → held.failed ≡ false
     → next_of held ≡ Ok None → left ≡ after_next held (next_of held) → LeavesOne held left s s None
@@ -141,7 +141,7 @@ pub first-some : (a b : Store) (before next : DialogState) (held left : Received
     → Gives held (Ok (Some frame))
     → left ≡ after_next held (next_of held) → empty ≡ []
     → Takes a b before next frame.kind frame.body.now empty out result
-    → Talks before a b held.waiting out left.waiting
+    → TalksOnce before a b held.waiting out left.waiting
     (ended_as next.code (is_silent out) result) next
 first-some a b before next held left frame empty out result sound gives is none takes =
     let piece : FrameContent = record { kind = frame.kind; body = frame.body.now } in
@@ -153,9 +153,9 @@ first-some a b before next held left frame empty out result sound gives is none 
     let taken : Takes a b before next frame.kind frame.body.now [] out result =
     subst (λ (o : List ℕ). Takes a b before next frame.kind frame.body.now o out result) none
     takes in
-    subst (λ (w : List ℕ). Talks before a b held.waiting out w
+    subst (λ (w : List ℕ). TalksOnce before a b held.waiting out w
     (ended_as next.code (is_silent out) result) next) (sym rest)
-    (talks-frame a b before next (record { kind = frame.kind; body = frame.body.now }) held.waiting
+    (once-frame a b before next (record { kind = frame.kind; body = frame.body.now }) held.waiting
     out result stands gives.1 gives.2 taken)
 
 few-if : (over due : Bool) (b : Bool)
@@ -206,7 +206,7 @@ pub first-malformed : (a : Store) (s : DialogState) (held left : ReceivedFrames)
     (fault told : ExchangeFault) (out : List ℕ) → held.failed ≡ false → next_of held ≡ Err fault
     → left ≡ after_next held (next_of held)
     → TellsFault exchange.Frame (Err told) [] out
-    → Talks s a a held.waiting out left.waiting (ended_as s.code (is_silent out) (Err told)) s
+    → TalksOnce s a a held.waiting out left.waiting (ended_as s.code (is_silent out) (Err told)) s
 first-malformed a s held left fault told out sound e is tells =
     let cuts : frame_header held.waiting ≡ Err fault = sym (next-cut held sound) ∙ e in
     let malformed : frame_header held.waiting ≡ Err exchange.Frame =
@@ -214,8 +214,9 @@ first-malformed a s held left fault told out sound e is tells =
     (malformed-cut held.waiting fault cuts) in
     let rest : left.waiting ≡ held.waiting =
     ap (λ (h : ReceivedFrames). h.waiting) (is ∙ ap (after_next held) e) in
-    subst (λ (w : List ℕ). Talks s a a held.waiting out w (Some (failed_as (is_silent out) told)) s)
-    (sym rest) (talks-malformed a s held.waiting out told malformed tells)
+    subst (λ (w : List ℕ). TalksOnce s a a held.waiting out w
+    (Some (failed_as (is_silent out) told)) s)
+    (sym rest) (once-malformed a s held.waiting out told malformed tells)
 
 -- ---- a stretch
 

@@ -25,7 +25,7 @@ use Rattle.exchange.proofs.LeftLemmas.{answered_left}
 use Rattle.counted_io.specs.declared.fault.ServeFault.{ServeFault}
 use Rattle.ua_peers.specs.declared.peers.PeerEnded.{PeerEnded}
 use Rattle.ua_peers.specs.declared.peers.PeerEnded.TheVariants as parted
-use Rattle.ua_peers.specs.Peers.{Taken, Side, side_of, turn_of, side_after, after_all, AreAnswered, message_to, learned_by, IsLeftBy, AreOpen, failed_as, ended_as, is_silent, IsEnd, Talks}
+use Rattle.ua_peers.specs.Peers.{Taken, Side, side_of, turn_of, side_after, after_all, AreAnswered, message_to, learned_by, IsLeftBy, AreOpen, failed_as, ended_as, is_silent, IsEnd, Talks, TalksOnce}
 use Rattle.ua_peers.proofs.PeersParts.{faults_met, is_open}
 
 -- ---- lists of frames
@@ -192,6 +192,11 @@ talks-start start a rest = record {
   used = λ h u o. u;
   crash = λ h R held left m. inl (m, λ u. refl);
 }
+
+pub once-start : (start : DialogState) (a : Store) (rest : List ℕ)
+    → TalksOnce start a a rest [] rest None start
+unfolding talks-start
+once-start start a rest = record { talks = talks-start start a rest; one = omega (arith) }
 
 same-party : (a b : Store) (faults : List StoreFault) → CountsFaults a b faults
     → party_of b ≡ party_of a
@@ -478,6 +483,20 @@ talks-frame a b before next frame waiting said result stands within body takes =
       crash = λ h R held left m. left-frame a before R t left held (takes.crash h left m);
     }
 
+pub once-frame : (a b : Store) (before next : DialogState) (frame : FrameContent)
+    (waiting said : List ℕ) (result : Result State ExchangeFault)
+    → frame_header waiting ≡ Ok (Some (header_of frame))
+    → Rattle.exchange.specs.Frames.IsWholeFrame waiting (header_of frame)
+    → frame.body ≡ drop 8 (take (8 + length frame.body) waiting)
+    → Takes a b before next frame.kind frame.body [] said result
+    → TalksOnce before a b waiting said (drop (8 + length frame.body) waiting)
+    (ended_as next.code (is_silent said) result) next
+unfolding talks-frame
+once-frame a b before next frame waiting said result stands within body takes = record {
+  talks = talks-frame a b before next frame waiting said result stands within body takes;
+  one = omega (arith);
+}
+
 -- what came is no frame
 pub talks-malformed : (a : Store) (before : DialogState) (waiting beside : List ℕ)
     (fault : ExchangeFault)
@@ -502,4 +521,14 @@ talks-malformed a before waiting beside fault malformed told = record {
   content = λ h R held. held;
   used = λ h u o. absurd (cc);
   crash = λ h R held left m. inl (m, λ u. refl);
+}
+
+pub once-malformed : (a : Store) (before : DialogState) (waiting beside : List ℕ)
+    (fault : ExchangeFault)
+    → frame_header waiting ≡ Err exchange.Frame → TellsFault exchange.Frame (Err fault) [] beside
+    → TalksOnce before a a waiting beside waiting (Some (failed_as (is_silent beside) fault)) before
+unfolding talks-malformed
+once-malformed a before waiting beside fault malformed told = record {
+  talks = talks-malformed a before waiting beside fault malformed told;
+  one = omega (arith);
 }

@@ -4,7 +4,7 @@ ghost use Rattle.std.specs.Prelude.{◌≡◌, false, [], IsErrOf, ◌≤◌, �
 ghost use Rattle.exchange.specs.declared.fault.ExchangeFault.TheVariants as exchange;
 ghost use Rattle.exchange.specs.Dialogs.{TellsFault};
 ghost use Rattle.counted_io.specs.Bytes.{CountsWhere};
-ghost use Rattle.ua_peers.specs.Peers.{is_silent, Talks, MeetsTo, MeetsBehind, Meets, responding};
+ghost use Rattle.ua_peers.specs.Peers.{is_silent, TalksOnce, MeetsTo, MeetsBehind, Meets, responding};
 ghost use Rattle.ua_peers.specs.Talking.{ending_of, stop_of, IsReady, LeavesOne, LeavesAll, SentAllReplies, TellsWant};
 
 use archive::Archive;
@@ -54,7 +54,7 @@ pub fn take_first<A: Archive>(
     requires ready { IsReady dialog.old }
     requires sound { frames.old.failed ≡ false }
     requires empty { out.old.items ≡ [] }
-    ensures talks { Talks dialog.old (A.state replica.old.archive)
+    ensures talks { TalksOnce dialog.old (A.state replica.old.archive)
         (A.state replica.new.archive) frames.old.waiting out.new.items frames.new.waiting
         (ending_of dialog.new.code (is_silent out.new.items) result) dialog.new }
     ensures leaves { LeavesOne frames.old frames.new dialog.old dialog.new result }

@@ -8,16 +8,15 @@ use Rattle.multiplex.specs.Progress.{end_in}
 use Rattle.conversation.specs.Admitting.{restoring_with, own_bound, IsAdmitted, Refuses}
 use Rattle.conversation.specs.declared.other_end.OtherEnd.TheVariants.{Peer, Over}
 use Rattle.conversation.specs.declared.other_end.PeerDialog.{PeerDialog}
-use Rattle.conversation.specs.Answering.{peer_ending}
 use Rattle.conversation.specs.OtherEnds.{ConversationEnding, IsUsable, moved_by, peer_at, unless_over}
 use Rattle.conversation.proofs.answering.answer_peer.Goals as goal
 
 -- the dialog that goes on is told by how it stands and by what waits
-left_so : {X : Type 0} (ending : Option ConversationEnding) (peer : PeerDialog)
-    → (ending ≡ None → IsUsable (Peer peer) × X)
+left_so : (ending : Option ConversationEnding) (peer : PeerDialog)
+    → (ending ≡ None → IsUsable (Peer peer))
     → unless_over ending (Peer peer)
     ≡ unless_over ending (Peer (peer_at peer.dialog peer.frames.waiting))
-left_so None peer goes = ap Peer (goes refl).0.1
+left_so None peer goes = ap Peer (goes refl).1
 left_so (Some end) peer goes = refl
 
 pub returns-then-append-clause-answers : goal.returns-then-append-clause-answers
@@ -57,8 +56,8 @@ returns-then-append-clause-answers g c =
               (own_bound (restoring_with c.args.world.now.restoring held)
               (g.A.Archive.state between).own held) (party_of (g.A.Archive.state between))
               c.args.peer.now.frames.waiting) same admitted;
-          talks = talks;
-          one = λ none. (answered.ensures.goes (is ∙ ap peer_ending none)).1;
+          talks = talks.talks;
+          one = talks.one;
           tells = inl (refl, is);
           leaves = left_so _ answered.new.peer answered.ensures.goes;
         })
@@ -124,8 +123,8 @@ returns-else-append-clause-answers g c =
               (own_bound (restoring_with c.args.world.now.restoring held)
               (g.A.Archive.state between).own held) (party_of (g.A.Archive.state between))
               c.args.peer.now.frames.waiting) same admitted;
-          talks = talks;
-          one = λ none. (answered.ensures.goes (is ∙ ap peer_ending none)).1;
+          talks = talks.talks;
+          one = talks.one;
           tells = inr (refl, refl);
           leaves = refl;
         })

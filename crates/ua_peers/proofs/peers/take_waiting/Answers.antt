@@ -33,7 +33,7 @@ returns-in_err-send-clause-drained g c =
     c.take_first-first.new.frames.waiting c.take_first-first.new.out.items
     (ending_of c.take_first-first.new.dialog.code
     (is_silent c.take_first-first.new.out.items) c.take_first-first.result)
-    c.from_residual.result c.turns.invariant.so_far c.take_first-first.ensures.talks part is
+    c.from_residual.result c.turns.invariant.so_far c.take_first-first.ensures.talks.talks part is
 
 pub returns-in-Some-clause-drained : goal.returns-in-Some-clause-drained
 returns-in-Some-clause-drained g c =
@@ -57,7 +57,7 @@ returns-in-Some-clause-drained g c =
     (contents c.send.new.self.inner) c.args.frames.now.waiting c.turns.frames.waiting
     c.take_first-first.new.frames.waiting c.take_first-first.new.out.items
     (is_silent c.take_first-first.new.out.items) c.take_first-first.result c.in-Some.end
-    c.turns.invariant.so_far c.take_first-first.ensures.talks (c.in-Some.ensures ∙ same) all
+    c.turns.invariant.so_far c.take_first-first.ensures.talks.talks (c.in-Some.ensures ∙ same) all
 
 pub turns-preserved : goal.turns-preserved
 turns-preserved g c =
@@ -93,5 +93,5 @@ turns-preserved g c =
           (contents c.send.new.self.inner) c.args.frames.now.waiting c.turns.frames.waiting
           c.take_first-first.new.frames.waiting c.take_first-first.new.out.items
           (is_silent c.take_first-first.new.out.items) c.take_first-first.result
-          c.turns.invariant.so_far c.take_first-first.ensures.talks none all;
+          c.turns.invariant.so_far c.take_first-first.ensures.talks.talks none all;
     }
