@@ -34,7 +34,7 @@ use Rattle.historian.specs.Services.{ServerConfig, MessageOutcome, answered as p
 use Rattle.counted_io.specs.declared.fault.ServeFault.TheVariants.{Read, Write, TooLong, OutOfMemory}
 use Rattle.ua_connection.specs.declared.outcome.Served.TheVariants.{EndOfInput, Closed, Refused}
 use Rattle.ua_connection.specs.Environments.{Environment, before, WithEnvironment, by_marks, or_out_of_memory, clock}
-use Rattle.ua_connection.specs.Run.{Reply, stream_answered, joined, AnswersStream}
+use Rattle.ua_connection.specs.Run.{Reply, stream_answered, with_later, AnswersStream}
 use Rattle.ua_connection.specs.Client.{ClientState, Item, whole, malformed, partial, Ending, Answering, ends, goes, refuse, acknowledged, greeted, opened, outcome_response, responded, answer_to_taken, placed_answer, channel_chunk_answer, chunk_answer, item_answer, answer, found, chunks, next}
 use Rattle.ua_connection.specs.Serving.{new_standing, IsServed}
 use Rattle.ua_connection.specs.Conversation.{limits_by, IsGranted, opening_behind, had, well_placed_answer, answer_behind, counted_chunk_answer, taken_with, channel_answer, rest_answer, chunks_answer, Chunked, stream_answer, IsConversed}
@@ -255,7 +255,7 @@ next-same config standing past piece knows other =
 
 -- replies that are one where the connection goes on
 joined-on : (reply : Reply ClientState Ending) (a b : Answering) (left : Environment)
-    → (reply.ending ≡ None → a left ≡ b left) → joined a reply left ≡ joined b reply left
+    → (reply.ending ≡ None → a left ≡ b left) → with_later a reply left ≡ with_later b reply left
 joined-on reply a b left same = go reply.ending refl
   where
     go : (o : Option Ending) → reply.ending ≡ o
@@ -285,7 +285,7 @@ refuse-always standing code = made-always _ _ (λ marks readings. (_, refl))
 
 always-alone : (f : Answering) (later : Reply ClientState Ending → Answering)
     (outside : Environment) → Always f
-    → and_then f (λ reply. joined (later reply) reply) outside ≡ f outside
+    → and_then f (λ reply. with_later (later reply) reply) outside ≡ f outside
 always-alone f later outside always = go (f outside).0.ending refl
   where
     go : (o : Option Ending) → (f outside).0.ending ≡ o
@@ -365,15 +365,15 @@ chunk-answered : (config : ServerConfig) (standing : ClientState) (piece : Chunk
     (had standing f outside).1
     ≡ later (had standing f outside).0.state (had standing f outside).1)
     → stream_answered (chunks config) standing (chunk ++ more) outside
-    ≡ and_then (had standing f) (λ reply. joined (later reply.state) reply) outside
+    ≡ and_then (had standing f) (λ reply. with_later (later reply.state) reply) outside
 chunk-answered config standing piece chunk more f later outside one is behind =
     let r = had standing f outside in
     first_item config standing (chunk ++ more) (whole piece, length chunk) outside
     (stands-first standing piece chunk more one)
     ∙ ap (λ (g : Answering). and_then (had standing g)
-    (λ reply. joined (stream_answered (chunks config) reply.state
+    (λ reply. with_later (stream_answered (chunks config) reply.state
     (drop (length chunk) (chunk ++ more))) reply) outside) is
-    ∙ ap (λ (b : List ℕ). joined (stream_answered (chunks config) r.0.state b) r.0 r.1)
+    ∙ ap (λ (b : List ℕ). with_later (stream_answered (chunks config) r.0.state b) r.0 r.1)
     (drop-append_seam chunk more)
     ∙ joined-on r.0 (stream_answered (chunks config) r.0.state more) (later r.0.state) r.1 behind
 

@@ -24,7 +24,7 @@ use Rattle.historian.specs.Services.{ServerConfig, MessageOutcome, answered as p
 use Rattle.counted_io.specs.declared.fault.ServeFault.TheVariants.{TooLong}
 use Rattle.archive.specs.Steps.{give, and_then}
 use Rattle.ua_connection.specs.Environments.{Environment, WithEnvironment, by_marks, or_out_of_memory, clock}
-use Rattle.ua_connection.specs.Run.{Reply, stream_answered, joined, ended}
+use Rattle.ua_connection.specs.Run.{Reply, stream_answered, with_later, ended}
 use Rattle.ua_connection.proofs.RunParts.{stepped}
 use Rattle.ua_connection.specs.Client.{ClientState, Item, whole, malformed, partial, Ending, Answering, ends, goes, refuse, acknowledged, greeted, opened, outcome_response, responded, answer_to_taken, chunk_answer, item_answer, answer, chunks, next}
 use Rattle.ua_connection.specs.Client.{placed_answer, channel_chunk_answer}
@@ -183,7 +183,7 @@ pub first_item : (config : ServerConfig) (standing : ClientState) (bytes : List 
     (outside : Environment) → next standing bytes ≡ Some item
     → stream_answered (chunks config) standing bytes outside
     ≡ and_then (answer config standing item.0) (λ reply.
-    joined (stream_answered (chunks config) reply.state (drop item.1 bytes)) reply) outside
+    with_later (stream_answered (chunks config) reply.state (drop item.1 bytes)) reply) outside
 first_item config standing bytes item outside stands =
     answered-step (chunks config) (falls config) standing bytes outside
     ∙ ap (λ (o : Option (Item × ℕ)).

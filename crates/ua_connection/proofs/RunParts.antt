@@ -2,7 +2,7 @@
 use Rattle.std.specs.Prelude.{List, ◌++◌, drop, Option, None, Some, ℕ}
 use Rattle.archive.specs.Steps.{give, and_then}
 use Rattle.ua_connection.specs.Environments.{WithEnvironment}
-use Rattle.ua_connection.specs.Run.{Reply, Protocol, joined, ended}
+use Rattle.ua_connection.specs.Run.{Reply, Protocol, with_later, ended}
 
 abbrev pub joined_by : {C E : Type 0} → WithEnvironment (Reply C E) → Reply C E → Option E
     → WithEnvironment (Reply C E)
@@ -19,5 +19,5 @@ stepped later p state bytes given = elim given [
   | None ↦ ended p state
   | Some item ↦
       and_then (p.answer state item.0)
-      (λ reply. joined (later reply.state (drop item.1 bytes)) reply)
+      (λ reply. with_later (later reply.state (drop item.1 bytes)) reply)
 ]

@@ -3,7 +3,7 @@ use Rattle.std.proofs.Common.{◌≡◌, ℕ, zero, suc, ◌+◌, ◌<◌, ◌�
 use Rattle.std.specs.Prelude.{Option}
 use Rattle.std.proofs.lemmas.List.{length-drop, length-append, drop-append-le}
 use Rattle.ua_connection.specs.Environments.{Environment, before, WithEnvironment, YieldsWith}
-use Rattle.ua_connection.specs.Run.{Reply, Protocol, joined, run_items, stream_answered, AnswersStream}
+use Rattle.ua_connection.specs.Run.{Reply, Protocol, with_later, run_items, stream_answered, AnswersStream}
 use Rattle.ua_connection.proofs.RunParts.{joined_by, stepped}
 use Rattle.ua_connection.proofs.Outsides.{before-before, empty_environment}
 
@@ -17,7 +17,7 @@ abbrev behind : {C E : Type 0} → List ℕ → Reply C E × Environment → Rep
 behind written x = (record x.0 { out = written ++ x.0.out }, x.1)
 
 pub joined-same : {C E : Type 0} (reply : Reply C E) (a b : WithEnvironment (Reply C E))
-    (left : Environment) → a left ≡ b left → joined a reply left ≡ joined b reply left
+    (left : Environment) → a left ≡ b left → with_later a reply left ≡ with_later b reply left
 joined-same {C} {E} reply a b left same = go reply.ending
   where
     go : (o : Option E) → joined_by a reply o left ≡ joined_by b reply o left
@@ -71,13 +71,13 @@ pub answered-item : {C X E : Type 0} (p : Protocol C X E) → Falls p
     (later : Environment)
     → p.next state bytes ≡ Some item → YieldsWith (p.answer state item.0) used reply
     → stream_answered p state bytes (before used later)
-    ≡ joined (stream_answered p reply.state (drop item.1 bytes)) reply later
+    ≡ with_later (stream_answered p reply.state (drop item.1 bytes)) reply later
 answered-item {C} {X} {E} p falls state bytes item used reply later stands does =
     answered-step p falls state bytes (before used later)
     ∙ ap (λ (o : Option (X × ℕ)). stepped (stream_answered p) p state bytes o (before used later))
     stands
     ∙ ap (λ (r : Reply C E × Environment).
-    joined (stream_answered p r.0.state (drop item.1 bytes)) r.0 r.1) (does.does later)
+    with_later (stream_answered p r.0.state (drop item.1 bytes)) r.0 r.1) (does.does later)
 
 -- nothing was answered yet
 pub answers-start : {C X E : Type 0} (p : Protocol C X E) (start : C) (bytes : List ℕ)
@@ -97,13 +97,13 @@ answers-item {C} {X} {E} p falls state bytes item used reply stands does =
     record {
       goes = λ more later.
           answered-item p falls state (bytes ++ more) item used reply later (stands more) does
-          ∙ ap (λ rest. joined (stream_answered p reply.state rest) reply later)
+          ∙ ap (λ rest. with_later (stream_answered p reply.state rest) reply later)
           (drop-append-le item.1 bytes more within);
     }
 
 joined-ended : {C E : Type 0} (reply : Reply C E) (left : Environment) (ending : E)
     (a b : WithEnvironment (Reply C E)) → reply.ending ≡ Some ending
-    → joined a reply left ≡ joined b reply left
+    → with_later a reply left ≡ with_later b reply left
 joined-ended {C} {E} reply left ending a b ended =
     let P : Option E → Type 0 = λ o. joined_by a reply o left ≡ joined_by b reply o left in
     subst P (sym ended) refl
@@ -123,8 +123,8 @@ answers-end p falls state bytes rest used reply ending ended so = record {
 
 joined-after : {C E : Type 0} (written : List ℕ) (reply : Reply C E)
     (later : WithEnvironment (Reply C E)) (left : Environment)
-    → behind written (joined later reply left)
-    ≡ joined later (record {
+    → behind written (with_later later reply left)
+    ≡ with_later later (record {
       out = written ++ reply.out;
       ending = reply.ending;
       state =
@@ -165,6 +165,6 @@ answers-more p start bytes piece used reply rest so = record {
   goes = λ more later.
       ap (λ b. stream_answered p start b (before used later)) (append_assoc bytes piece more)
       ∙ so.goes (piece ++ more) later
-      ∙ ap (λ b. joined (stream_answered p reply.state b) reply later)
+      ∙ ap (λ b. with_later (stream_answered p reply.state b) reply later)
       (sym (append_assoc rest piece more));
 }

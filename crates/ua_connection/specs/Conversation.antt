@@ -19,7 +19,7 @@ use Rattle.historian.specs.Services.{ServerConfig}
 use Rattle.counted_io.specs.declared.fault.ServeFault.TheVariants.{TooLong}
 use Rattle.ua_connection.specs.declared.outcome.Served.TheVariants.{EndOfInput, Closed}
 use Rattle.ua_connection.specs.Environments.{Environment, before, or_out_of_memory, clock}
-use Rattle.ua_connection.specs.Run.{joined}
+use Rattle.ua_connection.specs.Run.{with_later}
 use Rattle.ua_connection.specs.Client.{ClientState, Ending, Answering, ends, goes, refuse, greeted, opened, responded}
 use Rattle.ua_connection.specs.Serving.{new_standing}
 
@@ -107,7 +107,9 @@ abbrev pub channel_answer
 channel_answer config end past standing [] = end standing
 channel_answer config end past standing (piece ∷ pieces) =
     and_then (had standing (counted_chunk_answer config past standing piece))
-    (λ reply. joined (channel_answer config end (taken_with past piece) reply.state pieces) reply)
+    (λ reply.
+    let later = channel_answer config end (taken_with past piece) reply.state pieces in
+    with_later later reply)
 
 -- the end of the stream: a fault is refused; less than a chunk, or nothing, is the input's end
 abbrev pub rest_answer : Option UacpFault → List ℕ → ClientState → Answering
@@ -121,7 +123,7 @@ abbrev pub chunks_answer : ServerConfig → (ClientState → Answering) → Clie
 chunks_answer config end standing [] = end standing
 chunks_answer config end standing (first ∷ pieces) =
     and_then (had standing (greeted standing (hello_at first.body)))
-    (λ reply. joined (channel_answer config end [] reply.state pieces) reply)
+    (λ reply. with_later (channel_answer config end [] reply.state pieces) reply)
 
 -- the same of a stream, of a client of whom nothing was answered, over what the archive holds
 abbrev pub stream_answer : ServerConfig → Content → (bytes : List ℕ) → Chunked bytes → Answering

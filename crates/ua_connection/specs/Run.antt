@@ -16,9 +16,9 @@ Protocol C X E =
     { next : C → List ℕ → Option (X × ℕ); answer : C → X → WithEnvironment (Reply C E); at_end : E }
 
 -- a reply, and where it doesn't end the stream what comes after it
-abbrev pub joined : {C E : Type 0} → WithEnvironment (Reply C E) → Reply C E
+abbrev pub with_later : {C E : Type 0} → WithEnvironment (Reply C E) → Reply C E
     → WithEnvironment (Reply C E)
-joined later reply =
+with_later later reply =
     elim reply.ending [
       | Some e ↦ give reply
       | None ↦ and_then later (λ more. give (record more { out = reply.out ++ more.out }))
@@ -36,7 +36,7 @@ run_items p (suc n) state bytes =
     elim (p.next state bytes) [
       | None ↦ ended p state
       | Some item ↦ and_then (p.answer state item.0)
-          (λ reply. joined (run_items p n reply.state (drop item.1 bytes)) reply)
+          (λ reply. with_later (run_items p n reply.state (drop item.1 bytes)) reply)
     ]
 
 -- the answer to a whole stream; an item has a byte at least, so that as many items as bytes, and
@@ -52,4 +52,4 @@ pub record AnswersStream {C X E : Type 0} (p : Protocol C X E) (start : C) (byte
     (used : Environment) (reply : Reply C E) (rest : List ℕ) : Type 0 where
   pub goes : (more : List ℕ) (later : Environment)
       → stream_answered p start (bytes ++ more) (before used later)
-      ≡ joined (stream_answered p reply.state (rest ++ more)) reply later
+      ≡ with_later (stream_answered p reply.state (rest ++ more)) reply later

@@ -6,7 +6,7 @@ ghost use Rattle.records.specs.Contents.{Content};
 ghost use Rattle.historian.specs.Services.{ServerConfig};
 ghost use Rattle.ua_connection.specs.Environments.{Environment};
 ghost use Rattle.archive.specs.Steps.{and_then};
-ghost use Rattle.ua_connection.specs.Run.{stream_answered, joined, ended};
+ghost use Rattle.ua_connection.specs.Run.{stream_answered, with_later, ended};
 ghost use Rattle.ua_connection.specs.Client.{ClientState, Ending, Item, whole, ends, item_answer, answer, chunks, next};
 ghost use Rattle.ua_connection.specs.Serving.{new_standing, IsServed};
 ghost use Rattle.ua_connection.specs.Conversation.{Chunked, stream_answer, IsConversed};
@@ -40,7 +40,7 @@ pub fn answers_go_item_by_item()
         → stream_answered (chunks config) standing bytes outside
         ≡ and_then (answer config standing item.0)
         (λ reply.
-        joined (stream_answered (chunks config) reply.state (drop item.1 bytes)) reply) outside }
+        with_later (stream_answered (chunks config) reply.state (drop item.1 bytes)) reply) outside }
     ensures none { (config : ServerConfig) (standing : ClientState) (bytes : List ℕ)
         (outside : Environment)
         → next standing bytes ≡ None
