@@ -3,3 +3,4 @@ pub mod Sizes
 pub mod Chunking
 pub mod Pieces
 pub mod Parts
+pub mod Connecting

@@ -74,9 +74,11 @@ made_in v = (
 abbrev pub update_in : UpdateResult → Status × List Status
 update_in v = (v.status, v.operation_results)
 
+-- the header of a response, as its format has it
 abbrev pub header_in : ResponseHeader → Ticks × (ℕ × Status)
 header_in v = (v.timestamp, (v.handle, v.status))
 
+-- an OpenSecureChannel response, as its format has it
 abbrev pub opened_fields : Opened → (Ticks × (ℕ × Status)) × (ℕ × (Ticks × ℕ))
 opened_fields v = (header_in v.header, (v.token, (v.created_at, v.lifetime)))
 
@@ -99,14 +101,14 @@ judged type handle (id, (time, (number, status))) body =
     else if is_standard_type type id && number == handle then Ok body else Err NoAnswer
 
 -- what a message answers to a request of this handle by a response of this type
-abbrev pub answered : (type handle : ℕ) → (message : List ℕ) → Result (List ℕ) ClientFault
-answered type handle message =
+abbrev pub body_in : (type handle : ℕ) → (message : List ℕ) → Result (List ℕ) ClientFault
+body_in type handle message =
     elim (response_head.read message)
     [ Ok (head, body) ↦ judged type handle head body | Err fault ↦ Err NoAnswer ]
 
 -- the code of the Error that a chunk is; another chunk is no answer
-abbrev pub refusal : (chunk : List ℕ) → ClientFault
-refusal chunk =
+abbrev pub chunk_refusal : (chunk : List ℕ) → ClientFault
+chunk_refusal chunk =
     elim (error.read chunk) [
       | Ok (status, []) ↦ Refused status
       | Ok (status, byte ∷ rest) ↦ NoAnswer
@@ -114,12 +116,12 @@ refusal chunk =
     ]
 
 -- the Acknowledge that a chunk is; an Error refuses the greeting
-abbrev pub acknowledged : (chunk : List ℕ) → Result Ack ClientFault
-acknowledged chunk =
+abbrev pub acknowledge_in : (chunk : List ℕ) → Result Ack ClientFault
+acknowledge_in chunk =
     elim (acknowledge.read chunk) [
       | Ok (ack, []) ↦ Ok ack
       | Ok (ack, byte ∷ rest) ↦ Err NoAnswer
-      | Err fault ↦ Err (refusal chunk)
+      | Err fault ↦ Err (chunk_refusal chunk)
     ]
 
 -- the front of an OPN chunk of this size, of channel 1

@@ -17,6 +17,7 @@ use Rattle.ua_services.specs.Attributes.{AreShortValues}
 use Rattle.ua_services.specs.Updates.{DataUpdate, update_data_details}
 use Rattle.ua_client.specs.declared.requests.Header.{Header}
 use Rattle.ua_client.specs.declared.requests.Login.{Login}
+use Rattle.ua_client.specs.declared.requests.UpdateAsked.{UpdateAsked}
 
 -- ---- requests
 
@@ -47,6 +48,10 @@ claim_in login =
 -- name and password are few enough bytes to be counted with what stands beside them
 abbrev pub IsShortLogin : Login → Type 0
 IsShortLogin user = 16 + length user.name.now + length user.password.now < 2 ^ 31
+
+-- the node, what is done, and the values
+abbrev pub update_of : UpdateAsked → DataUpdate
+update_of asked = (asked.node_id.now, (asked.perform, asked.values.now))
 
 -- the values may be written, and the details are few enough bytes to be counted
 abbrev pub IsShortUpdate : DataUpdate → Type 0

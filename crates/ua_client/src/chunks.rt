@@ -7,7 +7,7 @@ ghost use Rattle.ua_binary.specs.Binary.{node_id};
 ghost use Rattle.ua_binary.specs.declared.values.NodeId.TheVariants.{Numeric};
 ghost use Rattle.ua_channel.specs.Headers.{policy_none, security_header, request_header, bare_header, open_request, open_response};
 ghost use Rattle.ua_channel.specs.Sending.{number_after, message_head, message_chunk, AreShort, IsNumber, PutsChunks};
-ghost use Rattle.ua_client.specs.Answers.{opened_fields, refusal, is_good, opened_front};
+ghost use Rattle.ua_client.specs.Answers.{opened_fields, chunk_refusal, is_good, opened_front};
 ghost use Rattle.ua_client.specs.Asking.{greeting, opening, closing, PutsMessage};
 
 use crate::fault::ClientFault;
@@ -19,6 +19,17 @@ use ua_binary::{
     put_u32,
 };
 use uacp::{Hello, Letter, Pieces, split};
+
+/// What tells a chunk of channel 1 from others (Part 6, 6.7.2).
+#[derive(Clone, Copy, Debug)]
+pub struct ChunkIds {
+    /// The token of the channel.
+    pub token: u32,
+    /// The id of the request, which all chunks of a message have.
+    pub request_id: u32,
+    /// The sequence number, by one greater with each chunk.
+    pub number: u32,
+}
 
 /// The URI of the security policy None (Part 7).
 const POLICY_NONE: &str = "http://opcfoundation.org/UA/SecurityPolicy#None";
@@ -161,38 +172,28 @@ pub fn put_opening(
 }
 
 #[tactic(auto, using(ua_binary::proofs::Kept::kept, crate::proofs::Sizes::closing_size), unfolding(crate::specs::Asking::closing, ua_channel::specs::Headers::message_header))]
-fn put_closing_parts(
-    out: &mut Vec<u8>,
-    token: u32,
-    number: u32,
-    request_id: u32,
-) -> Result<(), BinaryFault>
+fn put_closing_parts(out: &mut Vec<u8>, ids: ChunkIds) -> Result<(), BinaryFault>
     ensures { PutsPart BinaryFault.OutOfMemory result out.old.items out.new.items
-        (closing token number request_id) }
+        (closing ids.token ids.number ids.request_id) }
 {
     put_block(out, b"CLOF")?;
     put_u32(out, 57)?;
     put_u32(out, 1)?;
-    put_u32(out, token)?;
-    put_u32(out, number)?;
-    put_u32(out, request_id)?;
-    put_bare_head(out, 452, request_id)?;
+    put_u32(out, ids.token)?;
+    put_u32(out, ids.number)?;
+    put_u32(out, ids.request_id)?;
+    put_bare_head(out, 452, ids.request_id)?;
     Ok(())
 }
 
 /// Writes the CLO chunk that ends channel 1 (Part 4, 5.6.3): 57 bytes, with these numbers; the request id is the handle too. The
 /// one error is `OutOfMemory`, and then the vector is as it was.
-pub fn put_closing(
-    out: &mut Vec<u8>,
-    token: u32,
-    number: u32,
-    request_id: u32,
-) -> Result<(), BinaryFault>
+pub fn put_closing(out: &mut Vec<u8>, ids: ChunkIds) -> Result<(), BinaryFault>
     ensures { Puts BinaryFault.OutOfMemory result out.old.items out.new.items
-        (closing token number request_id) }
+        (closing ids.token ids.number ids.request_id) }
 {
     let len = out.len();
-    let put = put_closing_parts(out, token, number, request_id);
+    let put = put_closing_parts(out, ids);
     or_undone(put, out, len)
 }
 
@@ -232,13 +233,13 @@ fn mark_of(letter: Letter) -> u8
 
 /// What stands before a piece in its MSG chunk: the letters, the chunk's size, channel 1, token, sequence number and request id.
 #[tactic(auto, unfolding(ua_channel::specs::Headers::message_header, ua_binary::specs::Binary::unsigned))]
-fn message_head(letter: Letter, size: u32, token: u32, number: u32, request_id: u32) -> [u8; 24]
-    ensures { result ≡ message_head letter size token number request_id }
+fn message_head(letter: Letter, size: u32, ids: ChunkIds) -> [u8; 24]
+    ensures { result ≡ message_head letter size ids.token ids.number ids.request_id }
 {
     let s = size.to_le_bytes();
-    let t = token.to_le_bytes();
-    let n = number.to_le_bytes();
-    let r = request_id.to_le_bytes();
+    let t = ids.token.to_le_bytes();
+    let n = ids.number.to_le_bytes();
+    let r = ids.request_id.to_le_bytes();
     let mark = mark_of(letter);
     [
         b'M', b'S', b'G', mark, s[0], s[1], s[2], s[3], 1, 0, 0, 0, t[0], t[1], t[2], t[3], n[0],
@@ -249,65 +250,69 @@ fn message_head(letter: Letter, size: u32, token: u32, number: u32, request_id: 
 /// A MSG chunk. An error leaves a part.
 #[tactic(auto, using(ua_binary::proofs::Kept::kept, ua_channel::proofs::Sizes::message_size), unfolding(ua_channel::specs::Sending::message_chunk, ua_channel::specs::Headers::message_header))]
 fn put_message_parts(
-    letter: Letter,
-    token: u32,
-    number: u32,
-    request_id: u32,
-    piece: &[u8],
     out: &mut Vec<u8>,
+    letter: Letter,
+    ids: ChunkIds,
+    piece: &[u8],
 ) -> Result<(), BinaryFault>
     requires { length piece.now ≤ 4294967271 }
     ensures { PutsPart BinaryFault.OutOfMemory result out.old.items out.new.items
-        (message_chunk letter token number request_id piece.now) }
+        (message_chunk letter ids.token ids.number ids.request_id piece.now) }
 {
-    let head = message_head(letter, 24 + piece.len() as u32, token, number, request_id);
+    let head = message_head(letter, 24 + piece.len() as u32, ids);
     put_block(out, &head)?;
     put_block(out, piece)?;
     Ok(())
 }
 
-/// A MSG chunk for each piece, their numbers running on from this one; the number after theirs. An error leaves a part.
+/// A MSG chunk for each piece, their numbers running on from the first one's; the number after theirs. An error leaves a part.
 #[tactic(auto, using(ua_binary::proofs::Kept::kept, ua_channel::proofs::Sendings::running))]
 fn put_chunks(
-    token: u32,
-    request_id: u32,
-    first: u32,
-    mut pieces: Pieces<'_>,
     out: &mut Vec<u8>,
+    first: ChunkIds,
+    mut pieces: Pieces<'_>,
 ) -> Result<u32, BinaryFault>
     requires short { AreShort 4294967271 pieces }
-    requires number { IsNumber first }
-    ensures { PutsChunks token request_id first pieces.entry result out.old.items out.new.items }
+    requires number { IsNumber first.number }
+    ensures { PutsChunks first.token first.request_id first.number pieces.entry result out.old.items
+        out.new.items }
 {
-    let mut number = first;
+    let ChunkIds {
+        token,
+        request_id,
+        mut number,
+    } = first;
     while let Some(piece) = pieces.next() {
         let letter = letter_of(&pieces);
-        put_message_parts(letter, token, number, request_id, piece, out)?;
+        let ids = ChunkIds {
+            token,
+            request_id,
+            number,
+        };
+        put_message_parts(out, letter, ids, piece)?;
         number = following(number);
     }
     Ok(number)
 }
 
-/// Writes a message in MSG chunks of channel 1, of at most `limit` bytes each (Part 6, 6.7.2), with this token and this request id,
-/// whose sequence numbers run on from `first`. Answers the number after theirs. The one error is `OutOfMemory`, and then the vector
-/// is as it was.
+/// Writes a message in MSG chunks of channel 1, of at most `limit` bytes each (Part 6, 6.7.2). The first one has these ids, and
+/// sequence numbers run on from there. Answers the number after theirs. The one error is `OutOfMemory`, and then the vector is as
+/// it was.
 #[tactic(auto, using(ua_channel::proofs::Sendings::shortness))]
 pub fn put_message(
     out: &mut Vec<u8>,
     limit: u32,
-    token: u32,
-    request_id: u32,
-    first: u32,
+    first: ChunkIds,
     body: &[u8],
 ) -> Result<u32, BinaryFault>
     requires limit { 24 < limit }
-    requires number { IsNumber first }
-    ensures { PutsMessage (limit - 24) token request_id first body.now result out.old.items
-        out.new.items }
+    requires number { IsNumber first.number }
+    ensures { PutsMessage (limit - 24) first.token first.request_id first.number body.now result
+        out.old.items out.new.items }
 {
     let len = out.len();
     let pieces = split(body, limit as usize);
-    match put_chunks(token, request_id, first, pieces, out) {
+    match put_chunks(out, first, pieces) {
         Ok(next) => Ok(next),
         Err(fault) => {
             out.truncate(len);
@@ -328,31 +333,20 @@ fn letter_in(mark: u8) -> Option<Letter>
 }
 
 /// Whether these bytes are what stands before a piece in its MSG chunk of this size.
-fn is_message_head(
-    head: &[u8],
-    letter: Letter,
-    size: u32,
-    token: u32,
-    number: u32,
-    request_id: u32,
-) -> bool
-    ensures { result ≡ true → head.now ≡ message_head letter size token number request_id }
+fn is_message_head(head: &[u8], letter: Letter, size: u32, ids: ChunkIds) -> bool
+    ensures { result ≡ true
+        → head.now ≡ message_head letter size ids.token ids.number ids.request_id }
 {
-    let want = message_head(letter, size, token, number, request_id);
+    let want = message_head(letter, size, ids);
     head == want.as_slice()
 }
 
-/// The piece of a message that a MSG chunk of channel 1 with these numbers carries, and its letter; none of another chunk, as of one
+/// The piece of a message that a MSG chunk of channel 1 with these ids carries, and its letter; none of another chunk, as of one
 /// that gives its message up.
-fn find_piece<'a>(
-    chunk: &'a [u8],
-    token: u32,
-    number: u32,
-    request_id: u32,
-) -> Option<(Letter, &'a [u8])>
+fn find_piece<'a>(chunk: &'a [u8], ids: ChunkIds) -> Option<(Letter, &'a [u8])>
     requires { length chunk.now < 2 ^ 32 }
     ensures piece { IfSome result (λ found. chunk.entry.now
-        ≡ message_chunk found.0 token number request_id found.1.now) }
+        ≡ message_chunk found.0 ids.token ids.number ids.request_id found.1.now) }
     ensures goes_on { IfSome result (λ found. found.0 ≡ Abort → ⊥) }
 {
     if chunk.len() < 24 {
@@ -360,28 +354,24 @@ fn find_piece<'a>(
     }
     let (head, piece) = chunk.split_at(24);
     let letter = letter_in(head[3])?;
-    let same = is_message_head(head, letter, chunk.len() as u32, token, number, request_id);
+    let same = is_message_head(head, letter, chunk.len() as u32, ids);
     if same {
         return Some((letter, piece));
     }
     None
 }
 
-/// What a MSG chunk of channel 1 with these numbers carries: whether more of the message follows, and a piece of it. Another chunk
-/// is told as `refusal_in` tells it: an Error is `Refused` with its code, and what is none `Format`.
-pub fn piece_in<'a>(
-    chunk: &'a [u8],
-    token: u32,
-    number: u32,
-    request_id: u32,
-) -> Result<(Letter, &'a [u8]), ClientFault>
+/// What a MSG chunk of channel 1 with these ids carries: whether more of the message follows, and a piece of it. Another chunk is
+/// told as `refusal_in` tells it: an Error is `Refused` with its code, and what is none `Format`.
+pub fn piece_in<'a>(chunk: &'a [u8], ids: ChunkIds) -> Result<(Letter, &'a [u8]), ClientFault>
     requires { length chunk.now < 2 ^ 32 }
     ensures piece { MatchResult result
-        (λ found. chunk.entry.now ≡ message_chunk found.0 token number request_id found.1.now)
-        (λ fault. fault ≡ refusal chunk.entry.now) }
+        (λ found. chunk.entry.now
+        ≡ message_chunk found.0 ids.token ids.number ids.request_id found.1.now)
+        (λ fault. fault ≡ chunk_refusal chunk.entry.now) }
     ensures goes_on { IfOk result (λ found. found.0 ≡ Abort → ⊥) }
 {
-    match find_piece(chunk, token, number, request_id) {
+    match find_piece(chunk, ids) {
         Some(found) => Ok(found),
         None => Err(refusal_in(chunk)),
     }

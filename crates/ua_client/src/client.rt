@@ -7,22 +7,24 @@ ghost use Rattle.counted_io.specs.Bytes.{AppendsPart};
 ghost use Rattle.ua_binary.specs.Binary.{node_of, IsCounted, IsShortNode};
 ghost use Rattle.ua_channel.specs.Sending.{number_after, IsNumber, message_chunk, chunks_of};
 ghost use Rattle.uacp.specs.declared.types.Letter.TheVariants.{Final, More, Abort};
-ghost use Rattle.ua_client.specs.Answers.{answered, acknowledged, made_in, update_in};
+ghost use Rattle.ua_client.specs.Answers.{body_in, acknowledge_in, made_in, update_in};
 ghost use Rattle.ua_client.specs.Asking.{greeting, opening, closing};
 ghost use Rattle.ua_services.specs.Sessions.{create_session_response, activate_session_response};
 ghost use Rattle.uacp.specs.Split.{pieces_of};
-ghost use Rattle.ua_client.specs.Talking.{hello_asked, request_after, HearsMessage, IsOnlyResult, IsSession};
+ghost use Rattle.ua_client.specs.Talking.{flow_of, SendsBytes, SendsPart, HearsBytes, hello_asked, request_after, connecting, AnswersOpening, Connects, HearsMessage, IsOnlyResult, IsSession};
 
 use crate::chunks::{
-    following, opened_in, piece_in, put_closing, put_greeting, put_message, put_opening,
+    ChunkIds, following, opened_in, piece_in, put_closing, put_greeting, put_message, put_opening,
 };
 use crate::fault::ClientFault;
+use crate::line::Line;
 use crate::requests::{
-    Header, Login, put_activate_session_request, put_close_session_request,
-    put_create_session_request, put_history_update_request, put_request_head,
+    Header, Login, NewSession, UpdateAsked, put_activate_session_request,
+    put_close_session_request, put_create_session_request, put_history_update_request,
+    put_request_head,
 };
 use crate::responses::{
-    Granted, UpdateResult, answer_in, read_acknowledge, read_activate_session_response,
+    Granted, Opened, UpdateResult, answer_in, read_acknowledge, read_activate_session_response,
     read_create_session_response, read_history_update_response,
 };
 use counted_io::Counted;
@@ -30,7 +32,6 @@ use std::alloc::Global;
 use std::io::{Read, Write};
 use std::marker::Model;
 use ua_binary::{Cursor, NodeId, NodeIdRef, Ticks};
-use ua_variant::DataValue;
 use uacp::{Ack, Hello, Letter};
 
 /// In milliseconds, how long this client waits for an answer, as its requests tell the server.
@@ -141,17 +142,15 @@ fn is_final(letter: Letter) -> bool
 fn take_piece<R: Read>(
     alloc: Global,
     reader: &mut Counted<R>,
-    token: u32,
-    number: u32,
-    request_id: u32,
+    ids: ChunkIds,
 ) -> Result<Part, ClientFault>
     ensures { IfOk result (λ part.
         Consumes (R.remaining reader.old.inner) (R.remaining reader.new.inner)
-        (message_chunk (if part.is_last then Final else More) token number request_id
+        (message_chunk (if part.is_last then Final else More) ids.token ids.number ids.request_id
         part.bytes.items)) }
 {
     let chunk = read_chunk(alloc, reader)?;
-    let (letter, piece) = piece_in(chunk.as_slice(), token, number, request_id)?;
+    let (letter, piece) = piece_in(chunk.as_slice(), ids)?;
     let mut bytes = Vec::new(alloc);
     bytes.extend_from_slice(piece)?;
     Ok(Part {
@@ -160,22 +159,30 @@ fn take_piece<R: Read>(
     })
 }
 
-/// Reads the message that answers a request, whose chunks have this token, run on from this number, and are at most 64.
+/// Reads the message that answers a request: the first of its chunks has these ids, numbers run on from there, and they are at
+/// most 64.
 fn read_message<R: Read>(
     alloc: Global,
     reader: &mut Counted<R>,
-    token: u32,
-    first: u32,
-    request_id: u32,
+    first: ChunkIds,
 ) -> Result<Heard, ClientFault>
-    requires { IsNumber first }
-    ensures hears { IfOk result (λ heard. HearsMessage token first request_id
+    requires { IsNumber first.number }
+    ensures hears { IfOk result (λ heard. HearsMessage first.token first.number first.request_id
         (R.remaining reader.old.inner) (R.remaining reader.new.inner) heard.body.items heard.next) }
 {
+    let ChunkIds {
+        token,
+        request_id,
+        mut number,
+    } = first;
     let mut body = Vec::new(alloc);
-    let mut number = first;
     'chunks: for _ in 0..MOST_CHUNKS {
-        let part = take_piece(alloc, reader, token, number, request_id)?;
+        let ids = ChunkIds {
+            token,
+            request_id,
+            number,
+        };
+        let part = take_piece(alloc, reader, ids)?;
         body.extend_from_slice(part.bytes.as_slice())?;
         number = following(number);
         if part.is_last {
@@ -208,7 +215,7 @@ fn next_request(request_id: u32) -> u32
 /// What stands behind the header of the response of this type, in namespace 0, to the request of this handle, as `answer_in` tells it,
 /// in memory of its own.
 fn told_in(alloc: Global, type_id: u32, handle: u32, message: &[u8]) -> Result<Vec<u8>, ClientFault>
-    ensures { IfOk result (λ told. answered type_id handle message.now ≡ Ok told.items) }
+    ensures { IfOk result (λ told. body_in type_id handle message.now ≡ Ok told.items) }
 {
     let body = answer_in(type_id, handle, message)?;
     let mut told = Vec::new(alloc);
@@ -227,50 +234,31 @@ fn is_short(node: NodeIdRef<'_>) -> bool
     }
 }
 
-/// Sends a message in chunks of channel 1, of at most `limit` bytes each, and answers the sequence number after theirs.
+/// Sends a message in chunks of channel 1, of at most `limit` bytes each, the first of which has these ids, and answers the sequence
+/// number after theirs.
 fn send_message<W: Write>(
     alloc: Global,
     writer: &mut Counted<W>,
     limit: u32,
-    token: u32,
-    request_id: u32,
-    number: u32,
+    first: ChunkIds,
     body: &[u8],
 ) -> Result<u32, ClientFault>
     requires limit { 24 < limit }
-    requires number { IsNumber number }
-    ensures sent { OnOk result (Appends (W.contents writer.old.inner) (W.contents writer.new.inner)
-        (chunks_of token request_id number (pieces_of (limit - 24) body.now))) }
+    requires number { IsNumber first.number }
+    ensures sent { OnOk result (Appends (W.contents writer.old.inner)
+        (W.contents writer.new.inner)
+        (chunks_of first.token first.request_id first.number (pieces_of (limit - 24) body.now))) }
     ensures part { OnErr result (AppendsPart (W.contents writer.old.inner)
         (W.contents writer.new.inner)
-        (chunks_of token request_id number (pieces_of (limit - 24) body.now))) }
+        (chunks_of first.token first.request_id first.number (pieces_of (limit - 24) body.now))) }
     ensures next { IfOk result (λ next.
-        next ≡ number_after number (length (pieces_of (limit - 24) body.now))) }
+        next ≡ number_after first.number (length (pieces_of (limit - 24) body.now))) }
     ensures is { IfOk result IsNumber }
 {
     let mut out = Vec::new(alloc);
-    let next = put_message(&mut out, limit, token, request_id, number, body)?;
+    let next = put_message(&mut out, limit, first, body)?;
     writer.send(out.as_slice())?;
     Ok(next)
-}
-
-/// Greets a server, and takes its Acknowledge.
-fn greet<R: Read, W: Write>(
-    alloc: Global,
-    reader: &mut Counted<R>,
-    writer: &mut Counted<W>,
-) -> Result<Ack, ClientFault>
-    ensures sent { OnOk result (Appends (W.contents writer.old.inner) (W.contents writer.new.inner)
-        (greeting hello_asked)) }
-    ensures part { OnErr result (AppendsPart (W.contents writer.old.inner)
-        (W.contents writer.new.inner) (greeting hello_asked)) }
-    ensures came { IfOk result (λ ack. (chunk : List ℕ)
-        × Consumes (R.remaining reader.old.inner) (R.remaining reader.new.inner) chunk
-        × (acknowledged chunk ≡ Ok ack)) }
-{
-    send_greeting(alloc, writer)?;
-    let chunk = read_chunk(alloc, reader)?;
-    read_acknowledge(chunk.as_slice())
 }
 
 /// Sends the Hello.
@@ -284,6 +272,37 @@ fn send_greeting<W: Write>(alloc: Global, writer: &mut Counted<W>) -> Result<(),
     put_greeting(&mut out, &GREETING)?;
     writer.send(out.as_slice())?;
     Ok(())
+}
+
+/// Takes the Acknowledge of a server that takes chunks of more than their headers.
+fn read_ack<R: Read>(alloc: Global, reader: &mut Counted<R>) -> Result<Ack, ClientFault>
+    ensures came { IfOk result (λ ack. (chunk : List ℕ)
+        × Consumes (R.remaining reader.old.inner) (R.remaining reader.new.inner) chunk
+        × (acknowledge_in chunk ≡ Ok ack)) }
+    ensures limit { IfOk result (λ ack. 24 < ack.receive_size) }
+{
+    let chunk = read_chunk(alloc, reader)?;
+    let ack = read_acknowledge(chunk.as_slice())?;
+    if ack.receive_size <= 24 {
+        return Err(ClientFault::Format);
+    }
+    Ok(ack)
+}
+
+/// Greets a server, and takes its Acknowledge.
+fn greet<R: Read, W: Write>(line: &mut Line<R, W>) -> Result<Ack, ClientFault>
+    ensures sent { OnOk result (SendsBytes (flow_of R.remaining W.contents line.old)
+        (flow_of R.remaining W.contents line.new) (greeting hello_asked)) }
+    ensures part { OnErr result (SendsPart (flow_of R.remaining W.contents line.old)
+        (flow_of R.remaining W.contents line.new) (greeting hello_asked)) }
+    ensures came { IfOk result (λ ack. (chunk : List ℕ)
+        × HearsBytes (flow_of R.remaining W.contents line.old)
+        (flow_of R.remaining W.contents line.new) chunk
+        × (acknowledge_in chunk ≡ Ok ack)) }
+    ensures limit { IfOk result (λ ack. 24 < ack.receive_size) }
+{
+    send_greeting(line.alloc, &mut line.writer)?;
+    read_ack(line.alloc, &mut line.reader)
 }
 
 /// Sends the request for a channel.
@@ -303,39 +322,47 @@ fn send_opening<W: Write>(
     Ok(())
 }
 
-/// Asks for a channel, and answers its token.
-fn open_channel<R: Read, W: Write>(
-    alloc: Global,
-    reader: &mut Counted<R>,
-    writer: &mut Counted<W>,
-    lifetime: u32,
-) -> Result<u32, ClientFault>
-    ensures sent { OnOk result (Appends (W.contents writer.old.inner) (W.contents writer.new.inner)
-        (opening 1 1 lifetime)) }
-    ensures part { OnErr result (AppendsPart (W.contents writer.old.inner)
-        (W.contents writer.new.inner) (opening 1 1 lifetime)) }
+/// Takes what answers the first opening.
+fn read_opened<R: Read>(alloc: Global, reader: &mut Counted<R>) -> Result<Opened, ClientFault>
+    ensures { IfOk result (λ opened. (chunk : List ℕ)
+        × Consumes (R.remaining reader.old.inner) (R.remaining reader.new.inner) chunk
+        × AnswersOpening chunk opened) }
 {
-    send_opening(alloc, writer, lifetime)?;
     let chunk = read_chunk(alloc, reader)?;
-    let opened = opened_in(alloc, chunk.as_slice(), FIRST, FIRST)?;
-    Ok(opened.token)
+    opened_in(alloc, chunk.as_slice(), FIRST, FIRST)
+}
+
+/// Asks for a channel, and takes what opens it.
+fn open_channel<R: Read, W: Write>(
+    line: &mut Line<R, W>,
+    lifetime: u32,
+) -> Result<Opened, ClientFault>
+    ensures sent { OnOk result (SendsBytes (flow_of R.remaining W.contents line.old)
+        (flow_of R.remaining W.contents line.new) (opening 1 1 lifetime)) }
+    ensures part { OnErr result (SendsPart (flow_of R.remaining W.contents line.old)
+        (flow_of R.remaining W.contents line.new) (opening 1 1 lifetime)) }
+    ensures came { IfOk result (λ opened. (chunk : List ℕ)
+        × HearsBytes (flow_of R.remaining W.contents line.old)
+        (flow_of R.remaining W.contents line.new) chunk
+        × AnswersOpening chunk opened) }
+{
+    send_opening(line.alloc, &mut line.writer, lifetime)?;
+    read_opened(line.alloc, &mut line.reader)
 }
 
 /// Sends the chunk that ends channel 1.
 fn send_closing<W: Write>(
     alloc: Global,
     writer: &mut Counted<W>,
-    token: u32,
-    number: u32,
-    request_id: u32,
+    ids: ChunkIds,
 ) -> Result<(), ClientFault>
     ensures sent { OnOk result (Appends (W.contents writer.old.inner) (W.contents writer.new.inner)
-        (closing token number request_id)) }
+        (closing ids.token ids.number ids.request_id)) }
     ensures part { OnErr result (AppendsPart (W.contents writer.old.inner)
-        (W.contents writer.new.inner) (closing token number request_id)) }
+        (W.contents writer.new.inner) (closing ids.token ids.number ids.request_id)) }
 {
     let mut out = Vec::new(alloc);
-    put_closing(&mut out, token, number, request_id)?;
+    put_closing(&mut out, ids)?;
     writer.send(out.as_slice())?;
     Ok(())
 }
@@ -360,9 +387,9 @@ impl Model for Client {
     ghost use Rattle.std.specs.Prelude.{◌<◌};
     ghost use Rattle.ua_binary.specs.Binary.{IsShortNode};
     ghost use Rattle.ua_channel.specs.Sending.{IsNumber};
-    ghost use Rattle.ua_client.specs.Talking.{ClientState};
+    ghost use Rattle.ua_client.specs.Talking.{CallerState};
 
-    ghost Value = { ClientState };
+    ghost Value = { CallerState };
 
     ghost view = { λ c.
         record {
@@ -380,36 +407,35 @@ impl Model for Client {
 
 impl Client {
     ghost use Rattle.std.specs.Prelude.{List};
-    ghost use Rattle.ua_client.specs.Talking.{message_of, head_of, update_request, create_request, activate_request, close_request, Asks, Responds, Updates, Opens, Activates};
-    ghost use Rattle.ua_client.specs.Asking.{claim_in, closing, IsShortLogin, IsShortUpdate};
+    ghost use Rattle.ua_client.specs.Talking.{message_of, head_of, update_request, create_request, activate_request, close_request, AsksServer, Responds, Updates, Opens, Activates};
+    ghost use Rattle.ua_client.specs.Asking.{claim_in, update_of, closing, IsShortLogin, IsShortUpdate};
     ghost use Rattle.ua_client.specs.Answers.{update_in};
     ghost use Rattle.std.specs.Prelude.{IfSome, ◌++◌};
 
     /// Sends a message, and takes the one that answers it.
     fn ask<R: Read, W: Write>(
         &mut self,
-        alloc: Global,
-        reader: &mut Counted<R>,
-        writer: &mut Counted<W>,
+        line: &mut Line<R, W>,
         body: &[u8],
     ) -> Result<Vec<u8>, ClientFault>
-        ensures asks { IfOk result (λ message. Asks self.old self.new body.now message.items
-            (R.remaining reader.old.inner) (R.remaining reader.new.inner)
-            (W.contents writer.old.inner) (W.contents writer.new.inner)) }
-        ensures part { OnErr result (AppendsPart (W.contents writer.old.inner)
-            (W.contents writer.new.inner) (message_of self.old body.now)) }
+        ensures asks { IfOk result (λ message. AsksServer self.old self.new body.now message.items
+            (flow_of R.remaining W.contents line.old) (flow_of R.remaining W.contents line.new)) }
+        ensures part { OnErr result (SendsPart (flow_of R.remaining W.contents line.old)
+            (flow_of R.remaining W.contents line.new) (message_of self.old body.now)) }
     {
-        let next = send_message(
-            alloc,
-            writer,
-            self.limit,
-            self.token,
-            self.request_id,
-            self.number,
-            body,
-        )?;
+        let sent = ChunkIds {
+            token: self.token,
+            request_id: self.request_id,
+            number: self.number,
+        };
+        let next = send_message(line.alloc, &mut line.writer, self.limit, sent, body)?;
         self.number = next;
-        let heard = read_message(alloc, reader, self.token, self.heard, self.request_id)?;
+        let came = ChunkIds {
+            token: self.token,
+            request_id: self.request_id,
+            number: self.heard,
+        };
+        let heard = read_message(line.alloc, &mut line.reader, came)?;
         self.heard = heard.next;
         self.request_id = next_request(self.request_id);
         Ok(heard.body)
@@ -418,21 +444,18 @@ impl Client {
     /// Sends a request, and takes what stands behind the header of the response of this type that answers it.
     fn request<R: Read, W: Write>(
         &mut self,
-        alloc: Global,
-        reader: &mut Counted<R>,
-        writer: &mut Counted<W>,
+        line: &mut Line<R, W>,
         body: &[u8],
         type_id: u32,
     ) -> Result<Vec<u8>, ClientFault>
         ensures responds { IfOk result (λ told. Responds self.old self.new body.now type_id told.items
-            (R.remaining reader.old.inner) (R.remaining reader.new.inner)
-            (W.contents writer.old.inner) (W.contents writer.new.inner)) }
-        ensures part { OnErr result (AppendsPart (W.contents writer.old.inner)
-            (W.contents writer.new.inner) (message_of self.old body.now)) }
+            (flow_of R.remaining W.contents line.old) (flow_of R.remaining W.contents line.new)) }
+        ensures part { OnErr result (SendsPart (flow_of R.remaining W.contents line.old)
+            (flow_of R.remaining W.contents line.new) (message_of self.old body.now)) }
     {
         let handle = self.request_id;
-        let message = self.ask(alloc, reader, writer, body)?;
-        told_in(alloc, type_id, handle, message.as_slice())
+        let message = self.ask(line, body)?;
+        told_in(line.alloc, type_id, handle, message.as_slice())
     }
 
     /// Writes what the next request begins with.
@@ -458,44 +481,37 @@ impl Client {
         &self,
         alloc: Global,
         now: Ticks,
-        node_id: &NodeId,
-        perform: i32,
-        values: &[DataValue],
+        asked: UpdateAsked<'_>,
     ) -> Result<Vec<u8>, ClientFault>
-        requires { IsShortUpdate (node_id.now, (perform, values.now)) }
-        ensures { IfOk result (λ body. body.items
-            ≡ update_request self.now now (node_id.now, (perform, values.now))) }
+        requires { IsShortUpdate (update_of asked) }
+        ensures { IfOk result
+            (λ body. body.items ≡ update_request self.now now (update_of asked.entry)) }
     {
         let mut body = Vec::new(alloc);
         self.put_head(&mut body, 700, now)?;
-        put_history_update_request(&mut body, node_id, perform, values)?;
+        put_history_update_request(&mut body, asked.node_id, asked.perform, asked.values)?;
         Ok(body)
     }
 
-    /// Brings values to a node's history by one HistoryUpdate (Part 4, 5.11.5; Part 11, 6.9.2): 1 inserts them, 2 replaces values, 3
-    /// does either. Answers what the server did with each. A server takes 1,000 at most.
+    /// Brings values to a node's history by one HistoryUpdate (Part 4, 5.11.5; Part 11, 6.9.2). Answers what the server did with
+    /// each. A server takes 1,000 at most.
     pub fn update_history<R: Read, W: Write>(
         &mut self,
-        alloc: Global,
-        reader: &mut Counted<R>,
-        writer: &mut Counted<W>,
+        line: &mut Line<R, W>,
         now: Ticks,
-        node_id: &NodeId,
-        perform: i32,
-        values: &[DataValue],
+        asked: UpdateAsked<'_>,
     ) -> Result<UpdateResult, ClientFault>
-        requires { IsShortUpdate (node_id.now, (perform, values.now)) }
+        requires { IsShortUpdate (update_of asked) }
         ensures updates { IfOk result (λ done. Updates self.old self.new
-            (update_request self.old now (node_id.now, (perform, values.now))) (update_in done)
-            (R.remaining reader.old.inner) (R.remaining reader.new.inner)
-            (W.contents writer.old.inner) (W.contents writer.new.inner)) }
-        ensures part { OnErr result (AppendsPart (W.contents writer.old.inner)
-            (W.contents writer.new.inner)
-            (message_of self.old (update_request self.old now (node_id.now, (perform, values.now))))) }
+            (update_request self.old now (update_of asked.entry)) (update_in done)
+            (flow_of R.remaining W.contents line.old) (flow_of R.remaining W.contents line.new)) }
+        ensures part { OnErr result (SendsPart (flow_of R.remaining W.contents line.old)
+            (flow_of R.remaining W.contents line.new)
+            (message_of self.old (update_request self.old now (update_of asked.entry)))) }
     {
-        let body = self.update_request(alloc, now, node_id, perform, values)?;
-        let told = self.request(alloc, reader, writer, body.as_slice(), 703)?;
-        only_result(alloc, told.as_slice())
+        let body = self.update_request(line.alloc, now, asked)?;
+        let told = self.request(line, body.as_slice(), 703)?;
+        only_result(line.alloc, told.as_slice())
     }
 
     /// The bytes of a CreateSession.
@@ -503,18 +519,16 @@ impl Client {
         &self,
         alloc: Global,
         now: Ticks,
-        endpoint_url: Option<&str>,
-        session_name: Option<&str>,
-        timeout: &[u8; 8],
+        asked: NewSession<'_>,
     ) -> Result<Vec<u8>, ClientFault>
-        requires url { IsCounted (option_copied endpoint_url) }
-        requires name { IsCounted (option_copied session_name) }
-        ensures { IfOk result (λ body. body.items ≡ create_request self.now now
-            (option_copied endpoint_url.entry) (option_copied session_name.entry) timeout.now) }
+        requires url { IsCounted (option_copied asked.endpoint_url) }
+        requires name { IsCounted (option_copied asked.name) }
+        ensures { IfOk result
+            (λ body. body.items ≡ create_request self.now now asked.entry) }
     {
         let mut body = Vec::new(alloc);
         self.put_head(&mut body, 461, now)?;
-        put_create_session_request(&mut body, endpoint_url, session_name, timeout)?;
+        put_create_session_request(&mut body, asked.endpoint_url, asked.name, asked.timeout)?;
         Ok(body)
     }
 
@@ -522,25 +536,22 @@ impl Client {
     /// it is to live without a request. Its token is shown from then on.
     pub fn create_session<R: Read, W: Write>(
         &mut self,
-        alloc: Global,
-        reader: &mut Counted<R>,
-        writer: &mut Counted<W>,
+        line: &mut Line<R, W>,
         now: Ticks,
-        endpoint_url: Option<&str>,
-        session_name: Option<&str>,
-        timeout: &[u8; 8],
+        asked: NewSession<'_>,
     ) -> Result<(), ClientFault>
-        requires url { IsCounted (option_copied endpoint_url) }
-        requires name { IsCounted (option_copied session_name) }
+        requires url { IsCounted (option_copied asked.endpoint_url) }
+        requires name { IsCounted (option_copied asked.name) }
         ensures opens { OnOk result (Opens self.old self.new
-            (create_request self.old now (option_copied endpoint_url.entry)
-            (option_copied session_name.entry) timeout.now)
-            (R.remaining reader.old.inner) (R.remaining reader.new.inner)
-            (W.contents writer.old.inner) (W.contents writer.new.inner)) }
+            (create_request self.old now asked.entry)
+            (flow_of R.remaining W.contents line.old) (flow_of R.remaining W.contents line.new)) }
+        ensures part { OnErr result (SendsPart (flow_of R.remaining W.contents line.old)
+            (flow_of R.remaining W.contents line.new)
+            (message_of self.old (create_request self.old now asked.entry))) }
     {
-        let body = self.create_request(alloc, now, endpoint_url, session_name, timeout)?;
-        let told = self.request(alloc, reader, writer, body.as_slice(), 464)?;
-        self.session = session_in(alloc, told.as_slice())?;
+        let body = self.create_request(line.alloc, now, asked)?;
+        let told = self.request(line, body.as_slice(), 464)?;
+        self.session = session_in(line.alloc, told.as_slice())?;
         Ok(())
     }
 
@@ -564,24 +575,21 @@ impl Client {
     /// Activates the session (Part 4, 5.7.3), for a user by name and password as they are, or for nobody.
     pub fn activate_session<R: Read, W: Write>(
         &mut self,
-        alloc: Global,
-        reader: &mut Counted<R>,
-        writer: &mut Counted<W>,
+        line: &mut Line<R, W>,
         now: Ticks,
         login: Option<Login<'_>>,
     ) -> Result<(), ClientFault>
         requires { IfSome login IsShortLogin }
         ensures activates { OnOk result (Activates self.old self.new
             (activate_request self.old now (claim_in login.entry))
-            (R.remaining reader.old.inner) (R.remaining reader.new.inner)
-            (W.contents writer.old.inner) (W.contents writer.new.inner)) }
-        ensures part { OnErr result (AppendsPart (W.contents writer.old.inner)
-            (W.contents writer.new.inner)
+            (flow_of R.remaining W.contents line.old) (flow_of R.remaining W.contents line.new)) }
+        ensures part { OnErr result (SendsPart (flow_of R.remaining W.contents line.old)
+            (flow_of R.remaining W.contents line.new)
             (message_of self.old (activate_request self.old now (claim_in login.entry)))) }
     {
-        let body = self.activate_request(alloc, now, login)?;
-        let told = self.request(alloc, reader, writer, body.as_slice(), 470)?;
-        only_activated(alloc, told.as_slice())
+        let body = self.activate_request(line.alloc, now, login)?;
+        let told = self.request(line, body.as_slice(), 470)?;
+        only_activated(line.alloc, told.as_slice())
     }
 
     /// The bytes of a CloseSession.
@@ -597,34 +605,35 @@ impl Client {
     /// Ends the session (Part 4, 5.7.4).
     pub fn close_session<R: Read, W: Write>(
         &mut self,
-        alloc: Global,
-        reader: &mut Counted<R>,
-        writer: &mut Counted<W>,
+        line: &mut Line<R, W>,
         now: Ticks,
     ) -> Result<(), ClientFault>
         ensures closes { OnOk result (Responds self.old self.new (close_request self.old now) 476 []
-            (R.remaining reader.old.inner) (R.remaining reader.new.inner)
-            (W.contents writer.old.inner) (W.contents writer.new.inner)) }
-        ensures part { OnErr result (AppendsPart (W.contents writer.old.inner)
-            (W.contents writer.new.inner) (message_of self.old (close_request self.old now))) }
+            (flow_of R.remaining W.contents line.old) (flow_of R.remaining W.contents line.new)) }
+        ensures part { OnErr result (SendsPart (flow_of R.remaining W.contents line.old)
+            (flow_of R.remaining W.contents line.new)
+            (message_of self.old (close_request self.old now))) }
     {
-        let body = self.close_request(alloc, now)?;
-        let told = self.request(alloc, reader, writer, body.as_slice(), 476)?;
+        let body = self.close_request(line.alloc, now)?;
+        let told = self.request(line, body.as_slice(), 476)?;
         only_closed(told.as_slice())
     }
 
     /// Ends the channel (Part 4, 5.6.3), which isn't answered.
-    pub fn close_channel<W: Write>(
-        self,
-        alloc: Global,
-        writer: &mut Counted<W>,
-    ) -> Result<(), ClientFault>
-        ensures sent { OnOk result (Appends (W.contents writer.old.inner)
-            (W.contents writer.new.inner) (closing self.token self.number self.request)) }
-        ensures part { OnErr result (AppendsPart (W.contents writer.old.inner)
-            (W.contents writer.new.inner) (closing self.token self.number self.request)) }
+    pub fn close_channel<R: Read, W: Write>(self, line: &mut Line<R, W>) -> Result<(), ClientFault>
+        ensures sent { OnOk result (SendsBytes (flow_of R.remaining W.contents line.old)
+            (flow_of R.remaining W.contents line.new)
+            (closing self.token self.number self.request)) }
+        ensures part { OnErr result (SendsPart (flow_of R.remaining W.contents line.old)
+            (flow_of R.remaining W.contents line.new)
+            (closing self.token self.number self.request)) }
     {
-        send_closing(alloc, writer, self.token, self.number, self.request_id)
+        let ids = ChunkIds {
+            token: self.token,
+            request_id: self.request_id,
+            number: self.number,
+        };
+        send_closing(line.alloc, &mut line.writer, ids)
     }
 }
 
@@ -694,23 +703,19 @@ fn session_in(alloc: Global, told: &[u8]) -> Result<NodeId, ClientFault>
 /// Greets a server and opens a channel under the policy None (Part 6, 7.1.2; Part 4, 5.6.2) that is good for so long, in
 /// milliseconds.
 pub fn connect<R: Read, W: Write>(
-    alloc: Global,
-    reader: &mut Counted<R>,
-    writer: &mut Counted<W>,
+    line: &mut Line<R, W>,
     lifetime: u32,
 ) -> Result<Client, ClientFault>
-    ensures { OnOk result ((between : Option (List ℕ))
-        × Appends (W.contents writer.old.inner) between (greeting hello_asked)
-        × Appends between (W.contents writer.new.inner) (opening 1 1 lifetime)) }
+    ensures connects { IfOk result (λ client. Connects client lifetime
+        (flow_of R.remaining W.contents line.old) (flow_of R.remaining W.contents line.new)) }
+    ensures part { OnErr result (SendsPart (flow_of R.remaining W.contents line.old)
+        (flow_of R.remaining W.contents line.new) (connecting lifetime)) }
 {
-    let ack = greet(alloc, reader, writer)?;
-    if ack.receive_size <= 24 {
-        return Err(ClientFault::Format);
-    }
-    let token = open_channel(alloc, reader, writer, lifetime)?;
+    let ack = greet(line)?;
+    let opened = open_channel(line, lifetime)?;
     Ok(Client {
         limit: ack.receive_size,
-        token,
+        token: opened.token,
         number: FIRST + 1,
         heard: FIRST + 1,
         request_id: FIRST + 1,

@@ -8,18 +8,21 @@ mod chunks;
 mod client;
 mod endpoints;
 mod fault;
+mod line;
 mod requests;
 mod responses;
 #[cfg(test)]
 mod tests;
 
-pub use chunks::{put_closing, put_greeting, put_message, put_opening};
+pub use chunks::{ChunkIds, put_closing, put_greeting, put_message, put_opening};
 pub use client::{Client, connect};
 pub use endpoints::{Application, Endpoint, Token};
 pub use fault::ClientFault;
+pub use line::Line;
 pub use requests::{
-    Header, Login, put_activate_session_request, put_close_session_request,
-    put_create_session_request, put_history_update_request, put_request_head, update_size,
+    Header, Login, NewSession, UpdateAsked, is_short_update, put_activate_session_request,
+    put_close_session_request, put_create_session_request, put_history_update_request,
+    put_request_head, update_size,
 };
 pub use responses::{
     Granted, Opened, ResponseHeader, UpdateResult, answer_in, read_acknowledge,

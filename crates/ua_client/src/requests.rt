@@ -1,6 +1,6 @@
 //! Requests: what each begins with, and what the services are asked (Part 4, 5.7 and 5.11.5; Part 11, 6.9).
 
-ghost use Rattle.std.specs.Prelude.{◌≡◌, ◌+◌, ◌<◌, ◌^◌, ◌∷◌, [], pos, length, None, Some, IfSome};
+ghost use Rattle.std.specs.Prelude.{◌≡◌, ◌+◌, ◌<◌, ◌^◌, ◌∷◌, [], pos, length, None, Some, IfSome, IsTrue};
 ghost use Rattle.std.specs.Option.{option_copied};
 ghost use Rattle.ua_binary.specs.Format.{Puts, PutsPart, saturated};
 ghost use Rattle.ua_binary.specs.declared.values.NodeId.TheVariants.{Numeric};
@@ -11,7 +11,8 @@ ghost use Rattle.ua_services.specs.Attributes.{AreShortValues, data_values};
 ghost use Rattle.ua_services.specs.Endpoints.{application_description};
 ghost use Rattle.ua_services.specs.Sessions.{user_identity, create_session_request, activate_session_request, close_session_request};
 ghost use Rattle.ua_services.specs.Updates.{UpdateData, update_data_details, history_update_request};
-ghost use Rattle.ua_client.specs.Asking.{request_head, claim_in, IsShortLogin, IsShortUpdate};
+ghost use Rattle.ua_client.specs.Asking.{request_head, claim_in, update_of, IsShortLogin, IsShortUpdate};
+ghost use Rattle.ua_variant.specs.DataValue.{IsShortData};
 
 use ua_binary::{
     BinaryFault, Encode, NodeId, NodeIdRef, Ticks, or_undone, put_block, put_boolean, put_bytes,
@@ -38,6 +39,27 @@ pub struct Login<'a> {
     pub name: &'a str,
     /// The password as it is.
     pub password: &'a [u8],
+}
+
+/// What a session is asked for by (Part 4, 5.7.2).
+#[derive(Clone, Copy)]
+pub struct NewSession<'a> {
+    /// The URL of the endpoint.
+    pub endpoint_url: Option<&'a str>,
+    /// What the session is called.
+    pub name: Option<&'a str>,
+    /// The bytes of a Double: in milliseconds, how long the session is to live without a request.
+    pub timeout: &'a [u8; 8],
+}
+
+/// What a HistoryUpdate brings (Part 11, 6.9.2).
+#[derive(Clone, Copy)]
+pub struct UpdateAsked<'a> {
+    /// Whose history it is.
+    pub node_id: &'a NodeId,
+    /// 1 inserts values, 2 replaces them, 3 does either.
+    pub perform: i32,
+    pub values: &'a [DataValue],
 }
 
 /// The extension object without a type and without a body.
@@ -305,6 +327,44 @@ pub fn update_size(node_id: &NodeId, perform: i32, values: &[DataValue]) -> usiz
         .size()
         .saturating_add(4)
         .saturating_add(values_size(values))
+}
+
+/// Whether a value can be written: its picoseconds are at most 9,999, and its bytes can be counted.
+fn is_short_value(value: &DataValue) -> bool
+    ensures { IsTrue result → IsShortData value.now }
+{
+    let source = value.source_pico.unwrap_or(0);
+    let server = value.server_pico.unwrap_or(0);
+    source <= 9999 && server <= 9999 && value.size() < 0x8000_0000
+}
+
+/// Whether values can be counted, and each of them can be written.
+fn are_short_values(values: &[DataValue]) -> bool
+    ensures { IsTrue result → AreShortValues values.now }
+{
+    for value in values {
+        if !is_short_value(value) {
+            return false;
+        }
+    }
+    values.len() < 0x8000_0000
+}
+
+/// Whether a node's text or bytes can be counted.
+fn is_short_node(node: &NodeId) -> bool
+    ensures { IsTrue result → IsShortNode node.now }
+{
+    node.size() < 0x8000_0000
+}
+
+/// Whether an update may be asked for: the node and each value can be written, and all of it has less than 2^31 bytes. It takes no
+/// memory.
+pub fn is_short_update(asked: &UpdateAsked<'_>) -> bool
+    ensures { IsTrue result → IsShortUpdate (update_of asked.now) }
+{
+    is_short_node(asked.node_id)
+        && are_short_values(asked.values)
+        && update_size(asked.node_id, asked.perform, asked.values) < 0x8000_0000
 }
 
 /// The same of details that can be counted.

@@ -12,7 +12,7 @@ ghost use Rattle.ua_channel.specs.Headers.{response_header, open_response};
 ghost use Rattle.ua_services.specs.Structure.{is_standard_type};
 ghost use Rattle.ua_services.specs.Sessions.{signed_software_certificate, create_session_response, activate_session_response};
 ghost use Rattle.ua_services.specs.Updates.{history_update_result, history_update_response};
-ghost use Rattle.ua_client.specs.Answers.{certificate_in, made_in, update_in, header_in, opened_fields, is_good, answered, refusal, acknowledged};
+ghost use Rattle.ua_client.specs.Answers.{certificate_in, made_in, update_in, header_in, opened_fields, is_good, body_in, chunk_refusal, acknowledge_in};
 
 use crate::endpoints::Endpoint;
 use crate::fault::ClientFault;
@@ -126,7 +126,7 @@ fn read_error_fields(cursor: &mut Cursor<'_>) -> Result<Status, BinaryFault>
 
 /// Why a chunk answers nothing: the code of an Error (Part 6, 7.1.2.5) is `Refused`, and what is none is `Format`.
 pub fn refusal_in(chunk: &[u8]) -> ClientFault
-    ensures { result ≡ refusal chunk.now }
+    ensures { result ≡ chunk_refusal chunk.now }
 {
     let mut cursor = Cursor::new(chunk);
     match read_error_fields(&mut cursor) {
@@ -137,7 +137,7 @@ pub fn refusal_in(chunk: &[u8]) -> ClientFault
 
 /// Reads the Acknowledge that a chunk is (Part 6, 7.1.2.4). An Error is `Refused` with its code, and another chunk `Format`.
 pub fn read_acknowledge(chunk: &[u8]) -> Result<Ack, ClientFault>
-    ensures { result ≡ acknowledged chunk.now }
+    ensures { result ≡ acknowledge_in chunk.now }
 {
     let mut cursor = Cursor::new(chunk);
     match read_ack_fields(&mut cursor) {
@@ -363,8 +363,8 @@ pub(crate) fn is_good(status: Status) -> bool
 /// good, as each ServiceFault's, is `Refused` with it, and what else came is `Format`.
 pub fn answer_in<'a>(type_id: u32, handle: u32, message: &'a [u8]) -> Result<&'a [u8], ClientFault>
     ensures { MatchResult result
-        (λ body. answered type_id handle message.entry.now ≡ Ok body.now)
-        (λ fault. answered type_id handle message.entry.now ≡ Err fault) }
+        (λ body. body_in type_id handle message.entry.now ≡ Ok body.now)
+        (λ fault. body_in type_id handle message.entry.now ≡ Err fault) }
 {
     let mut cursor = Cursor::new(message);
     let Ok(found) = cursor.node_id() else {

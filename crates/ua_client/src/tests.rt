@@ -1,14 +1,15 @@
 //! Requests that the server's readers read again, and answers that its writers made.
 
-ghost use Rattle.std.specs.Prelude.{IfOk};
+ghost use Rattle.std.specs.Prelude.{◌≡◌, IfOk};
 ghost use Rattle.ua_services.specs.Attributes.{AreShortValues};
 
-use crate::chunks::{put_closing, put_greeting, put_message, put_opening};
+use crate::chunks::{ChunkIds, put_closing, put_greeting, put_message, put_opening};
 use crate::client::connect;
 use crate::fault::ClientFault;
+use crate::line::Line;
 use crate::requests::{
-    Login, put_activate_session_request, put_close_session_request, put_create_session_request,
-    put_history_update_request, update_size,
+    Login, NewSession, UpdateAsked, is_short_update, put_activate_session_request,
+    put_close_session_request, put_create_session_request, put_history_update_request,
 };
 use crate::responses::{
     answer_in, read_acknowledge, read_activate_session_response, read_create_session_response,
@@ -58,10 +59,15 @@ fn is_update(alloc: Global, want: &[u8], shown: &str) -> Result<bool, AllocError
     let values = seven(alloc)?;
     let node = NodeId::Numeric(0, 85);
     let mut out = Vec::new(alloc);
-    if update_size(&node, 1, &values) != 24 {
+    let asked = UpdateAsked {
+        node_id: &node,
+        perform: 1,
+        values: values.as_slice(),
+    };
+    if !is_short_update(&asked) {
         return Ok(false);
     }
-    if put_history_update_request(&mut out, &node, 1, &values).is_err() {
+    if put_history_update_request(&mut out, &node, 1, values.as_slice()).is_err() {
         return Ok(false);
     }
     let mut cursor = Cursor::new(out.as_slice());
@@ -125,14 +131,25 @@ fn the_server_reads_what_sessions_are_asked(rt: HostRuntime) {
     assert!(rt; are_sessions(rt.alloc()) == Ok(true));
 }
 
+/// Of the channel with the token 1.
+fn ids(request_id: u32, number: u32) -> ChunkIds
+    ensures { result.number ≡ number }
+{
+    ChunkIds {
+        token: 1,
+        request_id,
+        number,
+    }
+}
+
 /// Whether the server's channel takes the chunks of an opening, a message of 20 bytes in three pieces, and a close.
 fn are_taken(alloc: Global) -> Result<bool, BinaryFault> {
     let mut opening = Vec::new(alloc);
     put_opening(&mut opening, 1, 1, 3_600_000)?;
     let mut message = Vec::new(alloc);
-    let next = put_message(&mut message, 32, 1, 2, 2, b"twenty bytes of text")?;
+    let next = put_message(&mut message, 32, ids(2, 2), b"twenty bytes of text")?;
     let mut closing = Vec::new(alloc);
-    put_closing(&mut closing, 1, next, 3)?;
+    put_closing(&mut closing, ids(3, next))?;
     Ok(
         opening.as_slice() == OPENING
             && message.as_slice() == MESSAGE
@@ -345,7 +362,7 @@ fn sent(alloc: Global, status: Status) -> Result<Vec<u8>, ClientFault> {
         put_node_id_ref(&mut message, NodeIdRef::Numeric(0, u32::from(*type_id)))?;
         put_response_header(Ticks(6), handle, status, &mut message)?;
         message.extend_from_slice(body)?;
-        put_message(&mut out, 8192, 1, handle, handle, message.as_slice())?;
+        put_message(&mut out, 8192, ids(handle, handle), message.as_slice())?;
         handle += 1;
     }
     Ok(out)
@@ -358,35 +375,28 @@ const ACK: Ack = Ack {
 
 /// What a client brings by such answers: the code of the one value.
 fn brought(alloc: Global, bytes: &[u8]) -> Result<Status, ClientFault> {
-    let mut reader = Counted::new(bytes);
-    let mut writer = Counted::new(Vec::new(alloc));
-    let mut client = connect(alloc, &mut reader, &mut writer, 3_600_000)?;
-    client.create_session(
-        alloc,
-        &mut reader,
-        &mut writer,
-        Ticks(1),
-        Some("u"),
-        None,
-        &[0, 0, 0, 0, 0, 0, 240, 63],
-    )?;
-    client.activate_session(alloc, &mut reader, &mut writer, Ticks(2), None)?;
+    let mut line = Line::new(alloc, Counted::new(bytes), Counted::new(Vec::new(alloc)));
+    let mut client = connect(&mut line, 3_600_000)?;
+    let asked = NewSession {
+        endpoint_url: Some("u"),
+        name: None,
+        timeout: &[0, 0, 0, 0, 0, 0, 240, 63],
+    };
+    client.create_session(&mut line, Ticks(1), asked)?;
+    client.activate_session(&mut line, Ticks(2), None)?;
     let values = seven(alloc)?;
     let node = NodeId::Numeric(0, 85);
-    if update_size(&node, 1, values.as_slice()) != 24 {
+    let asked = UpdateAsked {
+        node_id: &node,
+        perform: 1,
+        values: values.as_slice(),
+    };
+    if !is_short_update(&asked) {
         return Err(ClientFault::TooLarge);
     }
-    let done = client.update_history(
-        alloc,
-        &mut reader,
-        &mut writer,
-        Ticks(3),
-        &node,
-        1,
-        values.as_slice(),
-    )?;
-    client.close_session(alloc, &mut reader, &mut writer, Ticks(4))?;
-    client.close_channel(alloc, &mut writer)?;
+    let done = client.update_history(&mut line, Ticks(3), asked)?;
+    client.close_session(&mut line, Ticks(4))?;
+    client.close_channel(&mut line)?;
     match done.operation_results.as_slice() {
         [code] => Ok(*code),
         _ => Err(ClientFault::Format),

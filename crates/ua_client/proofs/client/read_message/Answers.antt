@@ -12,18 +12,19 @@ chunks-init g c = record {
   pieces = [];
   body = sym c.new-body.ensures.items;
   read = Consumes-nil (g.R.Read.remaining c.args.reader.now.inner);
-  number = sym (number_after-none c.args.first c.requires);
+  number = sym (number_after-none c.args.first.number c.requires);
   is = c.requires;
 }
 
 pub chunks-preserved : goal.chunks-preserved
 chunks-preserved g c =
     let remaining = g.R.Read.remaining in
+    let first = c.args.first in
     let held = c.chunks.invariant in
     let piece = c.in_ok-part.part.bytes.items in
     let came = subst (λ last. Consumes (remaining c.chunks.reader.inner)
     (remaining c.take_piece.new.reader.inner)
-    (message_chunk (if last then Final else More) c.args.token c.chunks.number c.args.request_id
+    (message_chunk (if last then Final else More) first.token c.chunks.number first.request_id
     piece)) c.if-part.false c.in_ok-part.ensures in
     record {
       pieces = held.pieces ++ piece ∷ [];
@@ -31,9 +32,9 @@ chunks-preserved g c =
           ∙ sym (c.in_ok-extend_from_slice.ensures.items
           ∙ ap (λ b. c.chunks.body.items ++ b) c.as_slice.ensures.value);
       read = heard-more (remaining c.args.reader.now.inner) (remaining c.chunks.reader.inner)
-          (remaining c.take_piece.new.reader.inner) c.args.token c.args.request_id c.args.first
+          (remaining c.take_piece.new.reader.inner) first.token first.request_id first.number
           c.chunks.number held.pieces piece c.requires held.number held.read came;
-      number = number-then c.args.first c.chunks.number c.following-number.result held.pieces piece
+      number = number-then first.number c.chunks.number c.following-number.result held.pieces piece
           held.number c.following-number.ensures.value;
       is = c.following-number.ensures.within;
     }
@@ -41,11 +42,12 @@ chunks-preserved g c =
 pub returns-then-part : goal.returns-then-part
 returns-then-part g c =
     let remaining = g.R.Read.remaining in
+    let first = c.args.first in
     let held = c.chunks.invariant in
     let piece = c.in_ok-part.part.bytes.items in
     let came = subst (λ last. Consumes (remaining c.chunks.reader.inner)
     (remaining c.take_piece.new.reader.inner)
-    (message_chunk (if last then Final else More) c.args.token c.chunks.number c.args.request_id
+    (message_chunk (if last then Final else More) first.token c.chunks.number first.request_id
     piece)) c.if-part.true c.in_ok-part.ensures in record {
       hears = (
         held.pieces ++ piece ∷ [],
@@ -53,10 +55,11 @@ returns-then-part g c =
             ∙ sym (c.in_ok-extend_from_slice.ensures.items
             ∙ ap (λ b. c.chunks.body.items ++ b) c.as_slice.ensures.value),
         heard-ends (remaining c.args.reader.now.inner) (remaining c.chunks.reader.inner)
-            (remaining c.take_piece.new.reader.inner) c.args.token c.args.request_id c.args.first
+            (remaining c.take_piece.new.reader.inner) first.token first.request_id first.number
             c.chunks.number held.pieces piece c.requires held.number held.read came,
-        number-then c.args.first c.chunks.number c.following-number.result held.pieces piece held.number
+        number-then first.number c.chunks.number c.following-number.result held.pieces piece held.number
             c.following-number.ensures.value,
-        c.following-number.ensures.within,
+        c.following-number.ensures.within.0,
+        c.following-number.ensures.within.1,
       );
     }
