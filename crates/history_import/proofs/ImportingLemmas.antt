@@ -31,7 +31,7 @@ take-first [] (y ∷ ys) = refl
 take-first (x ∷ xs) ys = ap (λ l. x ∷ l) (take-first xs ys)
 
 -- all lines were told, and no more
-lines-told : (known : Option (List ℕ)) (rows : List (List (List ℕ)))
+pub lines-told : (known : Option (List ℕ)) (rows : List (List (List ℕ)))
     (before after : Option (List ℕ)) (ends : List RowEnd)
     → Appends before after (lines_from 1 ends) → TellsPart known rows ends before after
 lines-told known rows before after ends told =
@@ -47,7 +47,7 @@ lines-told known rows before after ends told =
     )
 
 -- all lines were told, and a first part of the summary
-summary-told : (known : Option (List ℕ)) (rows : List (List (List ℕ)))
+pub summary-told : (known : Option (List ℕ)) (rows : List (List (List ℕ)))
     (a b c : Option (List ℕ)) (ends : List RowEnd) → HasRecords known (value_names ∷ rows)
     → Appends a b (lines_from 1 ends) → AppendsPart b c (summary_of (counts_of ends))
     → TellsPart known rows ends a c
@@ -68,7 +68,7 @@ summary-told known rows a b c ends has told (sent, unsent, split, sends) =
     )
 
 -- all lines but the last were told, and a first part of that
-line-told : (known : Option (List ℕ)) (rows : List (List (List ℕ)))
+pub line-told : (known : Option (List ℕ)) (rows : List (List (List ℕ)))
     (a b c : Option (List ℕ)) (ends : List RowEnd) (end : RowEnd)
     → Appends a b (lines_from 1 ends) → AppendsPart b c (end_line (length ends + 1) end)
     → TellsPart known rows (ends ++ end ∷ []) a c
@@ -93,7 +93,7 @@ line-told known rows a b c ends end told (sent, unsent, split, sends) =
 -- ---- how it ends
 
 -- a write that failed, or no memory
-either-stops : (why : ImportFault) (known : Option (List ℕ)) (rows : List (List (List ℕ)))
+pub either-stops : (why : ImportFault) (known : Option (List ℕ)) (rows : List (List (List ℕ)))
     (ends : List RowEnd) (before after : Option (List ℕ))
     → (why ≡ Write) ⊎ (why ≡ OutOfMemory) → HasFirstRecords known (value_names ∷ rows)
     → TellsPart known rows ends before after
@@ -106,7 +106,7 @@ either-stops why known rows ends before after (inr is) there told =
     (inl there, told)
 
 -- a read that failed, or no memory
-unread-stops : (why : ImportFault) (known : Option (List ℕ)) (rows : List (List (List ℕ)))
+pub unread-stops : (why : ImportFault) (known : Option (List ℕ)) (rows : List (List (List ℕ)))
     (ends : List RowEnd) (before after : Option (List ℕ))
     → (why ≡ Read) ⊎ (why ≡ OutOfMemory) → HasFirstRecords known (value_names ∷ rows)
     → Appends before after (lines_from 1 ends)

@@ -29,7 +29,7 @@ use Rattle.history_import.specs.declared.asked.Perform.TheVariants.{Insert, Repl
 use Rattle.history_import.specs.declared.update.Update.{Update}
 use Rattle.history_import.specs.declared.row_end.RowEnd.{RowEnd}
 use Rattle.history_import.specs.declared.row_end.RowEnd.TheVariants.{NotText, NoRow, Answered}
-use Rattle.history_import.specs.Rows.{IsGivenOrStarved, node_field, row_type, row_judged, update_by, unless_too_long, perform_number, details_by, code_of, are_utf8, row_updated, text_done, row_done}
+use Rattle.history_import.specs.Rows.{IsGivenOrStarved, node_field, row_type, row_judged, update_by, unless_too_long, perform_number, details_by, code_of, are_utf8, row_asked, row_updated, text_done, row_done}
 use Rattle.history_import.proofs.DoingLemmas.{row-starved, row-fed}
 
 -- ---- its type
@@ -212,6 +212,32 @@ all_text (field ∷ fields) are = by (is_utf8 field) refl are (λ rest. all_text
     by true one rest later = (IsUtf8-from_is_utf8 field one, later rest)
     by false one rest later = absurd cc
 
+no_utf8 : (fields : List (List ℕ)) → (AllText fields → ⊥) → are_utf8 fields ≡ false
+no_utf8 fields none = by (are_utf8 fields) refl
+  where
+    by : (b : Bool) → are_utf8 fields ≡ b → are_utf8 fields ≡ false
+    by true are = absurd (none (all_text fields are))
+    by false are = are
+
+-- by whether they are UTF-8, and what they ask for then
+abbrev asked_by : UserSpace → List (List ℕ) → Bool → Result Update RowEnd
+asked_by seen fields text = if text then row_judged seen fields else Err NotText
+
+-- what a row of texts asks for
+pub asked-text : (seen : UserSpace) (fields texts : List (List ℕ)) (result : Result Update RowEnd)
+    → texts ≡ fields → AllText texts → IsGivenOrStarved (row_judged seen texts) result
+    → IsGivenOrStarved (row_asked seen fields) result
+asked-text seen fields texts result same all judged =
+    subst (λ l. IsGivenOrStarved (row_asked seen l) result) same
+    (subst (λ asked. IsGivenOrStarved asked result)
+    (sym (ap (asked_by seen texts) (all_utf8 texts all))) judged)
+
+-- a row that isn't UTF-8 asks for nothing
+pub asked-bytes : (seen : UserSpace) (fields : List (List ℕ)) → (AllText fields → ⊥)
+    → IsGivenOrStarved (row_asked seen fields) (Err NotText)
+asked-bytes seen fields none =
+    inl (sym (ap (asked_by seen fields) (no_utf8 fields none)))
+
 -- by whether they are UTF-8
 abbrev done_by : ℕ → UserSpace → Import → List (List ℕ) → Bool → Content
     → Fallible (RowEnd × Content)
@@ -235,8 +261,4 @@ pub done-bytes : (s : Store) (own : ℕ) (seen : UserSpace) (asked : Import)
     → (used : List StepResult) × Refines s s used (row_done own seen asked fields) NotText
 done-bytes s own seen asked fields none =
     acts-none s (row_done own seen asked fields) NotText
-    (λ R marks. ap (λ t. done_by own seen asked fields t R marks) (by (are_utf8 fields) refl))
-  where
-    by : (b : Bool) → are_utf8 fields ≡ b → are_utf8 fields ≡ false
-    by true are = absurd (none (all_text fields are))
-    by false are = are
+    (λ R marks. ap (λ t. done_by own seen asked fields t R marks) (no_utf8 fields none))

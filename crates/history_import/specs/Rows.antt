@@ -102,6 +102,10 @@ row_judged seen fields =
     row_type seen fields >>= λ type.
     result_map_both update_by NoRow (row_of type.number fields) >>= unless_too_long
 
+-- the same of a row's bytes: one that isn't UTF-8 asks for nothing
+abbrev pub row_asked : UserSpace → List (List ℕ) → Result Update RowEnd
+row_asked seen fields = if are_utf8 fields then row_judged seen fields else Err NotText
+
 -- this is given, or memory was wanting
 abbrev pub IsGivenOrStarved : {A : Type 0} → Result A RowEnd → Result A RowEnd → Type 0
 IsGivenOrStarved answer result = (result ≡ answer) ⊎ (result ≡ Err (NoRow OutOfMemory))

@@ -23,7 +23,7 @@ fn fate_by(code: Status) -> Fate
 }
 
 /// What became of a row.
-pub(crate) fn fate_of(end: RowEnd) -> Fate
+pub fn fate_of(end: RowEnd) -> Fate
     ensures { result ≡ fate_of end }
 {
     match end {

@@ -11,15 +11,14 @@ use crate::asked::Import;
 use crate::counts::Counts;
 use crate::fates::fate_of;
 use crate::fault::ImportFault;
-use crate::input::Lent;
-use crate::reading::{next_row, read_header};
+use crate::reading::{next_row, read_header, rows_in};
 use crate::row_end::RowEnd;
 use crate::rows::do_row;
 use crate::tally::{no_rows, with_one};
 use crate::telling::{tell_row, tell_summary};
 use archive::Archive;
 use counted_io::Counted;
-use csv::{Reader, ReaderBuilder};
+use csv::Reader;
 use historian::Server;
 use std::io::{Read, Write};
 
@@ -85,8 +84,8 @@ fn do_rows<A: Archive, R: Read, W: Write>(
     Err(ImportFault::OutOfMemory)
 }
 
-/// Why rows couldn't be read: for a call of the reader that failed, where there were so many before.
-fn fault_behind<R>(faults: u64, input: &Counted<R>) -> ImportFault
+/// Why rows couldn't be read: `Read` for a call of the reader that failed, where fewer had failed before; else `OutOfMemory`.
+pub fn fault_behind<R>(faults: u64, input: &Counted<R>) -> ImportFault
     ensures fault { (result ≡ ImportFault.Read) ⊎ (result ≡ ImportFault.OutOfMemory) }
     ensures read { result ≡ ImportFault.Read → input.now.faults ≢ faults }
 {
@@ -113,10 +112,7 @@ fn import_all<A: Archive, R: Read, W: Write>(
         → output.new.faults ≡ counted output.old.faults }
     ensures kept { (IsErrOf result ImportFault.Write → ⊥) → output.new.faults ≡ output.old.faults }
 {
-    let mut reader = ReaderBuilder::new()
-        .has_headers(false)
-        .flexible(true)
-        .from_reader(server.alloc, Lent { input });
+    let mut reader = rows_in(server.alloc, input);
     match read_header(server.alloc, &mut reader) {
         Ok(()) => {}
         Err(fault) => return Err(fault),

@@ -6,7 +6,7 @@ use std::io::{ErrorKind, Read};
 
 /// A counted reader that is lent.
 #[derive(Drop)]
-pub(crate) struct Lent<'a, R> {
+pub struct Lent<'a, R> {
     pub(crate) input: &'a mut Counted<R>,
 }
 

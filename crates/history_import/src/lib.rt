@@ -19,8 +19,15 @@ mod writers;
 
 pub use asked::{Import, Perform};
 pub use counts::Counts;
+pub use fates::fate_of;
 pub use fault::ImportFault;
-pub use importing::import_rows;
+pub use importing::{fault_behind, import_rows};
+pub use input::Lent;
+pub use reading::{next_row, read_header, rows_in};
 pub use row_end::{Fate, RowEnd};
+pub use rows::row_asked;
+pub use tally::{no_rows, with_one};
+pub use telling::{tell_row, tell_summary};
+pub use update::Update;
 pub use words::{text_words, why_words};
 pub use writers::may_import;

@@ -6,7 +6,9 @@ ghost use Rattle.history_csv.specs.Rows.{value_names};
 ghost use Rattle.history_import.specs.Reading.{StandsBehind, ReadsOne, ReadsHeader};
 
 use crate::fault::ImportFault;
-use csv::{ByteRecord, Error, Reader};
+use crate::input::Lent;
+use counted_io::Counted;
+use csv::{ByteRecord, Error, Reader, ReaderBuilder};
 use std::alloc::Global;
 use std::io::Read;
 
@@ -21,8 +23,19 @@ fn fault_of(error: &Error) -> ImportFault
     }
 }
 
-/// Reads the next row; none at the end of the text.
-pub(crate) fn next_row<R: Read>(
+/// A reader of the rows of a text, which stands before them.
+pub fn rows_in<'a, R: Read>(alloc: Global, input: &'a mut Counted<R>) -> Reader<Lent<'a, R>>
+    ensures { StandsBehind (λ lent. R.remaining lent.input.now.inner) result
+        (R.remaining input.entry.now.inner) [] }
+{
+    ReaderBuilder::new()
+        .has_headers(false)
+        .flexible(true)
+        .from_reader(alloc, Lent { input })
+}
+
+/// Reads the next row; none at the end of the text. The errors are `Read` and `OutOfMemory`.
+pub fn next_row<R: Read>(
     alloc: Global,
     reader: &mut Reader<R>,
 ) -> Result<Option<ByteRecord>, ImportFault>
@@ -68,8 +81,8 @@ fn is_header(row: &ByteRecord) -> bool
     has_field(row, 3, b"status")
 }
 
-/// Reads the header.
-pub(crate) fn read_header<R: Read>(alloc: Global, reader: &mut Reader<R>) -> Result<(), ImportFault>
+/// Reads the header. The errors are `Header`, where it is another row or none, `Read` and `OutOfMemory`.
+pub fn read_header<R: Read>(alloc: Global, reader: &mut Reader<R>) -> Result<(), ImportFault>
     ensures reads { (known : Option (List ℕ)) → StandsBehind R.remaining reader.old known []
         → ReadsHeader R.remaining reader.new known result }
     ensures fault { IsErrOf result ImportFault.Write → ⊥ }

@@ -7,7 +7,7 @@ ghost use Rattle.ua_variant.specs.DataValue.{IsShortData, IsPicoseconds};
 ghost use Rattle.archive.specs.Store.{StepResult};
 ghost use Rattle.archive.specs.Steps.{Refines};
 ghost use Rattle.historian.specs.UserSpaces.{space_for};
-ghost use Rattle.history_import.specs.Rows.{node_field, row_type, some_pico, some_status, update_by, unless_too_long, row_judged, row_updated, text_done, row_done, code_of, IsGivenOrStarved};
+ghost use Rattle.history_import.specs.Rows.{node_field, row_type, some_pico, some_status, update_by, unless_too_long, row_judged, row_asked, row_updated, text_done, row_done, code_of, IsGivenOrStarved};
 
 use crate::asked::Import;
 use crate::row_end::RowEnd;
@@ -142,9 +142,27 @@ fn row_judged(
     }
 }
 
+/// What a row asks for, by the type of its variable, which HistoryUpdate would grant this user; or why it asks for nothing. One
+/// whose bytes aren't UTF-8 asks for nothing, nor does one whose value has more than 1,048,578 bytes.
+pub fn row_asked(
+    alloc: Global,
+    settings: &Settings,
+    user: &str,
+    row: ByteRecord,
+) -> Result<Update, RowEnd>
+    ensures judged { IsGivenOrStarved
+        (row_asked (space_for settings.now user.now) (fields_of row)) result }
+    ensures short { IfOk result (λ update. IsShortData update.value) }
+{
+    match StringRecord::from_byte_record(row) {
+        Ok(row) => row_judged(alloc, settings, user, &row),
+        Err(_) => Err(RowEnd::NotText),
+    }
+}
+
 // ---- what is done
 
-/// The status of an update of one value.
+/// The status of an update of one value: the value's, or that of an update that was refused as a whole.
 fn code_of(told: &HistoryUpdateResult) -> Status
     ensures { result ≡ code_of told.now }
 {

@@ -7,7 +7,7 @@ use crate::counts::Counts;
 use crate::row_end::Fate;
 
 /// No rows.
-pub(crate) fn no_rows() -> Counts
+pub fn no_rows() -> Counts
     ensures { result ≡ no_rows }
 {
     Counts {
@@ -20,7 +20,7 @@ pub(crate) fn no_rows() -> Counts
 }
 
 /// One row more, of which this became.
-pub(crate) fn with_one(mut counts: Counts, fate: Fate) -> Counts
+pub fn with_one(mut counts: Counts, fate: Fate) -> Counts
     ensures { result ≡ with_one counts fate }
 {
     counts.rows = counts.rows.saturating_add(1);

@@ -27,8 +27,9 @@ fn send<W: Write>(text: &str, output: &mut Counted<W>) -> Result<(), ImportFault
     }
 }
 
-/// Tells what a row came to, if it has a line; `text` is where that is made.
-pub(crate) fn tell_row<W: Write>(
+/// Tells what a row came to, if it has a line; `text` is where that is made. The errors are `Write` (the writer's `faults` rose)
+/// and `OutOfMemory`.
+pub fn tell_row<W: Write>(
     alloc: Global,
     text: &mut String,
     number: u64,
@@ -49,8 +50,8 @@ pub(crate) fn tell_row<W: Write>(
     send(text.as_str(), output)
 }
 
-/// Tells how many rows there were.
-pub(crate) fn tell_summary<W: Write>(
+/// Tells how many rows there were, and what became of them; `text` is where that is made. The errors are those of `tell_row`.
+pub fn tell_summary<W: Write>(
     text: &mut String,
     counts: &Counts,
     output: &mut Counted<W>,

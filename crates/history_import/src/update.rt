@@ -5,9 +5,9 @@ use ua_variant::DataValue;
 
 /// What a row asks for, once its fields were read.
 #[derive(Debug, Drop)]
-pub(crate) struct Update {
+pub struct Update {
     /// The node.
-    pub(crate) node: NodeId,
+    pub node: NodeId,
     /// The value, with its source time.
-    pub(crate) value: DataValue,
+    pub value: DataValue,
 }
