@@ -1,0 +1,3 @@
+pub mod BroughtRows
+mod Ends
+mod Opening
