@@ -83,10 +83,14 @@ history_command =
     ∷ flag (codes "html") ∷ [])
 
 -- `import --settings FILE --user NAME [--perform WORD]`
-abbrev pub import_command : App
-import_command =
+abbrev pub rows_command : App
+rows_command =
     command (codes "import")
     (needed (codes "settings") ∷ needed (codes "user") ∷ option (codes "perform") ∷ [])
+
+-- the same with `[--server ADDRESS]`: `import` with its options
+abbrev pub import_command : App
+import_command = with_rule rows_command (option (codes "server"))
 
 -- `check --settings FILE [--store]`
 abbrev pub check_command : App
@@ -206,10 +210,12 @@ perform_named word =
 abbrev pub perform_in : Option Text → Option PerformWord
 perform_in given = elim given [ None ↦ Some Insert | Some word ↦ perform_named word ]
 
--- what rows ask of an import: in whose name, and what is done with the values that it brings
+-- what rows ask of an import: in whose name, what is done with the values that it brings, and
+-- which running server they are brought to, if one is named
 pub record AreImportWords (rows : List Row) (asked : ImportWords) : Type 0 where
   pub user : first_of (codes "user") rows ≡ Some asked.user.now
   pub perform : perform_in (first_of (codes "perform") rows) ≡ Some asked.perform
+  pub server : option_copied asked.server ≡ first_of (codes "server") rows
 
 -- what the rows of `import` give
 abbrev pub IsImportCommand : List Row → Line → Type 0
@@ -265,7 +271,7 @@ usage =
     ++ codes " | dump --settings FILE | sync --settings FILE --peer ADDRESS [--check] [--verify]"
     ++ codes " | history --settings FILE --node ID [--from T] [--to T] [--changes] [--csv] [--html]"
     ++ codes " | import --settings FILE --user NAME [--perform insert|replace|update]"
-    ++ codes " | check --settings FILE [--store]"
+    ++ codes " [--server ADDRESS] | check --settings FILE [--store]"
 
 -- the text that tells a refused command line
 abbrev pub line_text_of : LineFault → List ℕ

@@ -7,7 +7,7 @@ ghost use Rattle.clap.specs.declared.error.ErrorKind.TheVariants as clap;
 ghost use Rattle.clap.specs.Takes.{takes};
 ghost use Rattle.clap.specs.Faults.{fault_of as fault_kinds};
 ghost use Rattle.command_line.specs.Line.{Asks, AsksForText, AreHistoryWords, IsLine, option, uahist, IsAnswer, IsCheck, IsServe, IsDump, IsHistoryCommand, IsImportCommand, AreSyncWords, IsMistake, IsSync, IsText, IsTextOf, NoLine, movers, node_command, perform_in, perform_named, servers, span_command};
-ghost use Rattle.command_line.specs.Line.{answer_command, call_command, check_command, connections, dump_command, flag, histories, history_command, import_command, now, serve_command, sync_command};
+ghost use Rattle.command_line.specs.Line.{answer_command, call_command, check_command, connections, dump_command, flag, histories, history_command, import_command, now, rows_command, serve_command, sync_command};
 
 use clap::builder::ValueParser;
 use clap::error::{Error as Refusal, ErrorKind};
@@ -56,7 +56,7 @@ pub enum Line<'a> {
         settings: &'a str,
         asked: HistoryWords<'a>,
     },
-    /// Write the rows of standard input into the archive that the file at `settings` sets.
+    /// Write the rows of standard input into the archive that the file at `settings` sets, or bring them to a running server.
     Import {
         settings: &'a str,
         asked: ImportWords<'a>,
@@ -97,6 +97,8 @@ pub struct ImportWords<'a> {
     pub user: &'a str,
     /// What the rows are to do.
     pub perform: PerformWord,
+    /// The address of the running server that they are brought to; without one they are written into the settings' store.
+    pub server: Option<&'a str>,
 }
 
 /// What a command line asks of a node's history, in its own words.
@@ -143,7 +145,7 @@ impl LineFault {
     {
         match self {
             LineFault::Words =>
-                "usage: uahist answer [--settings FILE] [--hex] [--now N] | serve --settings FILE [--connections N] | dump --settings FILE | sync --settings FILE --peer ADDRESS [--check] [--verify] | history --settings FILE --node ID [--from T] [--to T] [--changes] [--csv] [--html] | import --settings FILE --user NAME [--perform insert|replace|update] | check --settings FILE [--store]",
+                "usage: uahist answer [--settings FILE] [--hex] [--now N] | serve --settings FILE [--connections N] | dump --settings FILE | sync --settings FILE --peer ADDRESS [--check] [--verify] | history --settings FILE --node ID [--from T] [--to T] [--changes] [--csv] [--html] | import --settings FILE --user NAME [--perform insert|replace|update] [--server ADDRESS] | check --settings FILE [--store]",
             LineFault::OutOfMemory => "memory ran out before the command began",
         }
     }
@@ -439,9 +441,23 @@ fn perform_option<'a>(alloc: Global) -> Arg<'a>
         .action(ArgAction::Set)
 }
 
-/// The command `import` and its options.
-fn import_command<'a>(alloc: Global) -> Result<Command<'a>, AllocError>
-    ensures app { IfOk result (λ command. app_of command ≡ import_command) }
+/// The option `--server ADDRESS`.
+fn server_option<'a>(alloc: Global) -> Arg<'a>
+    ensures rule { rule_of result ≡ option (codes "server") }
+    ensures local { result.global ≡ false }
+{
+    Arg::new(alloc, "server")
+        .long("server")
+        .value_name("ADDRESS")
+        .help(
+            "The running server that they are brought to, as 127.0.0.1:4840; without it they are written into the settings' store",
+        )
+        .action(ArgAction::Set)
+}
+
+/// The command `import` with the options that don't say where to.
+fn rows_command<'a>(alloc: Global) -> Result<Command<'a>, AllocError>
+    ensures app { IfOk result (λ command. app_of command ≡ rows_command) }
     ensures local { IfOk result (λ command. (out-Command command).has_globals ≡ false) }
 {
     let settings = settings_option(alloc).required(true);
@@ -451,6 +467,17 @@ fn import_command<'a>(alloc: Global) -> Result<Command<'a>, AllocError>
         "Writes the values of CSV from standard input, as history --csv prints them",
     );
     let command = command.arg(settings)?.arg(user)?.arg(perform)?;
+    Ok(command)
+}
+
+/// The command `import` and its options.
+fn import_command<'a>(alloc: Global) -> Result<Command<'a>, AllocError>
+    ensures app { IfOk result (λ command. app_of command ≡ import_command) }
+    ensures local { IfOk result (λ command. (out-Command command).has_globals ≡ false) }
+{
+    let server = server_option(alloc);
+    let command = rows_command(alloc)?;
+    let command = command.arg(server)?;
     Ok(command)
 }
 
@@ -687,10 +714,15 @@ fn read_import<'a>(import: &ArgMatches<'a>) -> Result<Line<'a>, LineFault>
     let Some(user) = import.get_str("user") else {
         return Err(LineFault::Words);
     };
+    let server = import.get_str("server");
     match perform_in(import.get_str("perform")) {
         Some(perform) => Ok(Line::Import {
             settings,
-            asked: ImportWords { user, perform },
+            asked: ImportWords {
+                user,
+                perform,
+                server,
+            },
         }),
         None => Err(LineFault::Words),
     }

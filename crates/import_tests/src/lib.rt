@@ -8,6 +8,8 @@ mod many;
 #[cfg(test)]
 mod plant;
 #[cfg(test)]
+mod remote;
+#[cfg(test)]
 mod runs;
 #[cfg(test)]
 mod words;

@@ -49,9 +49,14 @@ type = 'Int32'
 array = true
 ";
 
+/// The plant's settings.
+pub(crate) fn settings_of(alloc: Global) -> Result<Settings, SettingsFault> {
+    Settings::read(alloc, PLANT)
+}
+
 /// The plant's server, whose archive holds nothing.
 pub(crate) fn server_of(alloc: Global) -> Result<Server<ListArchive>, SettingsFault> {
-    let settings = Settings::read(alloc, PLANT)?;
+    let settings = settings_of(alloc)?;
     let archive = ListArchive::new(alloc, settings.archive(), settings.replica());
     Ok(Server::new(alloc, settings, archive))
 }

@@ -167,6 +167,7 @@ static LINES: [(&[&str], Result<Line<'static>, LineFault>); 54] = [
             asked: ImportWords {
                 user: "ann",
                 perform: PerformWord::Insert,
+                server: None,
             },
         }),
     ),
@@ -185,6 +186,7 @@ static LINES: [(&[&str], Result<Line<'static>, LineFault>); 54] = [
             asked: ImportWords {
                 user: "ann",
                 perform: PerformWord::Replace,
+                server: None,
             },
         }),
     ),
@@ -194,6 +196,8 @@ static LINES: [(&[&str], Result<Line<'static>, LineFault>); 54] = [
             "import",
             "--user=ann",
             "--perform=update",
+            "--server",
+            "127.0.0.1:4840",
             "--settings=a",
         ],
         Ok(Line::Import {
@@ -201,6 +205,7 @@ static LINES: [(&[&str], Result<Line<'static>, LineFault>); 54] = [
             asked: ImportWords {
                 user: "ann",
                 perform: PerformWord::Update,
+                server: Some("127.0.0.1:4840"),
             },
         }),
     ),
@@ -674,7 +679,7 @@ static RUNS: [(&[&str], &[u8], usize, &str, &str, u8); 62] = [
         b"",
         1000,
         "",
-        "uahist: usage: uahist answer [--settings FILE] [--hex] [--now N] | serve --settings FILE [--connections N] | dump --settings FILE | sync --settings FILE --peer ADDRESS [--check] [--verify] | history --settings FILE --node ID [--from T] [--to T] [--changes] [--csv] [--html] | import --settings FILE --user NAME [--perform insert|replace|update] | check --settings FILE [--store]\n",
+        "uahist: usage: uahist answer [--settings FILE] [--hex] [--now N] | serve --settings FILE [--connections N] | dump --settings FILE | sync --settings FILE --peer ADDRESS [--check] [--verify] | history --settings FILE --node ID [--from T] [--to T] [--changes] [--csv] [--html] | import --settings FILE --user NAME [--perform insert|replace|update] [--server ADDRESS] | check --settings FILE [--store]\n",
         2,
     ),
     (
@@ -942,7 +947,7 @@ static RUNS: [(&[&str], &[u8], usize, &str, &str, u8); 62] = [
 ];
 
 /// The same of imports.
-static IMPORTS: [(&[&str], &[u8], usize, &str, &str, u8); 8] = [
+static IMPORTS: [(&[&str], &[u8], usize, &str, &str, u8); 13] = [
     (
         &[
             "uahist",
@@ -1032,6 +1037,91 @@ static IMPORTS: [(&[&str], &[u8], usize, &str, &str, u8); 8] = [
         1000,
         "",
         "uahist: import refused: the settings name no store\n",
+        2,
+    ),
+    (
+        &[
+            "uahist",
+            "import",
+            "--settings",
+            "good",
+            "--user",
+            "anonymous",
+            "--server",
+            "127.0.0.1:4842",
+        ],
+        b"node,time,value,status\n",
+        1000,
+        "",
+        "uahist: import ended: what came from the server is no answer\n",
+        1,
+    ),
+    (
+        &[
+            "uahist",
+            "import",
+            "--settings",
+            "good",
+            "--user",
+            "anonymous",
+            "--server",
+            "127.0.0.1:4844",
+        ],
+        b"node,time,value,status\n",
+        1000,
+        "",
+        "uahist: import ended: the server refused it (2155675648)\n",
+        1,
+    ),
+    (
+        &[
+            "uahist",
+            "import",
+            "--settings",
+            "good",
+            "--user",
+            "anonymous",
+            "--server",
+            "127.0.0.1:4845",
+        ],
+        b"node,time,value,status\n",
+        1000,
+        "",
+        "uahist: address refused\n",
+        1,
+    ),
+    (
+        &[
+            "uahist",
+            "import",
+            "--settings",
+            "good",
+            "--user",
+            "anonymous",
+            "--server",
+            "plant",
+        ],
+        b"node,time,value,status\n",
+        1000,
+        "",
+        "uahist: address refused\n",
+        1,
+    ),
+    (
+        &[
+            "uahist",
+            "import",
+            "--settings",
+            "good",
+            "--user",
+            "ann",
+            "--server",
+            "127.0.0.1:4844",
+        ],
+        b"node,time,value,status\n",
+        1000,
+        "",
+        "uahist: --user: want a user of the settings who may write\n",
         2,
     ),
     (
@@ -1342,6 +1432,13 @@ static REFUSING_PEER: [Option<Client<'static>>; 1] = [Some(Client {
     room: 1000,
 })];
 
+/// A server that has no place for a connection.
+static BUSY_SERVER: [Option<Client<'static>>; 1] = [Some(Client {
+    bytes: b"ERRF\x10\0\0\0\0\0\x7d\x80\xff\xff\xff\xff",
+    breaks: false,
+    room: 1000,
+})];
+
 /// A machine in memory, with the files above, that can be listened at on port 4840, and whom the callers reach there; a
 /// door of peers can be listened at on any other port. Each path but one opens an archive that holds nothing.
 #[derive(Drop)]
@@ -1431,6 +1528,7 @@ impl Host for Machine {
             4840 => CALLERS[0]?,
             4842 => QUIET_PEER[0]?,
             4843 => REFUSING_PEER[0]?,
+            4844 => BUSY_SERVER[0]?,
             _ => return None,
         };
         Some(peer.ends(self.0))

@@ -1,7 +1,8 @@
 -- What a command does, for the clauses of run, do_line and do_command (program.rt).
 use Rattle.std.proofs.Common.{◌≡◌, ℕ, ℤ, List, [], Some, None, Ok, Err, refl, subst, ap, sym, ◌∙◌, inl, inr}
 use Rattle.std.specs.Result.{result_map_both}
-use Rattle.std.specs.Prelude.{Bool, true, false, ◌==◌, if◌then◌else◌, Option, Result, option_copied, ok_or}
+use Rattle.std.specs.Borrow.{Bor}
+use Rattle.std.specs.Prelude.{Bool, true, false, ◌==◌, ◌||◌, is_some, if◌then◌else◌, Option, Result, option_copied, ok_or}
 use Rattle.ua_server.specs.declared.hexed.HexFault.{HexFault}
 use Rattle.ua_server.specs.declared.hexed.HexFault.TheVariants as hexed
 use Rattle.ua_server.specs.declared.program.ProgramFault.{ProgramFault}
@@ -30,7 +31,10 @@ use Rattle.history_import.specs.declared.counts.Counts.{Counts}
 use Rattle.history_import.specs.declared.fault.ImportFault.{ImportFault}
 use Rattle.history_import.specs.declared.fault.ImportFault.TheVariants as rows
 use Rattle.history_import.specs.Rows.{may_write}
-use Rattle.ua_server.specs.Importing.{import_refusal, import_told}
+use Rattle.ua_server.specs.Importing.{import_refusal, import_told, remote_told}
+use Rattle.remote_import.specs.declared.fault.RemoteFault.{RemoteFault}
+use Rattle.remote_import.specs.declared.fault.RemoteFault.TheVariants as remote
+use Rattle.command_line.specs.declared.line.ImportWords.{ImportWords}
 use Rattle.settings_check.specs.declared.fault.CheckFault.{CheckFault}
 use Rattle.settings_check.specs.declared.fault.CheckFault.TheVariants as check
 use Rattle.ua_server.specs.Checking.{check_fault, TellsBehind, TellsCheck}
@@ -46,7 +50,7 @@ use Rattle.conversation.specs.declared.door.Door.TheVariants.{Both, Clients, Pee
 use Rattle.ua_server.specs.Network.{Serving}
 use Rattle.peer_check.specs.declared.comparing.Extent.{Extent}
 use Rattle.ua_server.specs.Calls.{compared_before}
-use Rattle.ua_server.specs.Program.{SettingsAt, FindsNoPlace, OpensBy, CallsPeer, Calling, Scene, PrintsCall, PrintsSynced, Shows, Findings, IsMistaken, DoesCommand, DoesLine, Runs, OpensUnless, line_refusal, settings_path, store_use}
+use Rattle.ua_server.specs.Program.{SettingsAt, FindsNoPlace, OpensBy, CallsPeer, Calling, ImportsTo, Scene, PrintsCall, PrintsSynced, Shows, Findings, IsMistaken, DoesCommand, DoesLine, Runs, OpensUnless, line_refusal, settings_path, store_use}
 use Rattle.ua_server.specs.declared.program.StoreUse.{StoreUse}
 use Rattle.ua_server.specs.Telling.{Known, dump_fault, fault_of, report_fault, Readings}
 use Rattle.ua_server.proofs.ProgramParts.{IsUnbegun}
@@ -237,30 +241,41 @@ imported-line (Err rows.Read) line same = cc
 imported-line (Err rows.Write) line same = cc
 imported-line (Err rows.OutOfMemory) line same = cc
 
+-- nor is one into a running server
+remote-line : (ended : Result Counts RemoteFault) (line : LineFault)
+    → Err (Line line) ≡ remote_told ended → ⊥
+remote-line (Ok counts) line same = counted-line (counts.refused == 0) counts.refused line same
+remote-line (Err (remote.Rows rows.Header)) line same = cc
+remote-line (Err (remote.Rows rows.Read)) line same = cc
+remote-line (Err (remote.Rows rows.Write)) line same = cc
+remote-line (Err (remote.Rows rows.OutOfMemory)) line same = cc
+remote-line (Err (remote.Server fault)) line same = cc
+
 -- nor is an import that is refused as a whole
-stored-line : (store : Option (List ℕ)) (fault : ProgramFault) (line : LineFault)
-    → (elim store [ None ↦ Some NoStore | Some path ↦ None ]) ≡ Some fault → fault ≡ Line line → ⊥
-stored-line None fault line is same = let both : Some NoStore ≡ Some (Line line) =
-    is ∙ ap Some same in cc
-stored-line (Some path) fault line is same = cc
+placed-line : (has : Bool) (fault : ProgramFault) (line : LineFault)
+    → (if has then None else Some NoStore) ≡ Some fault → fault ≡ Line line → ⊥
+placed-line true fault line is same = cc
+placed-line false fault line is same =
+    let both : Some NoStore ≡ Some (Line line) = is ∙ ap Some same in cc
 
-judged-line : (may : Bool) (store : Option (List ℕ)) (fault : ProgramFault) (line : LineFault)
-    → (if may then (elim store [ None ↦ Some NoStore | Some path ↦ None ]) else Some BadUser)
-    ≡ Some fault → fault ≡ Line line → ⊥
-judged-line true store fault line is same = stored-line store fault line is same
-judged-line false store fault line is same = let both : Some BadUser ≡ Some (Line line) =
-    is ∙ ap Some same in cc
+judged-line : (may has : Bool) (fault : ProgramFault) (line : LineFault)
+    → (if may then (if has then None else Some NoStore) else Some BadUser) ≡ Some fault
+    → fault ≡ Line line → ⊥
+judged-line true has fault line is same = placed-line has fault line is same
+judged-line false has fault line is same =
+    let both : Some BadUser ≡ Some (Line line) = is ∙ ap Some same in cc
 
-whole-line : (settings : SettingsValues) (user : List ℕ) (fault : ProgramFault) (line : LineFault)
-    → import_refusal settings user ≡ Some fault → fault ≡ Line line → ⊥
-whole-line settings user fault line is same =
-    judged-line (may_write settings.users user) settings.store fault line is same
+whole-line : (settings : SettingsValues) (words : ImportWords) (fault : ProgramFault)
+    (line : LineFault) → import_refusal settings words ≡ Some fault → fault ≡ Line line → ⊥
+whole-line settings words fault line is same =
+    judged-line (may_write settings.users words.user.now)
+    (is_some words.server || is_some settings.store) fault line is same
 
 -- a command that its settings refuse isn't told so
 refused-line : (line : CommandLine) (settings : SettingsValues) (why : ProgramFault)
     (fault : LineFault) → line_refusal line settings ≡ Some why → why ≡ Line fault → ⊥
 refused-line (Import path words) settings why fault is same =
-    whole-line settings words.user.now why fault is same
+    whole-line settings words why fault is same
 refused-line _ settings why fault is same = absurd cc
 
 -- nor is a check
@@ -322,6 +337,18 @@ unheard-line known settings old new line (inr (listening, is, Peers, listens, e)
 unheard-line known settings old new line (inr (listening, is, Browsers, listens, e), stays) =
     absurd cc
 
+-- nor is an import, wherever it is to
+brought-line : {C E : Type 0} (known : KnownMachine) (server : Option (Bor (List ℕ)))
+    (gave : Readings C) (settings : SettingsValues) (words : ImportWords)
+    (first last : known.Archive) (old new : Scene known.Host C E) (line : LineFault)
+    → ImportsTo known server gave settings words first last old new (Err (Line line)) → ⊥
+brought-line known None gave settings words first last old new line
+    (same, (reading, given, ended, imports, is)) = imported-line ended line is
+brought-line known (Some text) gave settings words first last old new line
+    (kept, errors, inl (unheard, is, stays)) = absurd cc
+brought-line known (Some text) gave settings words first last old new line
+    (kept, errors, inr (address, spells, brings)) = remote-line brings.ended line brings.told
+
 -- no command ends as a refused line
 never-line : {C E : Type 0} (known : KnownMachine) (gave : Readings C) (told : Known E)
     (line : CommandLine) (settings : SettingsValues) (first last : known.Archive)
@@ -341,8 +368,8 @@ never-line known gave told (Sync path asked) settings first last old new fault (
     (record { host = new.host; archive = last; written = new.written }) fault so
 never-line known gave told (History path words) settings first last old new fault (same, so) =
     history-line known.held words first last old.written new.written fault so
-never-line known gave told (Import path words) settings first last old new fault
-    (same, (reading, given, ended, imports, is)) = imported-line ended fault is
+never-line known gave told (Import path words) settings first last old new fault does =
+    brought-line known words.server gave settings words first last old new fault does
 never-line known gave told (Check path store) settings first last old new fault (same, so) =
     told-line known.held settings store first last old.written new.written fault so
 

@@ -55,6 +55,7 @@ module _ {C E : Type 0} (known : KnownMachine) (gave : Readings C) (told : Known
   no-address program.NoHeader none same stays = absurd none
   no-address program.UnreadRows none same stays = absurd none
   no-address (program.RowsRefused number) none same stays = absurd none
+  no-address (program.Server fault) none same stays = absurd none
 
   -- one can't be listened at
   no-place : (listening : Listening) (door : Door) → IsListening settings listening
@@ -107,6 +108,7 @@ none-serving settings program.NoStore none = absurd none
 none-serving settings program.NoHeader none = absurd none
 none-serving settings program.UnreadRows none = absurd none
 none-serving settings (program.RowsRefused number) none = absurd none
+none-serving settings (program.Server fault) none = absurd none
 
 door-serving : (door : Door) → IsServingFault (door_fault door)
 door-serving Both = tt

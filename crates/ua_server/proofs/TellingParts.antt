@@ -13,7 +13,8 @@ use Rattle.counted_io.specs.declared.fault.ServeFault.{ServeFault}
 use Rattle.ua_peers.specs.declared.calling.SyncFault.{SyncFault}
 use Rattle.ua_server.specs.declared.log.ErrorLog.{ErrorLog}
 use Rattle.ua_server.specs.declared.program.ProgramFault.{ProgramFault}
-use Rattle.ua_server.specs.declared.program.ProgramFault.TheVariants.{Line, File, Settings, Store, BadHex, Address, DoorAddress, DoorNetwork, PeerAddress, WebAddress, StoreBroken, Connection, Call, Exchange, Peer, NumberTwice, BadOption, NoText, BadUser, NoStore, NoHeader, UnreadRows, RowsRefused}
+use Rattle.ua_server.specs.declared.program.ProgramFault.TheVariants.{Line, File, Settings, Store, BadHex, Address, DoorAddress, DoorNetwork, PeerAddress, WebAddress, StoreBroken, Connection, Call, Exchange, Peer, NumberTwice, BadOption, NoText, BadUser, NoStore, NoHeader, UnreadRows, RowsRefused, Server}
+use Rattle.ua_client.specs.declared.fault.ClientFault.TheVariants as client
 use Rattle.ua_server.specs.Telling.{Known, words_of, number_told, numbered, fault_text, failed_text, outcome_text, call_lines, told_line, place_line, KeepsLast, LogsCall, LogsLine}
 
 -- the text of a fault without a number, and of one with it
@@ -53,6 +54,12 @@ short-words NoStore number e = absurd cc
 short-words NoHeader number e = absurd cc
 short-words UnreadRows number e = absurd cc
 short-words (RowsRefused rows) number e = omega arith
+short-words (Server (client.Connection fault)) number e = omega arith
+short-words (Server (client.Refused status)) number e = omega arith
+short-words (Server client.Format) number e = absurd cc
+short-words (Server client.Closed) number e = absurd cc
+short-words (Server client.TooLarge) number e = absurd cc
+short-words (Server client.OutOfMemory) number e = absurd cc
 
 -- what has room isn't cut
 cut-fits : (room : ℕ) (text : List ℕ) → length text ≤ room → cut_to room text ≡ text
@@ -150,6 +157,7 @@ second-line NoStore = refl
 second-line NoHeader = refl
 second-line UnreadRows = refl
 second-line (RowsRefused number) = refl
+second-line (Server fault) = refl
 
 -- a line that was written, or a first part of it
 pub line-logged : {W : Type 0} (contents : W → Option (List ℕ)) (old new : Tally W)

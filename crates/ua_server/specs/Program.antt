@@ -1,5 +1,5 @@
 -- What a run of the program does.
-use Rattle.std.specs.Prelude.{◌≡◌, ℕ, ℤ, List, [], Option, None, Some, IfSome, option_copied, Result, Ok, Err, IfOk, Bool, true, false, ◌⊎◌, if◌then◌else◌}
+use Rattle.std.specs.Prelude.{◌≡◌, ℕ, ℤ, List, [], ◌∷◌, Option, None, Some, IfSome, is_some, option_copied, Result, Ok, Err, IfOk, Bool, true, false, ◌⊎◌, if◌then◌else◌}
 use Rattle.std.specs.Result.{result_map_both}
 use Rattle.std.specs.Io.KnownBytes.{Appends}
 use Rattle.std.specs.declared.net.socket_addr.SocketAddr.{SocketAddr}
@@ -38,6 +38,7 @@ use Rattle.ua_peers.specs.declared.calling.Synced.{Synced}
 use Rattle.ua_peers.specs.declared.calling.SyncFault.{SyncFault}
 use Rattle.ua_peers.specs.declared.calling.SyncFault.TheVariants as sync
 use Rattle.std.specs.Net.Grammar.{IsSocketText}
+use Rattle.std.specs.Borrow.{Bor}
 use Rattle.ua_server.specs.Network.{Counts, Serving, ServesMany}
 use Rattle.conversation.specs.declared.door.Door.{Door}
 use Rattle.ua_server.specs.declared.listening.Listening.{Listening}
@@ -53,7 +54,8 @@ use Rattle.command_line.specs.declared.line.HistoryWords.{HistoryWords}
 use Rattle.command_line.specs.declared.line.SyncWords.{SyncWords}
 use Rattle.command_line.specs.declared.line.ImportWords.{ImportWords}
 use Rattle.ua_server.specs.Histories.{PrintsHistory}
-use Rattle.ua_server.specs.Importing.{Importing, WritesRows, import_refusal}
+use Rattle.ua_server.specs.Importing.{Importing, WritesRows, RemoteEnd, import_of, import_refusal, remote_told}
+use Rattle.remote_import.specs.Imports.{ImportsOver}
 use Rattle.ua_server.specs.Checking.{TellsCheck}
 use Rattle.ua_server.specs.declared.program.StoreUse.{StoreUse}
 use Rattle.ua_server.specs.declared.program.StoreUse.TheVariants.{Leaves, Opens, Makes}
@@ -372,14 +374,64 @@ importing_in archive scene = record {
   clock = scene.clock;
 }
 
--- `import`: the rows of the input are written into the archive
+-- the rows of the input are written into the archive
+abbrev pub ImportsHere : {C E : Type 0} → (known : KnownMachine) → Readings C → SettingsValues
+    → ImportWords → (first last : known.Archive) → (old new : Scene known.Host C E)
+    → Result (Unit {0}) ProgramFault → Type 0
+ImportsHere known gave settings words first last old new result =
+    (new ≡ record old { unread = new.unread; written = new.written; clock = new.clock })
+    × WritesRows known.held gave settings words (importing_in first old) (importing_in last new)
+    result
+
+-- the rows of the input were brought to the server at an address, at one reading of the clock, over
+-- a connection, which was given back with any counts of its failed calls
+pub record BringsRowsTo {C E : Type 0} (known : KnownMachine) (gave : Readings C)
+    (settings : SettingsValues) (words : ImportWords) (address : SocketAddr)
+    (old new : Scene known.Host C E) (result : Result (Unit {0}) ProgramFault) : Type 0 where
+  pub reader : known.Reader
+  pub writer : known.Writer
+  pub between : known.Host
+  pub calls : known.machine.calls old.host address (Some (reader, writer)) between
+  pub reading : ℤ
+  pub gives : gave old.clock (reading ∷ []) new.clock
+  pub read : Tally known.Reader
+  pub wrote : Tally known.Writer
+  pub parts : known.machine.parts between read wrote new.host
+  pub ended : RemoteEnd
+  pub imports : ImportsOver settings (import_of words reading) old.unread
+      (record { unread = known.unread reader; sent = known.written writer })
+      (record { unread = known.unread read.inner; sent = known.written wrote.inner })
+      old.written new.written ended
+  pub told : result ≡ remote_told ended
+
+-- the rows of the input were brought to the server at the text of an address; or nothing is had
+-- there, or the text is no address, and nothing was read or told
+abbrev pub ImportsThere : {C E : Type 0} → (known : KnownMachine) → Readings C → SettingsValues
+    → ImportWords → (address : List ℕ) → (old new : Scene known.Host C E)
+    → Result (Unit {0}) ProgramFault → Type 0
+ImportsThere known gave settings words text old new result =
+    (IsUnreachable (known.machine.calls old.host) text old.host new.host × (result ≡ Err Address)
+    × (new ≡ record old { host = new.host }))
+    ⊎ ((address : SocketAddr) × IsSocketText text address
+    × BringsRowsTo known gave settings words address old new result)
+
+-- the rows of the input are written into the archive, or brought to the running server at this
+-- address, if one is named, and then the archive and standard error stay
+abbrev pub ImportsTo : {C E : Type 0} → (known : KnownMachine) → (server : Option (Bor (List ℕ)))
+    → Readings C → SettingsValues → ImportWords → (first last : known.Archive)
+    → (old new : Scene known.Host C E) → Result (Unit {0}) ProgramFault → Type 0
+ImportsTo known None gave settings words first last old new result =
+    ImportsHere known gave settings words first last old new result
+ImportsTo known (Some address) gave settings words first last old new result =
+    (last ≡ first) × (new.errors ≡ old.errors)
+    × ImportsThere known gave settings words address.now old new result
+
+-- `import`: the rows of the input are written to where its words say
 abbrev pub DoesImporting : {C E : Type 0} → (known : KnownMachine) → Readings C → SettingsValues
     → ImportWords → (first last : known.Archive) → (old new : Scene known.Host C E)
     → Result (Unit {0}) ProgramFault → Type 0
 DoesImporting known gave settings words first last old new result =
-    (new ≡ record old { unread = new.unread; written = new.written; clock = new.clock })
-    × WritesRows known.held gave settings words (importing_in first old) (importing_in last new)
-    result
+    ImportsTo known words.server gave settings words first last old new result
 
 -- `check`: what the settings say is told, and what the archive holds where that is asked for
 abbrev pub DoesChecking : {C E : Type 0} → (known : KnownMachine) → SettingsValues → (store : Bool)
@@ -403,20 +455,21 @@ settings_path line =
     ]
 
 -- what a command does with its store: those that only print make none, and one that only tells of
--- the settings leaves it alone
+-- the settings, or brings rows to a running server, leaves it alone
 abbrev pub store_use : CommandLine → StoreUse
 store_use line =
     elim line [
       | Dump path ↦ Opens
       | History path words ↦ Opens
       | Check path store ↦ if store then Opens else Leaves
+      | Import path words ↦ if is_some words.server then Leaves else Makes
       | _ ↦ Makes
     ]
 
 -- why a command is refused by its settings, before their store is opened
 abbrev pub line_refusal : CommandLine → SettingsValues → Option ProgramFault
 line_refusal line settings =
-    elim line [ Import path words ↦ import_refusal settings words.user.now | _ ↦ None ]
+    elim line [ Import path words ↦ import_refusal settings words | _ ↦ None ]
 
 -- a command that writes in a user's name has one that a user may have
 abbrev pub HasUserName : CommandLine → Type 0

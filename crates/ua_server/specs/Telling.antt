@@ -8,9 +8,11 @@ use Rattle.std.specs.Result.{result_err}
 use Rattle.std.specs.Io.KnownBytes.{Appends}
 use Rattle.counted_io.specs.Fault.{serve_fault_number as connection_number}
 use Rattle.ua_server.specs.declared.program.ProgramFault.{ProgramFault}
-use Rattle.ua_server.specs.declared.program.ProgramFault.TheVariants.{Line, File, Settings, Store, BadHex, Address, DoorAddress, DoorNetwork, PeerAddress, WebAddress, StoreBroken, Connection, Call, Exchange, Peer, NumberTwice, BadOption, NoText, BadUser, NoStore, NoHeader, UnreadRows, RowsRefused}
+use Rattle.ua_server.specs.declared.program.ProgramFault.TheVariants.{Line, File, Settings, Store, BadHex, Address, DoorAddress, DoorNetwork, PeerAddress, WebAddress, StoreBroken, Connection, Call, Exchange, Peer, NumberTwice, BadOption, NoText, BadUser, NoStore, NoHeader, UnreadRows, RowsRefused, Server}
 use Rattle.ua_peers.specs.declared.calling.Synced.{Synced}
 use Rattle.command_line.specs.Line.{line_text_of}
+use Rattle.ua_client.specs.declared.fault.ClientFault.{ClientFault}
+use Rattle.ua_client.specs.declared.fault.ClientFault.TheVariants as client
 use Rattle.counted_io.specs.Bytes.{AppendsPart, counted}
 use Rattle.counted_io.specs.Tally.{Tally}
 use Rattle.exchange.specs.Fault.{exchange_number}
@@ -56,6 +58,22 @@ option_text asked.Node = codes "--node: want a node id, as ns=1;s=Temperature"
 option_text asked.From = codes "--from: want a time, as 2026-03-01T12:00:00Z"
 option_text asked.To = codes "--to: want a time, as 2026-03-01T12:00:00Z"
 
+-- the number of a fault of a running server: that of a connection's, or the code by which the
+-- server refused
+abbrev pub server_number : ClientFault → Option ℕ
+server_number (client.Connection fault) = Some (connection_number fault)
+server_number (client.Refused status) = Some status.0
+server_number fault = None
+
+-- what is said of a running server that didn't do what it was asked
+abbrev pub server_words : ClientFault → List ℕ
+server_words (client.Connection fault) = codes "connection to the server ended"
+server_words (client.Refused status) = codes "import ended: the server refused it"
+server_words client.Format = codes "import ended: what came from the server is no answer"
+server_words client.Closed = codes "import ended: the server closed the connection"
+server_words client.TooLarge = codes "import ended: a request is too long"
+server_words client.OutOfMemory = codes "import ended: out of memory"
+
 -- what is said of a fault
 abbrev pub words_of : ProgramFault → List ℕ
 words_of (Line fault) = line_text_of fault
@@ -81,6 +99,7 @@ words_of NoStore = codes "import refused: the settings name no store"
 words_of NoHeader = codes "rows refused: want the header node,time,value,status"
 words_of UnreadRows = codes "import ended: the rows can't be read"
 words_of (RowsRefused number) = codes "rows refused"
+words_of (Server fault) = server_words fault
 
 -- its number, if it has one; a peer may give any, a peer's address has that of its table, a network
 -- that of its place in the list, and rows are counted
@@ -95,6 +114,7 @@ number_told (Call fault) = Some (connection_number fault)
 number_told (Exchange fault) = Some (exchange_number fault)
 number_told (Peer number) = Some number
 number_told (NumberTwice number) = Some number
+number_told (Server fault) = server_number fault
 number_told fault = None
 
 -- words, and a number in brackets behind them

@@ -7,7 +7,7 @@ ghost use Rattle.std.specs.Io.KnownBytes.{Appends};
 ghost use Rattle.counted_io.specs.Bytes.{counted, AppendsPart};
 ghost use Rattle.ua_connection.specs.Environments.{Environment};
 ghost use Rattle.ua_server.specs.Single.{AnswersAt};
-ghost use Rattle.ua_server.specs.Telling.{fresh_log, exit_status, LogsLine, fault_text, numbered, told_line, error_lines, synced_line, fault_of, dump_fault, sync_fault, place_line};
+ghost use Rattle.ua_server.specs.Telling.{fresh_log, exit_status, LogsLine, fault_text, numbered, told_line, error_lines, synced_line, fault_of, dump_fault, sync_fault, place_line, server_number, server_words};
 ghost use Rattle.ua_server.specs.Host.{known_machine};
 ghost use Rattle.ua_server.specs.Program.{OpensArchive, OpensBy, PrintsCall, PrintsSynced, PrintsText, CallsPeer, DoesCommand, DoesAndCloses, DoesLine, HasUserName, Runs, findings_in, line_refusal, scene_of, settings_path, store_use};
 ghost use Rattle.ua_server.specs.Calls.{compared_before};
@@ -21,7 +21,7 @@ use crate::files::settings_at;
 use crate::hexed::HexFault;
 use crate::histories::{OptionFault, history_over};
 use crate::host::Host;
-use crate::imports::{import_over, import_refusal};
+use crate::imports::{import_by, import_refusal};
 use crate::log::ErrorLog;
 use crate::single::answer_at;
 use archive::{Archive, StoreFault};
@@ -39,6 +39,7 @@ use std::fmt::{InlineText, Write as _};
 use std::io::{Read, Write};
 use std::net::SocketAddr;
 use ua_binary::Text;
+use ua_client::ClientFault;
 use ua_connection::Clock;
 use ua_peers::{SyncFault, Synced};
 use ua_settings::{Settings, SettingsFault};
@@ -56,7 +57,7 @@ pub enum ProgramFault {
     Store(StoreFault),
     /// The input isn't hex.
     BadHex,
-    /// The settings' address, or that of the peer to be called, is none, or can't be listened at or called.
+    /// The settings' address, or that of the peer or the server to be called, is none, or can't be listened at or called.
     Address,
     /// The address of the settings' door is none, or can't be listened at.
     DoorAddress,
@@ -84,7 +85,7 @@ pub enum ProgramFault {
     NoText,
     /// Rows are to be written in a name that isn't one of a user who may write.
     BadUser,
-    /// Rows are to be written where the settings name no store.
+    /// Rows are to be written where the settings name no store, and the words no running server.
     NoStore,
     /// Rows don't begin by their header.
     NoHeader,
@@ -92,6 +93,36 @@ pub enum ProgramFault {
     UnreadRows,
     /// So many rows were refused.
     RowsRefused(u64),
+    /// A running server that rows were brought to didn't do what it was asked.
+    Server(ClientFault),
+}
+
+/// What is said of a running server that didn't do what it was asked.
+fn server_words(fault: ClientFault) -> &'static str
+    ensures { result.now ≡ server_words fault }
+{
+    match fault {
+        ClientFault::Connection(_) => "connection to the server ended",
+        ClientFault::Refused(_) => "import ended: the server refused it",
+        ClientFault::Format => "import ended: what came from the server is no answer",
+        ClientFault::Closed => "import ended: the server closed the connection",
+        ClientFault::TooLarge => "import ended: a request is too long",
+        ClientFault::OutOfMemory => "import ended: out of memory",
+    }
+}
+
+/// Its number, if it has one: that of a fault of a connection, or the code by which the server refused.
+fn server_number(fault: ClientFault) -> Option<u64>
+    ensures { result ≡ server_number fault }
+{
+    match fault {
+        ClientFault::Connection(fault) => Some(u64::from(fault.number())),
+        ClientFault::Refused(status) => Some(u64::from(status.0)),
+        ClientFault::Format
+        | ClientFault::Closed
+        | ClientFault::TooLarge
+        | ClientFault::OutOfMemory => None,
+    }
 }
 
 impl ProgramFault {
@@ -124,6 +155,7 @@ impl ProgramFault {
             ProgramFault::NoHeader => "rows refused: want the header node,time,value,status",
             ProgramFault::UnreadRows => "import ended: the rows can't be read",
             ProgramFault::RowsRefused(_) => "rows refused",
+            ProgramFault::Server(fault) => server_words(*fault),
         }
     }
 
@@ -156,6 +188,7 @@ impl ProgramFault {
             | ProgramFault::NoStore
             | ProgramFault::NoHeader
             | ProgramFault::UnreadRows => None,
+            ProgramFault::Server(fault) => server_number(*fault),
         }
     }
 
@@ -188,7 +221,8 @@ impl ProgramFault {
             | ProgramFault::NoStore
             | ProgramFault::NoHeader
             | ProgramFault::UnreadRows
-            | ProgramFault::RowsRefused(_) => None,
+            | ProgramFault::RowsRefused(_)
+            | ProgramFault::Server(_) => None,
         }
     }
 }
@@ -450,7 +484,7 @@ fn settings_path<'a>(line: &Line<'a>) -> Option<&'a str>
 }
 
 /// What a command does with the store of its settings: those that only print make none, and one that only tells of the
-/// settings leaves it alone.
+/// settings, or brings rows to a running server, leaves it alone.
 fn store_use(line: &Line<'_>) -> StoreUse
     ensures { result ≡ store_use line.now }
 {
@@ -463,9 +497,14 @@ fn store_use(line: &Line<'_>) -> StoreUse
                 StoreUse::Leaves
             }
         }
-        Line::Answer { .. } | Line::Serve { .. } | Line::Sync { .. } | Line::Import { .. } => {
-            StoreUse::Makes
+        Line::Import { asked, .. } => {
+            if asked.server.is_some() {
+                StoreUse::Leaves
+            } else {
+                StoreUse::Makes
+            }
         }
+        Line::Answer { .. } | Line::Serve { .. } | Line::Sync { .. } => StoreUse::Makes,
     }
 }
 
@@ -476,7 +515,7 @@ fn line_refusal(line: &Line<'_>, settings: &Settings) -> Option<ProgramFault>
     ensures connection { (fault : ServeFault) → result ≡ Some (ProgramFault.Connection fault) → ⊥ }
 {
     match line {
-        Line::Import { asked, .. } => import_refusal(settings, asked.user),
+        Line::Import { asked, .. } => import_refusal(settings, *asked),
         _ => None,
     }
 }
@@ -525,9 +564,7 @@ fn do_command<H: Host, C: Clock, R: Read, W: Write, E: Write>(
         Line::Dump { .. } => dump_over(&mut world.server, output),
         Line::Sync { asked, .. } => sync_over(&mut world.server, asked, host, output),
         Line::History { asked, .. } => history_over(&mut world.server, asked, output),
-        Line::Import { asked, .. } => {
-            import_over(&mut world.server, &mut world.clock, asked, input, output)
-        }
+        Line::Import { asked, .. } => import_by(world, asked, host, input, output),
         Line::Check { store, .. } => check_over(&mut world.server, store, output),
     }
 }
@@ -632,7 +669,7 @@ fn print_text<W: Write>(text: &[u8], output: &mut Counted<W>) -> Result<(), Prog
 /// | `File`, `Settings` | the settings file can't be read, or is refused |
 /// | `Store` | the settings' store can't be opened, or can't be read for what is printed |
 /// | `StoreBroken` | the store broke while it was served, and the settings say that this ends it |
-/// | `Address` | the settings' address, or that of the peer to be called, is none, or can't be listened at or called |
+/// | `Address` | the settings' address, or that of the peer or the server to be called, is none, or can't be listened at or called |
 /// | `DoorAddress`, `WebAddress` | the same of the settings' door, and of where browsers come to |
 /// | `DoorNetwork`, `PeerAddress` | the text of a network of the door, or of a peer that the server is to call, is none |
 /// | `BadHex` | the input is to be hex, and isn't |
@@ -640,8 +677,9 @@ fn print_text<W: Write>(text: &[u8], output: &mut Counted<W>) -> Result<(), Prog
 /// | `Call`, `Exchange`, `Peer` | the call of a peer: its connection met a fault, the exchange met one here, or the peer ended it by a number |
 /// | `NumberTwice` | the peer that was called holds another record of a number than this archive |
 /// | `BadOption`, `NoText` | an option of `history` says nothing of its kind; a value of the history has no text |
-/// | `BadUser`, `NoStore` | the user of an import isn't one who may write; its settings name no store |
+/// | `BadUser`, `NoStore` | the user of an import isn't one who may write; neither do its settings name a store nor its words a server |
 /// | `NoHeader`, `UnreadRows`, `RowsRefused` | the rows of an import don't begin by their header, can't be read, or some were refused |
+/// | `Server` | a running server that rows are brought to didn't do what it was asked: the connection to it met a fault, it refused, or what came is no answer |
 #[tactic(auto, using(crate::proofs::Printing::lines))]
 pub fn run<S: AsStr, H: Host, C: Clock + Copy, R: Read, W: Write, E: Write>(
     alloc: Global,
@@ -736,7 +774,8 @@ pub fn report<W: Write>(ending: Result<(), ProgramFault>, errors: &mut Counted<W
         | ProgramFault::NumberTwice(_)
         | ProgramFault::NoText
         | ProgramFault::UnreadRows
-        | ProgramFault::RowsRefused(_) => 1,
+        | ProgramFault::RowsRefused(_)
+        | ProgramFault::Server(_) => 1,
     }
 }
 

@@ -4,6 +4,7 @@
 use archive::StoreFault;
 use counted_io::{Counted, ServeFault};
 use std::io::{ErrorKind, Write};
+use ua_client::ClientFault;
 use ua_server::ProgramFault;
 use ua_settings::SettingsFault;
 
@@ -176,6 +177,33 @@ fn of_refusal(fault: StoreFault, found: Option<&'static str>) -> Option<&'static
     }
 }
 
+/// What a status code by which a server refuses means, in hexadecimal digits and in words.
+fn of_code(code: u32) -> &'static str {
+    match code {
+        0x801F_0000 => "801F0000 Bad_UserAccessDenied: it doesn't let this user write",
+        0x8020_0000 => "80200000 Bad_IdentityTokenInvalid: it takes no such login",
+        0x8021_0000 =>
+            "80210000 Bad_IdentityTokenRejected: it doesn't know this user by this password",
+        0x8056_0000 => "80560000 Bad_TooManySessions: it has no room for one more session",
+        0x807D_0000 => "807D0000 Bad_TcpServerTooBusy: it has no room for one more connection",
+        _ => "the number is a status code of OPC UA",
+    }
+}
+
+/// Why a running server that rows are brought to didn't do what it was asked.
+fn of_server(fault: ClientFault) -> Option<&'static str> {
+    match fault {
+        ClientFault::Refused(code) => Some(of_code(code.0)),
+        ClientFault::Connection(_) | ClientFault::Closed => {
+            Some("the rows that it answered stand; whether one more does isn't known")
+        }
+        ClientFault::Format => {
+            Some("that isn't the address of clients of a uahist, or of a server like it")
+        }
+        ClientFault::TooLarge | ClientFault::OutOfMemory => None,
+    }
+}
+
 /// What is told of an ending behind its own line, by what the system said last where the machine couldn't do something. An
 /// address of which it said nothing wasn't asked for: its text spells none.
 pub(crate) fn of_ending(
@@ -196,6 +224,7 @@ pub(crate) fn of_ending(
         | ProgramFault::WebAddress => {
             said.or(Some("not an address: want one as 127.0.0.1:4840"))
         }
+        ProgramFault::Server(fault) => of_server(*fault),
         ProgramFault::DoorNetwork(_) => Some("not a network: want one as 10.1.0.0/16"),
         ProgramFault::NumberTwice(_) => {
             Some("an old copy of a store was put back, or two machines have one number")

@@ -49,6 +49,7 @@ returns-in-Some-perform_in-clause-ok c =
             (first_value found (codes "user")) c.get_str-2.ensures c.in-Some-get_str.is;
         perform = sym (ap (λ (o : Option Text). perform_in o) word)
             ∙ sym c.perform_in.ensures ∙ c.in-Some-perform_in.is;
+        server = c.get_str-server.ensures ∙ first_value-rows found (codes "server");
       },
     )
 

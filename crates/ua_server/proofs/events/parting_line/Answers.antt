@@ -5,7 +5,7 @@ use Rattle.std.specs.declared.net.socket_addr.SocketAddr.{SocketAddr}
 use Rattle.std.proofs.lemmas.Int.{to_z-of_z}
 use Rattle.event_lines.specs.Lines.{IsEventLine, end_text}
 use Rattle.event_lines.specs.declared.lines.Moved.{Moved}
-use Rattle.ua_server.specs.Logging.{address_of, end_reason, moved_if}
+use Rattle.ua_server.specs.Logging.{end_reason, moved_if}
 use Rattle.ua_server.proofs.events.parting_line.Goals as goal
 
 pub returns : goal.returns

@@ -102,15 +102,15 @@ returns-in-Import-clause-does g c =
     g.H.Reader.Read.remaining g.H.Writer.Write.contents in
     let P : CommandLine → Type 0 = λ line.
     DoesCommand known g.C.Clock.gave g.E.Write.contents line c.args.world.now.server.settings
-    c.args.world.now.server.replica.archive c.import_over.new.server.replica.archive
+    c.args.world.now.server.replica.archive c.import_by.new.world.server.replica.archive
     (scene_of (g.R.Read.remaining c.args.input.now.inner)
     (g.W.Write.contents c.args.output.now.inner) c.args.host.now c.args.world.now.clock
     c.args.world.now.log.errors)
-    (scene_of (g.R.Read.remaining c.import_over.new.input.inner)
-    (g.W.Write.contents c.import_over.new.output.inner) c.args.host.now c.import_over.new.clock
-    c.args.world.now.log.errors)
-    c.import_over.result in
-    subst P (sym c.in-Import.is) (refl, c.import_over.ensures.imports)
+    (scene_of (g.R.Read.remaining c.import_by.new.input.inner)
+    (g.W.Write.contents c.import_by.new.output.inner) c.import_by.new.host
+    c.import_by.new.world.clock c.import_by.new.world.log.errors)
+    c.import_by.result in
+    subst P (sym c.in-Import.is) c.import_by.ensures.imports
 
 pub returns-in-Check-clause-does : goal.returns-in-Check-clause-does
 returns-in-Check-clause-does g c =

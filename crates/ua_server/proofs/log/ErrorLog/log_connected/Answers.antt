@@ -1,5 +1,5 @@
 use Rattle.std.proofs.Common.{◌≡◌, ◌∙◌, ℕ, List, false, sym, ap, subst, arith, w64}
-use Rattle.std.specs.Prelude.{Option, IfOk}
+use Rattle.std.specs.Prelude.{IfOk}
 use Rattle.std.specs.Int.RustNames.{FitsSigned}
 use Rattle.std.proofs.lemmas.Int.{ints, to_z-of_z}
 use Rattle.event_lines.specs.Lines.{IsEventLine, connected_text}

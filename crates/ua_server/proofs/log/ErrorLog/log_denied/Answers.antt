@@ -1,4 +1,4 @@
-use Rattle.std.proofs.Common.{◌≡◌, ◌∙◌, ℕ, List, false, sym, ap, subst, arith, w64}
+use Rattle.std.proofs.Common.{◌≡◌, ◌∙◌, false, sym, subst, arith, w64}
 use Rattle.std.specs.Prelude.{Option, IfOk}
 use Rattle.std.specs.Int.RustNames.{FitsSigned}
 use Rattle.std.proofs.lemmas.Int.{ints, to_z-of_z}

@@ -1,5 +1,4 @@
-use Rattle.std.proofs.Common.{◌≡◌, ◌∙◌, ℕ, List, false, Some, sym, ap, subst, arith, w64}
-use Rattle.std.specs.Prelude.{Option, IfOk}
+use Rattle.std.proofs.Common.{◌≡◌, ◌∙◌, false, Some, sym, subst, arith, w64}
 use Rattle.std.specs.Int.RustNames.{FitsSigned}
 use Rattle.std.proofs.lemmas.Int.{ints, to_z-of_z}
 use Rattle.event_lines.specs.Lines.{login_text}

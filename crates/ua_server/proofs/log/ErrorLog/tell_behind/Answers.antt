@@ -1,4 +1,4 @@
-use Rattle.std.proofs.Common.{◌∙◌, List, ℕ, inl, inr, refl, subst}
+use Rattle.std.proofs.Common.{List, ℕ, inl, inr, refl, subst}
 use Rattle.ua_server.specs.Telling.{LogsLine, told_line}
 use Rattle.ua_server.specs.Logging.{starved_text}
 use Rattle.ua_server.proofs.TellingParts.{line-logged}

@@ -1,4 +1,4 @@
-use Rattle.std.proofs.Common.{◌∙◌, List, ℕ, inl, inr, refl, ap, subst}
+use Rattle.std.proofs.Common.{◌∙◌, inl, inr, refl, ap, subst}
 use Rattle.std.specs.Prelude.{IfOk}
 use Rattle.event_lines.specs.Lines.{IsEventLine}
 use Rattle.ua_server.specs.Telling.{told_line}

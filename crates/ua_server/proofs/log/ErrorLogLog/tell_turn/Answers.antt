@@ -1,4 +1,4 @@
-use Rattle.std.proofs.Common.{◌∙◌, List, ℕ, ap, arith, inr, refl, subst}
+use Rattle.std.proofs.Common.{◌∙◌, List, ℕ, arith, inr, refl, subst}
 use Rattle.ua_server.specs.Telling.{LogsLine, told_line}
 use Rattle.ua_server.proofs.TellingParts.{line-logged}
 use Rattle.ua_server.proofs.log.ErrorLogLog.tell_turn.Goals as goal
