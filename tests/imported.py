@@ -1,15 +1,17 @@
 #!/usr/bin/env python3
 """Compares what `uahist import` writes, tells and leaves with a plain model.
 
-    tests/imported.py PROGRAM [ROUNDS [DAYS]]
+    tests/imported.py PROGRAM [ROUNDS [DAYS [HOURS]]]
 
 Each round (20, unless told) makes a store and imports texts of random rows into it, to be inserted, replaced or updated: lawful ones,
 such as are there already, and wrong ones of each kind. What is told of them and the exit status have to be the model's, what
 `history --csv` prints then what the model holds, and `history --changes` has to name the user. Then so many days (7, unless told)
 of twelve variables, a value each hundred seconds, are imported, printed, and imported again: what is printed has to be what was
-imported, and the dump the same after the second time. Exit status 1 where one differs.
+imported, and the dump the same after the second time. All that holds too of rows that are brought to a server that runs (`--server`),
+of so many hours (8, unless told) of twelve variables; and each way in which a server doesn't take them is told. Exit status 1 where one
+differs.
 """
-import csv, io, os, random, sys, tempfile
+import csv, io, os, random, signal, socket, subprocess, sys, tempfile, threading, time
 import running, usage
 from printed import moment, NOW
 
@@ -20,7 +22,7 @@ id = '00000000-0000-0000-0000-000000000000'
 replica = 1
 store = '{store}'
 [server]
-listen = '127.0.0.1:4840'
+listen = '127.0.0.1:{port}'
 url = 'opc.tcp://localhost:4840'
 application = 'urn:uahist'
 namespace = 'urn:uahist:archive'
@@ -69,9 +71,31 @@ def summary(counts):
     return f"{total} row{'' if total == 1 else 's'}" + (": " + ", ".join(parts) if parts else "") + "\n"
 
 
-def imported(program, settings, text, user="ann", perform=None, most=600):
+def imported(program, settings, text, user="ann", perform=None, most=600, server=None):
     words = [program, "import", "--settings", settings, "--user", user, *(["--perform", perform] if perform else [])]
-    return running.run(words, text.encode(), most)
+    return running.run([*words, *(["--server", server] if server else [])], text.encode(), most)
+
+
+class Server:
+    """A server of the settings that runs, while it is entered."""
+
+    def __init__(self, program, settings):
+        self.words, self.port = [program, "serve", "--settings", settings], port_in(settings)
+        self.address = f"127.0.0.1:{self.port}"
+
+    def __enter__(self):
+        self.process = subprocess.Popen(self.words, stdout=subprocess.DEVNULL, stderr=subprocess.PIPE)
+        if not running.listens(self.port, self.process, 60):
+            sys.exit("the server did not begin")
+        return self
+
+    def __exit__(self, *met):
+        self.process.send_signal(signal.SIGTERM)
+        self.said = self.process.communicate()[1].decode()
+
+
+def port_in(settings):
+    return int(next(line for line in open(settings) if line.startswith("listen")).split(":")[1].strip(" '\n"))
 
 
 def values(program, settings, name, *options):
@@ -83,7 +107,7 @@ def values(program, settings, name, *options):
 def settings_in(folder, variables):
     path, store = os.path.join(folder, "plant.toml"), os.path.join(folder, "plant.db")
     running.forget(store)
-    open(path, "w").write(SETTINGS.format(store=store) + "".join(VARIABLE.format(name, kind) for name, kind in variables.items()))
+    open(path, "w").write(SETTINGS.format(store=store, port=running.free_port()) + "".join(VARIABLE.format(name, kind) for name, kind in variables.items()))
     return path
 
 
@@ -117,11 +141,15 @@ def is_value(name, said, value):
     return float(said) == float(value) if name == "number" else said == value
 
 
-def differs(program, settings, chance, held):
+def differs(program, settings, chance, held, served=False):
     """What differs of one import, if something does."""
     perform = chance.choice([None, "insert", "replace", "update"])
     rows, counts, lines = text_of(chance, held, perform)
-    done = imported(program, settings, rows_of(rows), perform=perform)
+    if served:
+        with Server(program, settings) as server:
+            done = imported(program, settings, rows_of(rows), perform=perform, server=server.address)
+    else:
+        done = imported(program, settings, rows_of(rows), perform=perform)
     refused = counts["refused"]
     said = f"uahist: rows refused ({refused})\n" if refused else ""
     if (done.out.decode(), done.said, done.status) != (lines + summary(counts), said, 1 if refused else 0):
@@ -168,10 +196,110 @@ def week(program, folder, days):
     return good
 
 
+def brought(program, folder, hours):
+    """Whether hours of twelve variables are printed as they were brought to a server that runs, and brought again without a change."""
+    names = [f"v{n}" for n in range(12)]
+    settings = settings_in(folder, dict.fromkeys(names, "Double"))
+    copy = os.path.join(folder, "copy.toml")
+    open(copy, "w").write("".join(line for line in open(settings) if not line.startswith("store")))
+    chance = random.Random(8)
+    rows = [[f"ns=1;s={name}", moment(NOW - 365 * DAY + k * (DAY // 864)), str(round(chance.uniform(-50, 150), 3)), "Good"] for name in names for k in range(36 * hours)]
+    words, text = [program, "import", "--settings", copy, "--user", "ann"], rows_of(rows)
+    with Server(program, settings) as server:
+        words += ["--server", server.address]
+        first, second = (running.weighed(words, text.encode(), 600) for _ in range(2))
+    same = all(all(r[:2] == w[:2] and float(r[2]) == float(w[2]) and r[3] == w[3] for r, w in zip(values(program, settings, name), [w for w in rows if w[0] == f"ns=1;s={name}"], strict=True)) for name in names)
+    good = first.out.decode() == f"{len(rows)} rows: {len(rows)} inserted\n" and second.out.decode() == f"{len(rows)} rows: {len(rows)} exist\n"
+    good = good and same and server.said == ""
+    print(f"{len(rows)} rows: {'printed as they were brought to a server' if good else 'OTHERWISE'}; {first.seconds:.1f} s and {first.kilobytes / 1000:.0f} MB, again {second.seconds:.1f} s and {second.kilobytes / 1000:.0f} MB")
+    return good
+
+
+def answering(data, count=1):
+    """The address of somebody who answers so many connections by these bytes, and hangs up."""
+    listener = socket.create_server(("127.0.0.1", 0))
+
+    def answer():
+        for _ in range(count):
+            link = listener.accept()[0]
+            link.recv(65_536)
+            link.sendall(data)
+            link.close()
+
+    threading.Thread(target=answer, daemon=True).start()
+    return "127.0.0.1:%d" % listener.getsockname()[1]
+
+
+def unserved(program, folder):
+    """Whether ways in which a server doesn't take rows are told."""
+    settings = settings_in(folder, TYPES)
+    text, wrong = rows_of([["ns=1;s=whole", "@5", "5", ""]]), []
+    other = os.path.join(folder, "other.toml")
+    open(other, "w").write(open(settings).read().replace("password = 'pw'", "password = 'other'").replace("access = 'read'\n", ""))
+    with Server(program, settings) as server:
+        asked = [
+            (settings, "eva", server.address, b"", "uahist: --user: want a user of the settings who may write\n", 2),
+            (other, "ann", server.address, b"", "uahist: import ended: the server refused it (2149646336)\nuahist: 80210000 Bad_IdentityTokenRejected: it doesn't know this user by this password\n", 1),
+            (settings, "ann", "localhost", b"", "uahist: address refused\nuahist: not an address: want one as 127.0.0.1:4840\n", 1),
+            (settings, "ann", f"127.0.0.1:{running.free_port()}", b"", "uahist: address refused\nuahist: nobody listens there\n", 1),
+            (settings, "ann", answering(b""), b"", "uahist: import ended: the server closed the connection\nuahist: the rows that it answered stand; whether one more does isn't known\n", 1),
+            (settings, "ann", answering(b"HTTP/1.1 400 Bad Request\r\n\r\n"), b"", "uahist: import ended: what came from the server is no answer\nuahist: that isn't the address of clients of a uahist, or of a server like it\n", 1),
+            (settings, "ann", server.address, b"1 row: 1 inserted\n", "", 0),
+        ]
+        for by, user, address, out, said, status in asked:
+            done = imported(program, by, text, user, server=address)
+            if (done.out, done.said, done.status) != (out, said, status):
+                wrong.append(f"{user} {address}: {done.out!r} {done.said!r} {done.status}, not {said!r}")
+        open(other, "w").write(open(settings).read().replace("access = 'read'\n", ""))
+        done = imported(program, other, text, "eva", server=server.address)
+        if (done.out, done.said, done.status) != (b"row 1: 801F0000 Bad_UserAccessDenied\n1 row: 1 refused\n", "uahist: rows refused (1)\n", 1):
+            wrong.append(f"a reader: {done.out!r} {done.said!r} {done.status}")
+    return wrong + stopped(program, folder)
+
+
+def size_of(store):
+    """How many bytes a store and its log have."""
+    return sum(os.path.getsize(store + end) for end in ("", "-wal") if os.path.exists(store + end))
+
+
+def kill_behind(process, store, size):
+    """Kills a server once its store has so many bytes."""
+    while size_of(store) < size and process.poll() is None:
+        time.sleep(0.005)
+    process.kill()
+
+
+def stopped(program, folder):
+    """Whether an import whose server is killed is told so, and the same import again goes on where it was."""
+    settings, wrong = settings_in(folder, TYPES), []
+    times = [moment(NOW - DAY + 10_000 * n) for n in range(20_000)]
+    text, store = rows_of([["ns=1;s=whole", time_, "5", ""] for time_ in times]), os.path.join(folder, "plant.db")
+    with Server(program, settings) as server:
+        words = [program, "import", "--settings", settings, "--user", "ann", "--server", server.address]
+        process = subprocess.Popen(words, stdin=subprocess.PIPE, stdout=subprocess.PIPE, stderr=subprocess.PIPE)
+        begun = size_of(store)
+        killer = threading.Thread(target=lambda: kill_behind(server.process, store, begun + 200_000))
+        killer.start()
+        out, said = (data.decode() for data in process.communicate(text.encode()))
+        killer.join()
+    ends = ("uahist: import ended: the server closed the connection\n", "uahist: connection to the server ended (1)\n", "uahist: connection to the server ended (2)\n")
+    if out or process.returncode != 1 or not any(said.startswith(end) for end in ends):
+        wrong.append(f"the server was killed: {out!r} {said!r} {process.returncode}")
+    held = [row[1] for row in values(program, settings, "whole")]
+    if held != times[:len(held)]:
+        wrong.append("behind a kill: what is held aren't the first rows")
+    held = len(held)
+    with Server(program, settings) as server:
+        again = imported(program, settings, text, server=server.address)
+    if again.out.decode() != f"20000 rows: {20_000 - held} inserted, {held} exist\n" or not 0 < held < 20_000:
+        wrong.append(f"behind a kill: {held} held, {again.out!r} {again.said!r}")
+    return wrong
+
+
 def main():
     usage.shown(__doc__, 1)
     program = os.path.abspath(sys.argv[1])
-    rounds, days = (int(word) for word in (sys.argv[2:] + ["20", "7"][len(sys.argv) - 2:])[:2])
+    rounds, days, hours = (int(word) for word in (sys.argv[2:] + ["20", "7", "8"][len(sys.argv) - 2:])[:3])
     wrong, asked = [], 0
     with tempfile.TemporaryDirectory() as folder:
         wrong += refusals(program, settings_in(folder, TYPES))
@@ -179,9 +307,11 @@ def main():
             settings, held, chance = settings_in(folder, TYPES), {}, random.Random(seed)
             for _ in range(4):
                 asked += 1
-                found = differs(program, settings, chance, held)
+                found = differs(program, settings, chance, held, served=seed % 2 == 1)
                 wrong += [f"round {seed}: {found}"] if found else []
-        good = week(program, folder, days)
+        wrong += unserved(program, folder)
+        good = brought(program, folder, hours)
+        good = week(program, folder, days) and good
     for line in wrong[:5]:
         print("OTHERWISE", line[:600])
     print(f"{asked} imports, {len(wrong)} differ")

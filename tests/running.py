@@ -28,6 +28,11 @@ STATED = [
     (2, r"rows refused: want the header node,time,value,status\n"),
     (1, r"rows refused \(\d+\)\n"),
     (1, r"import ended: the rows can't be read\n"),
+    (1, r"import ended: the server refused it \(\d+\)\nuahist: [^\n]{1,80}\n"),
+    (1, r"import ended: the server closed the connection\nuahist: [^\n]{1,80}\n"),
+    (1, r"import ended: what came from the server is no answer\nuahist: [^\n]{1,80}\n"),
+    (1, r"import ended: (a request is too long|out of memory)\n"),
+    (1, r"connection to the server ended \([1-4]\)\nuahist: [^\n]{1,80}\n"),
     (1, r"connection ended \([1-4]\)\n"),
 ]
 
