@@ -4,4 +4,6 @@ pub mod TimesLemmas
 pub mod StatusLemmas
 pub mod ValuesLemmas
 pub mod FloatsLemmas
+pub mod AsciiLemmas
+pub mod ItemsLemmas
 pub mod GuidsLemmas

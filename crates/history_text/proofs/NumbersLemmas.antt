@@ -22,7 +22,7 @@ decided P test v (Ok x) to from h = rw (to h.0) (ap Some h.1)
 decided P true v (Err e) to from h = absurd (h (from refl))
 decided P false v (Err e) to from h = refl
 
-both_hold : (a b : Bool) → (a && b) ≡ true → (a ≡ true) × (b ≡ true)
+pub both_hold : (a b : Bool) → (a && b) ≡ true → (a ≡ true) × (b ≡ true)
 both_hold true b e = (refl, e)
 both_hold false b e = absurd cc
 
@@ -168,3 +168,18 @@ read_unsigned bits n few lt =
     (λ t. let s = both_hold _ _ t in (is_numeral_so _ s.0, ltb-true _ _ s.1)))
     (digits_decimal model n small) (decimal_nonempty n small) (omega (arith, value))
     ∙ ap Ok value)
+
+-- a number of 8 bits is one of 64
+pub wide_w8 : (z : ℤ) → FitsSigned w8 z → FitsSigned w64 z
+wide_w8 (pos n) fits = record { sfits = omega (arith, fits.sfits) }
+wide_w8 (negsuc n) fits = record { sfits = omega (arith, fits.sfits) }
+
+-- a number of 16 bits is one of 64
+pub wide_w16 : (z : ℤ) → FitsSigned w16 z → FitsSigned w64 z
+wide_w16 (pos n) fits = record { sfits = omega (arith, fits.sfits) }
+wide_w16 (negsuc n) fits = record { sfits = omega (arith, fits.sfits) }
+
+-- a number of 32 bits is one of 64
+pub wide_w32 : (z : ℤ) → FitsSigned w32 z → FitsSigned w64 z
+wide_w32 (pos n) fits = record { sfits = omega (arith, fits.sfits) }
+wide_w32 (negsuc n) fits = record { sfits = omega (arith, fits.sfits) }

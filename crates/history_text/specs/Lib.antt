@@ -1,3 +1,4 @@
+pub mod Arrays
 pub mod Digits
 pub mod Floats
 pub mod Guids

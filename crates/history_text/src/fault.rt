@@ -30,6 +30,9 @@ pub enum TextFault {
     /// The text is no bytes.
     #[error("expected bytes, two hex digits each")]
     NoBytes,
+    /// The text is no JSON array of values.
+    #[error("expected a JSON array of values, as [1, 2] or [\"on\", \"off\"]")]
+    NoArray,
     /// Values of the type aren't written as text.
     #[error("values of this type are not written as text")]
     NoText,

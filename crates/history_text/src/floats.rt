@@ -49,28 +49,40 @@ pub(crate) fn single_in(text: &str) -> Option<[u8; 4]>
     }
 }
 
-/// A Double as the shortest text that is read as it.
-pub(crate) fn double_text(alloc: Global, bytes: &[u8; 8]) -> Result<Vec<u8>, AllocError>
-    ensures { IfOk result (λ text. double_in text.items ≡ Some (double_again bytes.now)) }
+/// A Double as a short text that is read as it, in this buffer.
+pub(crate) fn double_spelled<'a>(buffer: &'a mut Buffer, bytes: &[u8; 8]) -> &'a str
+    ensures { double_in result.now ≡ Some (double_again bytes.now) }
 {
     let bits = u64::from_le_bytes(*bytes);
     if bits % 0x8000_0000_0000_0000 > 0x7FF0_0000_0000_0000 {
-        return Vec::from_slice(alloc, b"NaN");
+        return "NaN";
     }
-    let mut buffer = Buffer::new();
-    let text = Vec::from_slice(alloc, buffer.format(f64::from_bits(bits)).as_bytes())?;
-    Ok(text)
+    buffer.format(f64::from_bits(bits))
 }
 
-/// A Float as the shortest text that is read as it.
-pub(crate) fn single_text(alloc: Global, bytes: &[u8; 4]) -> Result<Vec<u8>, AllocError>
-    ensures { IfOk result (λ text. single_in text.items ≡ Some (single_again bytes.now)) }
+/// A Double as a short text that is read as it.
+pub(crate) fn double_text(alloc: Global, bytes: &[u8; 8]) -> Result<Vec<u8>, AllocError>
+    ensures { IfOk result (λ text. double_in text.items ≡ Some (double_again bytes.now)) }
+{
+    let mut buffer = Buffer::new();
+    Vec::from_slice(alloc, double_spelled(&mut buffer, bytes).as_bytes())
+}
+
+/// A Float as a short text that is read as it, in this buffer.
+pub(crate) fn single_spelled<'a>(buffer: &'a mut Buffer, bytes: &[u8; 4]) -> &'a str
+    ensures { single_in result.now ≡ Some (single_again bytes.now) }
 {
     let bits = u32::from_le_bytes(*bytes);
     if bits % 0x8000_0000 > 0x7F80_0000 {
-        return Vec::from_slice(alloc, b"NaN");
+        return "NaN";
     }
+    buffer.format(f32::from_bits(bits))
+}
+
+/// A Float as a short text that is read as it.
+pub(crate) fn single_text(alloc: Global, bytes: &[u8; 4]) -> Result<Vec<u8>, AllocError>
+    ensures { IfOk result (λ text. single_in text.items ≡ Some (single_again bytes.now)) }
+{
     let mut buffer = Buffer::new();
-    let text = Vec::from_slice(alloc, buffer.format(f32::from_bits(bits)).as_bytes())?;
-    Ok(text)
+    Vec::from_slice(alloc, single_spelled(&mut buffer, bytes).as_bytes())
 }

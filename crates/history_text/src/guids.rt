@@ -1,5 +1,6 @@
 //! Guids as text.
 
+ghost use Rattle.std.specs.Str.{IsAscii};
 ghost use Rattle.std.specs.Prelude.{◌≡◌, ◌≤◌, ◌<◌, ℕ, slice_index, ◌+◌, ◌++◌, ◌∷◌, length, take, drop, OnOk, IfOk, Some};
 ghost use Rattle.std.specs.Int.{w16, w32, to_be_bytes};
 ghost use Rattle.ua_binary.specs.Binary.{IsGuid};
@@ -142,6 +143,7 @@ fn hyphened(alloc: Global, guid: &Guid) -> Result<Vec<u8>, AllocError>
 pub(crate) fn guid_text(alloc: Global, guid: &Guid) -> Result<Vec<u8>, AllocError>
     ensures written { IfOk result (λ text. text.items ≡ guid_text guid.now) }
     ensures read { IfOk result (λ text. guid_in text.items ≡ Some guid.now) }
+    ensures ascii { IfOk result (λ text. IsAscii text.items) }
 {
     let guid = spelled(guid);
     let text = hyphened(alloc, &guid)?;

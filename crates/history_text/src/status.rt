@@ -1,6 +1,6 @@
 //! Status codes as text.
 
-ghost use Rattle.std.specs.Prelude.{◌≡◌, ◌<◌, ◌^◌, IfOk, Ok, Err, Some, None};
+ghost use Rattle.std.specs.Prelude.{◌≡◌, ◌<◌, ◌^◌, IfOk, Ok, Err, Some, None, string_bytes};
 ghost use Rattle.std.specs.Option.{ok_or};
 ghost use Rattle.history_text.specs.Statuses.{kept, hex_code_in, status_in, status_text};
 ghost use Rattle.history_text.specs.declared.fault.TextFault.TheVariants.{NoStatus};
@@ -50,16 +50,24 @@ pub fn read_status(text: &str) -> Result<Status, TextFault>
     status_in(text).ok_or(TextFault::NoStatus)
 }
 
+/// A status code as a string.
+pub(crate) fn status_string(alloc: Global, status: Status) -> Result<String, AllocError>
+    ensures written { IfOk result (λ text. string_bytes text ≡ status_text status) }
+    ensures read { IfOk result (λ text. status_in (string_bytes text) ≡ Some (kept status)) }
+{
+    let kept = kept_status(status);
+    if kept.0 == 0 {
+        return String::from_str(alloc, "Good");
+    }
+    hex::encode_upper(alloc, kept.0.to_be_bytes())
+}
+
 /// A status code as text, without the bits 00000408: `Good`, or eight hex digits in upper case.
 /// `read_status` reads it again, but for these bits.
 pub fn status_text(alloc: Global, status: Status) -> Result<Vec<u8>, AllocError>
     ensures written { IfOk result (λ text. text.items ≡ status_text status) }
     ensures read { IfOk result (λ text. status_in text.items ≡ Some (kept status)) }
 {
-    let kept = kept_status(status);
-    if kept.0 == 0 {
-        return Vec::from_slice(alloc, b"Good");
-    }
-    let text = hex::encode_upper(alloc, kept.0.to_be_bytes())?;
+    let text = status_string(alloc, status)?;
     Ok(text.into_bytes())
 }

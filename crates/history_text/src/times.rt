@@ -1,5 +1,6 @@
 //! Moments as text.
 
+ghost use Rattle.std.specs.Str.{IsAscii};
 ghost use Rattle.std.specs.Prelude.{List, ℕ, ◌≡◌, ◌≤◌, ◌<◌, ◌+◌, ◌++◌, ◌+ℤ◌, ◌-◌, ◌/◌, ◌%◌, ◌^◌, pos, length, IfOk, OnOk, IfSome, MatchOption, Ok, Err, Some, None, if◌then◌else◌};
 ghost use Rattle.std.specs.Int.{IsInRange, w64};
 ghost use Rattle.std.specs.Int.RustNames.{FitsSigned};
@@ -327,6 +328,7 @@ pub fn time_text(alloc: Global, time: Time) -> Result<Vec<u8>, AllocError>
     requires { time.pico ≤ 9_999 }
     ensures written { IfOk result (λ text. IsTimeText time text.items) }
     ensures read { IfOk result (λ text. time_in text.items ≡ Some time) }
+    ensures ascii { IfOk result (λ text. IsAscii text.items) }
 {
     let mut out = Vec::new(alloc);
     put_time(&mut out, time)?;

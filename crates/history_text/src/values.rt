@@ -1,6 +1,7 @@
 //! Values as text.
 
-ghost use Rattle.std.specs.Prelude.{◌≡◌, ◌⊎◌, IfOk, IfErr, Ok, Err, Some, List, [], unwrap_or};
+ghost use Rattle.std.specs.Prelude.{◌≡◌, ◌⊎◌, IfOk, IfErr, Ok, Err, ok_or, Some, List, [], unwrap_or, string_bytes};
+ghost use Rattle.std.specs.Str.{IsAscii};
 ghost use Rattle.hex.specs.declared.error.FromHexError.TheVariants.{OutOfMemory as NoMemory};
 ghost use Rattle.hex.specs.Hex.{encode_lower};
 ghost use Rattle.ua_variant.specs.Scalar.{scalar_number};
@@ -35,7 +36,7 @@ fn whole_ticks(time: Time) -> Option<Ticks>
 }
 
 /// The moment without picoseconds that a text says.
-fn ticks_in(text: &str) -> Option<Ticks>
+pub(crate) fn ticks_in(text: &str) -> Option<Ticks>
     ensures { result ≡ ticks_in text.now }
 {
     match time_in(text.as_bytes()) {
@@ -86,14 +87,22 @@ fn fault_of(fault: FromHexError) -> TextFault
 }
 
 /// Bytes of hex digits.
+pub(crate) fn bytes_in(alloc: Global, text: &str) -> Result<Bytes, TextFault>
+    ensures { Answers (ok_or (bytes_in text.now) NoBytes) result }
+{
+    match hex::decode(alloc, text.as_bytes()) {
+        Ok(bytes) => Ok(Bytes::new(bytes)),
+        Err(fault) => Err(fault_of(fault)),
+    }
+}
+
+/// A byte string of hex digits.
 fn bytes_value(alloc: Global, text: &str) -> Result<Scalar, TextFault>
     ensures { Answers (as_value (λ bytes. ByteString (Some bytes)) NoBytes (bytes_in text.now))
         result }
 {
-    match hex::decode(alloc, text.as_bytes()) {
-        Ok(bytes) => Ok(Scalar::ByteString(Some(Bytes::new(bytes)))),
-        Err(fault) => Err(fault_of(fault)),
-    }
+    let bytes = bytes_in(alloc, text)?;
+    Ok(Scalar::ByteString(Some(bytes)))
 }
 
 /// Reads a value of the type of this number: `true` or `false`; a whole number in decimal; a Float
@@ -115,10 +124,11 @@ pub fn read_value(alloc: Global, number: u8, text: &str) -> Result<Scalar, TextF
 }
 
 /// A moment without picoseconds as text.
-fn ticks_text(alloc: Global, ticks: Ticks) -> Result<Vec<u8>, AllocError>
+pub(crate) fn ticks_text(alloc: Global, ticks: Ticks) -> Result<Vec<u8>, AllocError>
     ensures written { IfOk result (λ text.
         IsTimeText (record { ticks = ticks.0; pico = 0 }) text.items) }
     ensures read { IfOk result (λ text. ticks_in text.items ≡ Some ticks) }
+    ensures ascii { IfOk result (λ text. IsAscii text.items) }
 {
     let text = time_text(
         alloc,
@@ -131,7 +141,7 @@ fn ticks_text(alloc: Global, ticks: Ticks) -> Result<Vec<u8>, AllocError>
 }
 
 /// The bytes of a byte string, none of a null one.
-fn bytes_of(bytes: &Option<Bytes>) -> &[u8]
+pub(crate) fn bytes_of(bytes: &Option<Bytes>) -> &[u8]
     ensures { result.now ≡ unwrap_or bytes.now [] }
 {
     match bytes {
@@ -141,11 +151,20 @@ fn bytes_of(bytes: &Option<Bytes>) -> &[u8]
 }
 
 /// Bytes as hex digits.
+pub(crate) fn bytes_string(alloc: Global, bytes: &[u8]) -> Result<String, AllocError>
+    ensures written { IfOk result (λ text. string_bytes text ≡ encode_lower bytes.now) }
+    ensures read { IfOk result (λ text. bytes_in (string_bytes text) ≡ Some bytes.now) }
+{
+    let text = hex::encode(alloc, bytes)?;
+    Ok(text)
+}
+
+/// Bytes as hex digits.
 fn bytes_text(alloc: Global, bytes: &[u8]) -> Result<Vec<u8>, AllocError>
     ensures written { IfOk result (λ text. text.items ≡ encode_lower bytes.now) }
     ensures read { IfOk result (λ text. bytes_in text.items ≡ Some bytes.now) }
 {
-    let text = hex::encode(alloc, bytes)?;
+    let text = bytes_string(alloc, bytes)?;
     Ok(text.into_bytes())
 }
 

@@ -1,7 +1,7 @@
 use Rattle.std.proofs.Common.{rules, ap, ◌∙◌, arith}
 use Rattle.history_text.specs.Values.{bytes_in}
 use Rattle.history_text.proofs.ValuesLemmas.{bytes_again}
-use Rattle.history_text.proofs.values.bytes_text.Goals as goal
+use Rattle.history_text.proofs.values.bytes_string.Goals as goal
 
 pub returns-clause-written : goal.returns-clause-written
 returns-clause-written c = search rules

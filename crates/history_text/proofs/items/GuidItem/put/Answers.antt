@@ -1,0 +1,18 @@
+use Rattle.std.proofs.Common.{ap, ok_or, subst, sym, ◌∙◌}
+use Rattle.std.specs.Str.{IsAscii}
+use Rattle.std.proofs.lemmas.Result.{on_ok_weaker}
+use Rattle.history_text.specs.Arrays.{or_fault}
+use Rattle.history_text.specs.Guids.{guid_in}
+use Rattle.history_text.specs.declared.fault.TextFault.TheVariants.{NoGuid}
+use Rattle.history_text.proofs.ItemsLemmas.{puts_said}
+use Rattle.history_text.proofs.items.GuidItem.put.Goals as goal
+
+pub put_ascii-requires : goal.put_ascii-requires
+put_ascii-requires c =
+    subst IsAscii (sym c.as_slice.ensures.value) c.in_ok-text.ensures.ascii
+
+pub returns-clause-put : goal.returns-clause-put
+returns-clause-put c = on_ok_weaker c.put_ascii.result
+    (puts_said (or_fault NoGuid guid_in) c.args.out.now c.put_ascii.new.out c.as_slice.result.now
+    c.args.self.now (ap (λ o. ok_or o NoGuid)
+    (ap guid_in c.as_slice.ensures.value ∙ c.in_ok-text.ensures.read))) c.put_ascii.ensures.put

@@ -1,0 +1,15 @@
+use Rattle.std.proofs.Common.{Ok, Some, ap, ok_or, ◌∙◌}
+use Rattle.std.proofs.lemmas.Result.{on_ok_weaker}
+use Rattle.history_text.specs.Arrays.{◌>>?◌, byte_string_in, never_null}
+use Rattle.history_text.specs.Values.{bytes_in}
+use Rattle.history_text.specs.declared.fault.TextFault.TheVariants.{NoBytes}
+use Rattle.history_text.proofs.ItemsLemmas.{puts_said}
+use Rattle.history_text.proofs.items.OptionBytesItem.put.Goals as goal
+
+pub returns-clause-put : goal.returns-clause-put
+returns-clause-put c = on_ok_weaker c.put_string.result
+    (puts_said byte_string_in c.args.out.now c.put_string.new.out c.as_str.result.now
+    (never_null c.args.self.now)
+    (ap (λ o. ok_or o NoBytes >>? λ bytes. Ok (Some bytes))
+    (ap bytes_in c.as_str.ensures.value ∙ c.in_ok-text.ensures.read ∙ ap Some c.bytes_of.ensures)))
+    c.put_string.ensures.put

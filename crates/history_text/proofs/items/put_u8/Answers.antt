@@ -1,0 +1,21 @@
+use Rattle.std.proofs.Common.{◌≡◌, Ok, OnOk, ap, ok_or, subst, arith}
+use Rattle.std.specs.Fmt.{decimal}
+use Rattle.std.proofs.lemmas.Result.{on_ok_weaker}
+use Rattle.history_text.specs.Arrays.{or_fault, PutsText}
+use Rattle.history_text.specs.Numbers.{unsigned_in}
+use Rattle.history_text.specs.declared.fault.TextFault.TheVariants.{NoInteger}
+use Rattle.history_text.proofs.ItemsLemmas.{puts_said}
+use Rattle.history_text.proofs.NumbersLemmas.{read_unsigned}
+use Rattle.history_text.proofs.items.put_u8.Goals as goal
+
+pub returns-clause-put : goal.returns-clause-put
+returns-clause-put c =
+    let said = or_fault NoInteger (unsigned_in 8) in
+    let says : said (decimal c.args.value) ≡ Ok c.args.value =
+    ap (λ o. ok_or o NoInteger)
+    (read_unsigned 8 c.args.value (omega arith) (omega (arith, c.ranges.value.fits))) in
+    on_ok_weaker c.put_unsigned.result
+    (puts_said said c.args.out.now c.put_unsigned.new.out (decimal c.args.value) c.args.value says)
+    (subst (λ n. OnOk c.put_unsigned.result
+    (PutsText c.args.out.now c.put_unsigned.new.out (decimal n))) c.from.ensures
+    c.put_unsigned.ensures.put)
