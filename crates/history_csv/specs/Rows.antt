@@ -1,5 +1,5 @@
 -- How a node's history is written as CSV, a value or a modification a row, and a row read again.
-use Rattle.std.specs.Prelude.{◌≡◌, ◌⊎◌, ℕ, nat_lt, ℤ, ⊤, List, [], ◌∷◌, ◌++◌, codes, Option, Some, None, ok_or, unwrap_or, Result, Ok, Err, MatchResult, if◌then◌else◌}
+use Rattle.std.specs.Prelude.{◌≡◌, ◌⊎◌, ℕ, nat_lt, ℤ, ⊤, List, [], ◌∷◌, ◌++◌, codes, Bool, true, false, Option, Some, None, ok_or, unwrap_or, Result, Ok, Err, MatchResult, if◌then◌else◌}
 use Rattle.std.specs.Str.{bytes_eq}
 use Rattle.csv.specs.Machine.{next_record}
 use Rattle.csv.specs.Reading.{default_config}
@@ -8,7 +8,8 @@ use Rattle.csv.specs.Writing.{default_writer, row_text}
 use Rattle.ua_binary.specs.declared.codes.Status.{Status}
 use Rattle.ua_binary.specs.declared.values.NodeId.{NodeId}
 use Rattle.ua_variant.specs.Scalar.{scalar_number}
-use Rattle.ua_variant.specs.declared.value.Scalar.{Scalar as OneValue}
+use Rattle.ua_variant.specs.Values.{array_number}
+use Rattle.ua_variant.specs.declared.value.ValueType.{ValueType}
 use Rattle.ua_variant.specs.declared.value.Variant.{Variant}
 use Rattle.ua_variant.specs.declared.value.Variant.TheVariants.{Null, Scalar, Array}
 use Rattle.ua_variant.specs.declared.data.DataValue.{DataValue}
@@ -17,10 +18,12 @@ use Rattle.ua_variant.specs.declared.update_type.HistoryUpdateType.TheVariants.{
 use Rattle.records.specs.Moments.{moment, ticks_of, pico_of}
 use Rattle.records.specs.declared.shown.Held.{Held}
 use Rattle.records.specs.declared.shown.Entry.{Entry}
+use Rattle.history_text.specs.Arrays.{◌>>?◌, array_in, array_again, IsArrayText, IsUnwrittenArray}
 use Rattle.history_text.specs.Statuses.{kept, status_in, status_text}
 use Rattle.history_text.specs.Times.{◌>>=◌, time_in, IsTimeText}
 use Rattle.history_text.specs.Values.{value_in, read_back, IsUnwritten, IsValueText}
 use Rattle.history_text.specs.declared.times.Time.{Time}
+use Rattle.history_text.specs.declared.fault.TextFault.{TextFault}
 use Rattle.history_text.specs.declared.fault.TextFault.TheVariants.{NoTime, NoStatus}
 use Rattle.history_csv.specs.Nodes.{node_in, node_text}
 use Rattle.history_csv.specs.declared.fields.Row.{Row}
@@ -42,10 +45,16 @@ moment_by_parts time = if nat_lt 9999 time.pico then None else Some (moment time
 abbrev pub moment_in : List ℕ → Option ℤ
 moment_in text = time_in text >>= moment_by_parts
 
--- the value of a type that a text says; an empty one may say that there is none
-abbrev pub optional_in : (number : ℕ) → List ℕ → Result (Option OneValue) RowFault
-optional_in number text =
-    elim (value_in number text) [
+-- the value of a type that a text says, one or an array
+abbrev pub variant_in : (type : ValueType) → List ℕ → Result Variant TextFault
+variant_in type text =
+    if type.array then (array_in type.number text >>? λ array. Ok (Array array))
+    else (value_in type.number text >>? λ value. Ok (Scalar value))
+
+-- the same, but an empty text that is no value of the type says that there is none
+abbrev pub optional_in : (type : ValueType) → List ℕ → Result (Option Variant) RowFault
+optional_in type text =
+    elim (variant_in type text) [
       | Ok value ↦ Ok (Some value)
       | Err why ↦ if bytes_eq text [] then Ok None else Err (fault.Value why)
     ]
@@ -57,18 +66,18 @@ and_read (Ok x) f = f x
 and_read (Err e) f = Err e
 
 -- the row that four texts say
-abbrev pub row_in : (number : ℕ) → (node time value status : List ℕ) → Result Row RowFault
-row_in number node time value status =
+abbrev pub row_in : (type : ValueType) → (node time value status : List ℕ) → Result Row RowFault
+row_in type node time value status =
     and_read (ok_or (node_in node) fault.Node) λ node.
     and_read (ok_or (moment_in time) (fault.Time NoTime)) λ time.
-    and_read (optional_in number value) λ value.
+    and_read (optional_in type value) λ value.
     and_read (ok_or (status_in status) (fault.Status NoStatus)) λ status.
     Ok (record { node = node; time = time; value = value; status = status })
 
 -- the row that fields say: four
-abbrev pub row_of : (number : ℕ) → List (List ℕ) → Result Row RowFault
-row_of number (node ∷ time ∷ value ∷ status ∷ []) = row_in number node time value status
-row_of number _ = Err fault.Fields
+abbrev pub row_of : (type : ValueType) → List (List ℕ) → Result Row RowFault
+row_of type (node ∷ time ∷ value ∷ status ∷ []) = row_in type node time value status
+row_of type _ = Err fault.Fields
 
 -- ---- writing
 
@@ -84,24 +93,28 @@ change_names = value_names ++ codes "change" ∷ codes "changed" ∷ codes "user
 abbrev pub time_of : ℤ → Time
 time_of time = record { ticks = ticks_of time; pico = pico_of time }
 
--- a text that is written for a value that may be none: nothing; an array has no text
+-- a text that is written for a value that may be none: nothing then
 abbrev pub IsVariantText : Option Variant → List ℕ → Type 0
 IsVariantText given text =
     elim given [
       | None ↦ text ≡ []
-      | Some v ↦ elim v [ Null ↦ text ≡ [] | Scalar s ↦ IsValueText s text | Array _ ↦ ⊥ ]
+      | Some v ↦ elim v [
+        | Null ↦ text ≡ []
+        | Scalar s ↦ IsValueText s text
+        | Array a ↦ IsArrayText a text
+      ]
     ]
 
 -- the text of a status, which is good where there is none
 abbrev pub code_text : Option Status → List ℕ
 code_text status = status_text (unwrap_or status (record { 0 = 0 }))
 
--- a value has no text: an array, and a value of some types
+-- a value has no text: its type isn't written, or it is an array of such a type
 abbrev pub IsTextless : Option Variant → Type 0
 IsTextless given =
     elim given [
       | None ↦ ⊥
-      | Some v ↦ elim v [ Null ↦ ⊥ | Scalar s ↦ IsUnwritten s | Array _ ↦ ⊤ ]
+      | Some v ↦ elim v [ Null ↦ ⊥ | Scalar s ↦ IsUnwritten s | Array a ↦ IsUnwrittenArray a ]
     ]
 
 -- the texts of a value and of its status
@@ -154,26 +167,34 @@ IsAppended old new AreFields =
 
 -- ---- what is read again
 
--- the type of this number, where there is a value
-abbrev pub IsTypeOf : (number : ℕ) → Option Variant → Type 0
-IsTypeOf number given =
+-- the type of a value, where there is one
+abbrev pub IsTypeOf : (type : ValueType) → Option Variant → Type 0
+IsTypeOf type given =
     elim given [
       | None ↦ ⊤
-      | Some v ↦ elim v [ Null ↦ ⊤ | Scalar s ↦ number ≡ scalar_number s | Array _ ↦ ⊤ ]
+      | Some v ↦ elim v [
+        | Null ↦ ⊤
+        | Scalar s ↦ type ≡ record { number = scalar_number s; array = false }
+        | Array a ↦ type ≡ record { number = array_number a; array = true }
+      ]
     ]
 
 -- what is read of a value that was written: of none, what an empty field says
-abbrev pub read_again : (number : ℕ) → Option Variant → Result (Option OneValue) RowFault
-read_again number given =
+abbrev pub read_again : (type : ValueType) → Option Variant → Result (Option Variant) RowFault
+read_again type given =
     elim given [
-      | None ↦ optional_in number []
-      | Some v ↦ elim v [ Scalar s ↦ Ok (Some (read_back s)) | _ ↦ optional_in number [] ]
+      | None ↦ optional_in type []
+      | Some v ↦ elim v [
+        | Null ↦ optional_in type []
+        | Scalar s ↦ Ok (Some (Scalar (read_back s)))
+        | Array a ↦ Ok (Some (Array (array_again a)))
+      ]
     ]
 
 -- the row that is read of one that was written
-abbrev pub row_again : (number : ℕ) → NodeId → Held → Result Row RowFault
-row_again number node held =
-    and_read (read_again number held.value.value) λ value.
+abbrev pub row_again : (type : ValueType) → NodeId → Held → Result Row RowFault
+row_again type node held =
+    and_read (read_again type held.value.value) λ value.
     Ok (record {
       node = node;
       time = held.time;
@@ -184,11 +205,11 @@ row_again number node held =
 -- the fields of a live value's row, which are read as that value
 abbrev pub AreReadFields : NodeId → Held → List (List ℕ) → Type 0
 AreReadFields node held fields = AreValueFields node held fields
-    × ((number : ℕ) → IsTypeOf number held.value.value
-    → row_of number fields ≡ row_again number node held)
+    × ((type : ValueType) → IsTypeOf type held.value.value
+    → row_of type fields ≡ row_again type node held)
 
 -- the row that a text begins by, as the kit's `csv` reads it
-abbrev pub row_at : (number : ℕ) → List ℕ → Result Row RowFault
-row_at number text =
+abbrev pub row_at : (type : ValueType) → List ℕ → Result Row RowFault
+row_at type text =
     elim (next_record default_config StartRecord [] [] text)
-    [ Some read ↦ row_of number read.0 | None ↦ Err fault.Fields ]
+    [ Some read ↦ row_of type read.0 | None ↦ Err fault.Fields ]

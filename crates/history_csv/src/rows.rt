@@ -17,6 +17,7 @@ use history_text::TextFault;
 use records::{Entry, Held};
 use std::alloc::Global;
 use ua_binary::NodeId;
+use ua_variant::ValueType;
 
 // ---- reading
 
@@ -49,16 +50,20 @@ fn four(record: &StringRecord) -> Option<Fields<'_>>
     })
 }
 
-/// Reads a row of values, as the kit's `csv` gives it: a node, a source time, a value of the type
-/// of this number, and a status, each as it is written. An empty value says that there is none, but
-/// of a String or a ByteString an empty one, and of a StatusCode a good one. A row that hasn't four
+/// Reads a row of values, as the kit's `csv` gives it: a node, a source time, a value of this type,
+/// one or an array, and a status, each as it is written. An empty value says that there is none, but
+/// where one String or ByteString is wanted an empty one, and where one StatusCode is a good one. A row that hasn't four
 /// fields is `Fields`, and else the first field that is wrong is told with what was expected;
 /// `OutOfMemory` says that memory ran out.
-pub fn read_row(alloc: Global, number: u8, record: &StringRecord) -> Result<Row, RowFault>
-    ensures { Answers (row_of number (fields_of record.now)) result }
+pub fn read_row(
+    alloc: Global,
+    value_type: ValueType,
+    record: &StringRecord,
+) -> Result<Row, RowFault>
+    ensures { Answers (row_of value_type (fields_of record.now)) result }
 {
     match four(record) {
-        Some(fields) => row_in(alloc, number, fields),
+        Some(fields) => row_in(alloc, value_type, fields),
         None => Err(RowFault::Fields),
     }
 }
@@ -116,8 +121,8 @@ pub struct RowTexts {
     pub shown: ValueTexts,
 }
 
-/// The texts of a live value's row, as `put_value_row` writes them. An array, and a value that has no
-/// text, is `NoText`; `OutOfMemory` says that memory ran out.
+/// The texts of a live value's row, as `put_value_row` writes them. A value that has no text is
+/// `NoText`; `OutOfMemory` says that memory ran out.
 #[tactic(auto, using(crate::proofs::RowsLemmas::row_is_read))]
 pub fn row_texts(alloc: Global, node: &NodeId, held: &Held) -> Result<RowTexts, TextFault>
     ensures written { IfOk result (λ row. AreReadFields node.now held.now
@@ -133,9 +138,8 @@ pub fn row_texts(alloc: Global, node: &NodeId, held: &Held) -> Result<RowTexts, 
 
 /// Appends a live value as a row: its node, its source time, its value and its status. No value is
 /// an empty field, and no status a good one. What is written is read again by `read_row` at the
-/// number of the value's type: a null text or byte string as an empty one, each NaN as one, a code
-/// without the bits of the server. An array, and a value that has no text, is `NoText`;
-/// `OutOfMemory` says that memory ran out. After an error nothing is appended.
+/// value's type: a null text or byte string as an empty one, each NaN as one, a code without the bits
+/// of the server. A value that has no text is `NoText`; `OutOfMemory` says that memory ran out. After an error nothing is appended.
 pub fn put_value_row(
     alloc: Global,
     out: &mut Vec<u8>,
@@ -203,8 +207,8 @@ pub struct ChangeTexts {
     pub made: MadeTexts,
 }
 
-/// The texts of a modification's row, as `put_change_row` writes them. An array, and a value that has
-/// no text, is `NoText`; `OutOfMemory` says that memory ran out.
+/// The texts of a modification's row, as `put_change_row` writes them. A value that has no text is
+/// `NoText`; `OutOfMemory` says that memory ran out.
 pub fn change_texts(alloc: Global, node: &NodeId, entry: &Entry) -> Result<ChangeTexts, TextFault>
     ensures written { IfOk result (λ row. AreChangeFields node.now entry.now
         (row.node.items ∷ row.time.items ∷ row.shown.value.items ∷ row.shown.status.items
@@ -226,8 +230,8 @@ pub fn change_texts(alloc: Global, node: &NodeId, entry: &Entry) -> Result<Chang
 
 /// Appends a modification as a row: its node, its source time, the value that it took the place of
 /// and its status, else its own; then what was done (`insert`, `replace`, `update`, `delete`), when,
-/// and by whom. A delete of nothing has an empty value and an empty status. An array, and a value
-/// that has no text, is `NoText`; `OutOfMemory` says that memory ran out. After an error nothing is
+/// and by whom. A delete of nothing has an empty value and an empty status. A value that has no
+/// text is `NoText`; `OutOfMemory` says that memory ran out. After an error nothing is
 /// appended.
 pub fn put_change_row(
     alloc: Global,

@@ -1,14 +1,15 @@
 //! The texts of a row's fields.
 
-ghost use Rattle.std.specs.Prelude.{◌≡◌, ◌≤◌, ◌⊎◌, [], ℕ, IfOk, IfErr, Some, unwrap_or};
+ghost use Rattle.std.specs.Prelude.{◌≡◌, ◌≤◌, ◌⊎◌, [], IfOk, IfErr, Some, unwrap_or};
 ghost use Rattle.std.specs.Int.{w64};
 ghost use Rattle.std.specs.Int.RustNames.{FitsSigned};
+ghost use Rattle.ua_variant.specs.declared.value.ValueType.{ValueType};
 ghost use Rattle.history_text.specs.Statuses.{kept, status_in};
 ghost use Rattle.history_text.specs.Times.{IsTimeText};
 ghost use Rattle.history_text.specs.declared.fault.TextFault.TheVariants as Why;
 ghost use Rattle.history_csv.specs.Rows.{moment_in, optional_in, time_of, IsVariantText, IsTextless, ShowsTextless, IsTypeOf, read_again, code_text, change_word, AreDataTexts, AreShownTexts};
 
-use history_text::{TextFault, Time, status_text, time_text, value_text};
+use history_text::{TextFault, Time, array_text, status_text, time_text, value_text};
 use records::Moment;
 use std::alloc::Global;
 use ua_binary::Status;
@@ -49,26 +50,26 @@ fn code_text(alloc: Global, status: Option<Status>) -> Result<Vec<u8>, TextFault
 }
 
 /// The text of a value.
-#[tactic(auto, using(crate::proofs::RowsLemmas::read_one))]
+#[tactic(auto, using(crate::proofs::RowsLemmas::read_one, crate::proofs::RowsLemmas::read_many))]
 fn some_text(alloc: Global, value: &Variant) -> Result<Vec<u8>, TextFault>
     ensures written { IfOk result (λ text. IsVariantText (Some value.now) text.items) }
-    ensures read { IfOk result (λ text. (number : ℕ) → IsTypeOf number (Some value.now)
-        → optional_in number text.items ≡ read_again number (Some value.now)) }
+    ensures read { IfOk result (λ text. (type : ValueType) → IsTypeOf type (Some value.now)
+        → optional_in type text.items ≡ read_again type (Some value.now)) }
     ensures refused { IfErr result (λ e.
         (e ≡ Why.OutOfMemory) ⊎ (IsTextless (Some value.now) × (e ≡ Why.NoText))) }
 {
     match value {
         Variant::Null => Ok(Vec::new(alloc)),
         Variant::Scalar(value) => value_text(alloc, value),
-        Variant::Array(_) => Err(TextFault::NoText),
+        Variant::Array(values) => array_text(alloc, values),
     }
 }
 
 /// The text of a value that may be none.
 fn variant_text(alloc: Global, value: &Option<Variant>) -> Result<Vec<u8>, TextFault>
     ensures written { IfOk result (λ text. IsVariantText value.now text.items) }
-    ensures read { IfOk result (λ text. (number : ℕ) → IsTypeOf number value.now
-        → optional_in number text.items ≡ read_again number value.now) }
+    ensures read { IfOk result (λ text. (type : ValueType) → IsTypeOf type value.now
+        → optional_in type text.items ≡ read_again type value.now) }
     ensures refused { IfErr result (λ e.
         (e ≡ Why.OutOfMemory) ⊎ (IsTextless value.now × (e ≡ Why.NoText))) }
 {
@@ -91,8 +92,8 @@ pub struct ValueTexts {
 pub(crate) fn data_texts(alloc: Global, given: &DataValue) -> Result<ValueTexts, TextFault>
     ensures written { IfOk result (λ texts.
         AreDataTexts given.now texts.value.items texts.status.items) }
-    ensures value { IfOk result (λ texts. (number : ℕ) → IsTypeOf number given.now.value
-        → optional_in number texts.value.items ≡ read_again number given.now.value) }
+    ensures value { IfOk result (λ texts. (type : ValueType) → IsTypeOf type given.now.value
+        → optional_in type texts.value.items ≡ read_again type given.now.value) }
     ensures status { IfOk result (λ texts. status_in texts.status.items
         ≡ Some (kept (unwrap_or given.now.status (record { 0 = 0 })))) }
     ensures refused { IfErr result (λ e.

@@ -90,7 +90,7 @@ type-given seen fields text id granted is read told =
 -- what fields ask for, by the variable's type
 abbrev judged_by : List (List ℕ) → Result ValueType RowEnd → Result Update RowEnd
 judged_by fields type =
-    type >>= λ type. result_map_both update_by NoRow (row_of type.number fields) >>= unless_too_long
+    type >>= λ type. result_map_both update_by NoRow (row_of type fields) >>= unless_too_long
 
 -- its variable has no type
 pub judged-untyped : (seen : UserSpace) (fields : List (List ℕ)) (end : RowEnd)
@@ -108,7 +108,7 @@ typed seen fields type (inr starved) = absurd cc
 -- they say no row
 pub judged-faulty : (seen : UserSpace) (fields : List (List ℕ)) (type : ValueType) (why : RowFault)
     → IsGivenOrStarved (row_type seen fields) (Ok type)
-    → Answers (row_of type.number fields) (Err why)
+    → Answers (row_of type fields) (Err why)
     → IsGivenOrStarved (row_judged seen fields) (Err (NoRow why))
 judged-faulty seen fields type why is (inl memory) = inr (cc)
 judged-faulty seen fields type why is (inr wrong) =
@@ -119,7 +119,7 @@ judged-faulty seen fields type why is (inr wrong) =
 pub judged-read : (seen : UserSpace) (fields : List (List ℕ)) (type : ValueType) (row : Row)
     (update : Update) (result : Result Update RowEnd)
     → IsGivenOrStarved (row_type seen fields) (Ok type)
-    → Answers (row_of type.number fields) (Ok row) → update ≡ update_by row
+    → Answers (row_of type fields) (Ok row) → update ≡ update_by row
     → result ≡ unless_too_long update → IsGivenOrStarved (row_judged seen fields) result
 judged-read seen fields type row update result is read made told =
     inl (told ∙ ap unless_too_long made

@@ -1,5 +1,5 @@
 -- What a row of a CSV comes to: one update of one value (Part 11, 6.8.2), or why it asks for none.
-use Rattle.std.specs.Prelude.{◌≡◌, ◌⊎◌, ◌==◌, ◌||◌, ◌&&◌, not, ℕ, nat_le, nat_lt, nat_eq, ℤ, pos, Bool, true, false, if◌then◌else◌, List, [], ◌∷◌, codes, length, Option, Some, None, option_map, Result, Ok, Err, ok_or}
+use Rattle.std.specs.Prelude.{◌≡◌, ◌⊎◌, ◌==◌, ◌||◌, ◌&&◌, not, ℕ, nat_le, nat_lt, nat_eq, ℤ, pos, Bool, true, false, if◌then◌else◌, List, [], ◌∷◌, codes, length, Option, Some, None, Result, Ok, Err, ok_or}
 use Rattle.std.specs.Result.{result_map_both}
 use Rattle.std.specs.Str.{is_utf8}
 use Rattle.std.specs.Cmp.Lexicographic.{pointwise}
@@ -8,7 +8,6 @@ use Rattle.ua_binary.specs.declared.codes.Status.{Status}
 use Rattle.ua_binary.specs.declared.codes.TheConstants.Status.{BAD_ENCODING_LIMITS_EXCEEDED}
 use Rattle.ua_variant.specs.DataValue.{data_value}
 use Rattle.ua_variant.specs.declared.value.ValueType.{ValueType}
-use Rattle.ua_variant.specs.declared.value.Variant.TheVariants.{Scalar}
 use Rattle.ua_services.specs.Updates.{Details, UpdateData}
 use Rattle.ua_services.specs.declared.updates.HistoryUpdateResult.{HistoryUpdateResult}
 use Rattle.ua_session.specs.Users.{Allowed, access_of}
@@ -81,7 +80,7 @@ update_by row =
     record {
       node = row.node;
       value = record {
-        value = option_map Scalar row.value;
+        value = row.value;
         status = some_status row.status;
         source_time = Some (record { 0 = ticks_of row.time });
         source_pico = some_pico row.time;
@@ -100,7 +99,7 @@ unless_too_long update =
 abbrev pub row_judged : UserSpace → List (List ℕ) → Result Update RowEnd
 row_judged seen fields =
     row_type seen fields >>= λ type.
-    result_map_both update_by NoRow (row_of type.number fields) >>= unless_too_long
+    result_map_both update_by NoRow (row_of type fields) >>= unless_too_long
 
 -- the same of a row's bytes: one that isn't UTF-8 asks for nothing
 abbrev pub row_asked : UserSpace → List (List ℕ) → Result Update RowEnd

@@ -22,6 +22,7 @@ text_words fault =
       | text.NoFloat ↦ codes "expected a number, inf, -inf or NaN"
       | text.NoGuid ↦ codes "expected a Guid, as 72962b91-fa75-4ae6-8d28-b404dc7daf63"
       | text.NoBytes ↦ codes "expected bytes, two hex digits each"
+      | text.NoArray ↦ codes "expected a JSON array of values, as [1, 2] or [\"on\", \"off\"]"
       | text.NoText ↦ codes "values of this type are not written as text"
       | text.OutOfMemory ↦ codes "out of memory"
     ]

@@ -21,7 +21,7 @@ use std::alloc::{AllocError, Global};
 use ua_binary::{Listing, Status, Ticks};
 use ua_services::{HistoryUpdateDetails, HistoryUpdateResult, UpdateDataDetails};
 use ua_settings::Settings;
-use ua_variant::{DataValue, ValueType, Variant};
+use ua_variant::{DataValue, ValueType};
 
 /// The most bytes that a value may have, as its record may.
 const LONGEST: usize = 1_048_578;
@@ -98,7 +98,7 @@ fn update_by(row: Row) -> Update
         status,
     } = row;
     let value = DataValue {
-        value: value.map(Variant::Scalar),
+        value,
         status: status_of(status),
         source_time: Some(Ticks(time.ticks())),
         source_pico: pico_of(time),
@@ -136,7 +136,7 @@ fn row_judged(
         Ok(value_type) => value_type,
         Err(end) => return Err(end),
     };
-    match read_row(alloc, value_type.number, row) {
+    match read_row(alloc, value_type, row) {
         Ok(read) => unless_too_long(update_by(read)),
         Err(fault) => Err(RowEnd::NoRow(fault)),
     }

@@ -19,6 +19,7 @@ pub fn text_words(fault: TextFault) -> &'static str
         TextFault::NoFloat => "expected a number, inf, -inf or NaN",
         TextFault::NoGuid => "expected a Guid, as 72962b91-fa75-4ae6-8d28-b404dc7daf63",
         TextFault::NoBytes => "expected bytes, two hex digits each",
+        TextFault::NoArray => "expected a JSON array of values, as [1, 2] or [\"on\", \"off\"]",
         TextFault::NoText => "values of this type are not written as text",
         TextFault::OutOfMemory => "out of memory",
     }
