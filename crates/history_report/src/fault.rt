@@ -9,7 +9,7 @@ pub enum ReportFault {
     /// The archive met this fault of its store.
     #[error("{0}")]
     Store(StoreFault),
-    /// The next value is an array, or of a type that has no text.
+    /// The next value is of a type that has no text.
     #[error("values of this type are not written as text")]
     NoText,
     /// A write failed, or took nothing.

@@ -267,7 +267,7 @@ fn put_whole(
 /// link to `/history` of it), type, and the value, status, time and age of the latest live value.
 /// The age is in seconds below a minute, in minutes below an hour, in hours below a day, else in
 /// days, each cut; a time that is to come has none. First stand those in no folder, then folder by
-/// folder. Of a value its first 200 characters are shown, and of one that has no text, as an array,
+/// folder. Of a value its first 200 characters are shown, and of one of a type that has no text
 /// its type in brackets. Where peers are called, a second table tells the last call of each: when it
 /// ended, how, and how many records it moved. The archive stays as it is; it is asked for one value
 /// of each variable. The page is made in memory before it is appended.

@@ -10,12 +10,12 @@ ghost use Rattle.history_csv.specs.Rows.{time_of, code_text};
 ghost use Rattle.web_page.specs.Values.{type_words, age_words, age_text, IsShown, AreLatestTexts};
 
 use crate::texts::put_type;
-use history_text::{TextFault, Time, status_text, time_text, value_text};
+use history_text::{TextFault, Time, array_text, status_text, time_text, value_text};
 use itoa::Buffer;
 use records::{Held, Moment};
 use std::alloc::{AllocError, Global};
 use ua_binary::Status;
-use ua_variant::{Scalar, ValueType, Variant};
+use ua_variant::{Array, Scalar, ValueType, Variant};
 
 /// How many ticks of 100 ns a second has.
 const TICKS_OF_A_SECOND: u64 = 10_000_000;
@@ -79,6 +79,17 @@ fn scalar_shown(alloc: Global, value: &Scalar) -> Result<Vec<u8>, AllocError>
     }
 }
 
+/// What is shown of an array.
+fn array_shown(alloc: Global, values: &Array) -> Result<Vec<u8>, AllocError>
+    ensures { IfOk result (λ text. IsShown (Some (variant.Array values.now)) text.items) }
+{
+    match array_text(alloc, values) {
+        Ok(text) => Ok(text),
+        Err(TextFault::NoText) => bracketed(alloc, values.number(), true),
+        Err(_) => Err(AllocError),
+    }
+}
+
 /// What is shown of a value.
 fn variant_shown(alloc: Global, value: &Variant) -> Result<Vec<u8>, AllocError>
     ensures { IfOk result (λ text. IsShown (Some value.now) text.items) }
@@ -86,7 +97,7 @@ fn variant_shown(alloc: Global, value: &Variant) -> Result<Vec<u8>, AllocError>
     match value {
         Variant::Null => Ok(Vec::new(alloc)),
         Variant::Scalar(one) => scalar_shown(alloc, one),
-        Variant::Array(many) => bracketed(alloc, many.number(), true),
+        Variant::Array(many) => array_shown(alloc, many),
     }
 }
 

@@ -46,7 +46,7 @@ advice Credentials = codes "Expected a name and a password by the scheme Basic."
 advice Unknown = codes "There is no variable of this node id."
 advice Store = codes "The archive can't be read now."
 advice NoText =
-    codes "A value of this history is an array, or of a type that isn't written as text."
+    codes "A value of this history is of a type that isn't written as text."
 advice Crowded =
     codes "More than 500 modifications stand at one moment: ask for them by /history.csv."
 

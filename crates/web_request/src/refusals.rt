@@ -9,8 +9,7 @@ use crate::page::{Part, Refusal};
 use std::alloc::{AllocError, Global};
 
 /// What is told of a value that has no text.
-const NO_TEXT: &str =
-    "A value of this history is an array, or of a type that isn't written as text.";
+const NO_TEXT: &str = "A value of this history is of a type that isn't written as text.";
 
 /// What is told of too many modifications at one moment.
 const CROWDED: &str =
