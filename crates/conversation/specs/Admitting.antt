@@ -63,7 +63,7 @@ restoring_behind restoring asked =
 abbrev pub was_done : UpdateAudit → Bool
 was_done update = nat_lt 0 update.values || nat_lt update.worst.0 (2 ^ 30)
 
--- a client's update ends that
+-- a client's update of which something was done ends that
 abbrev pub restoring_unless : (restoring : Bool) → Option AuditEvent → Bool
 restoring_unless restoring event =
     elim event [
