@@ -29,7 +29,7 @@ fn settings_of(alloc: Global, anonymous: bool) -> Option<Settings> {
     Settings::read(alloc, if anonymous { OPEN } else { CLOSED }).ok()
 }
 
-/// An archive takes 40 values of one variable, and an array of the other.
+/// An archive takes 40 values of one variable, and one without a text of the other.
 fn is_planted<A: Archive>(alloc: Global, archive: &mut A) -> bool {
     learn_many(alloc, archive, 1, 40, 1).is_ok()
         && learn(alloc, archive, &(41, "list", 1, Written::Many)).is_ok()

@@ -18,7 +18,7 @@ const NOON: i64 = 134_168_400_000_000_000;
 /// A second.
 const SECOND: i64 = 10_000_000;
 
-/// What is written: a number, or an array, which has no text.
+/// What is written: a number, or an array of a type that has no text.
 #[derive(Clone, Copy)]
 pub(crate) enum Written {
     Number(i32),
@@ -42,7 +42,7 @@ pub(crate) fn node_of(alloc: Global, name: &str) -> Result<NodeId, AllocError> {
 fn variant_of(alloc: Global, written: Written) -> Variant {
     match written {
         Written::Number(number) => Variant::Scalar(Scalar::Int32(number)),
-        Written::Many => Variant::Array(Array::Double(Listing::of(Vec::new(alloc)))),
+        Written::Many => Variant::Array(Array::NodeId(Listing::of(Vec::new(alloc)))),
     }
 }
 
@@ -183,28 +183,28 @@ pub(crate) fn line_count(text: &[u8]) -> usize {
 type Case = (bool, Form);
 
 /// What is tried: how many updates an archive has at first, how many of them at each second, and
-/// which of them is an array; the updates that come before each portion, two at a time; how many
+/// which of them has no text; the updates that come before each portion, two at a time; how many
 /// lines each portion has, and how it ends.
 struct Tried {
     count: u64,
     at_once: u64,
-    array: Option<u64>,
+    textless: Option<u64>,
     between: &'static [[Update; 2]],
     wanted: &'static [(usize, Result<bool, ReportFault>)],
 }
 
-/// An archive takes the updates of these numbers, of which one is an array, one at each second.
-fn learns_around<A: Archive>(alloc: Global, archive: &mut A, count: u64, array: u64) -> bool {
-    let second = 0i64.saturating_add_unsigned(array);
-    learn_many(alloc, archive, 1, array.saturating_sub(1), 1).is_ok()
-        && learn(alloc, archive, &(array, "n", second, Written::Many)).is_ok()
-        && learn_many(alloc, archive, array.saturating_add(1), count, 1).is_ok()
+/// An archive takes the updates of these numbers, of which one has no text, one at each second.
+fn learns_around<A: Archive>(alloc: Global, archive: &mut A, count: u64, textless: u64) -> bool {
+    let second = 0i64.saturating_add_unsigned(textless);
+    learn_many(alloc, archive, 1, textless.saturating_sub(1), 1).is_ok()
+        && learn(alloc, archive, &(textless, "n", second, Written::Many)).is_ok()
+        && learn_many(alloc, archive, textless.saturating_add(1), count, 1).is_ok()
 }
 
 /// An archive takes the updates that it has at first.
 fn learns_first<A: Archive>(alloc: Global, archive: &mut A, tried: &Tried) -> bool {
-    match tried.array {
-        Some(array) => learns_around(alloc, archive, tried.count, array),
+    match tried.textless {
+        Some(textless) => learns_around(alloc, archive, tried.count, textless),
         None => learn_many(alloc, archive, 1, tried.count, tried.at_once).is_ok(),
     }
 }
@@ -348,7 +348,7 @@ const THREE: &[(usize, Result<bool, ReportFault>)] = &[
 static SINGLE: Tried = Tried {
     count: 40,
     at_once: 1,
-    array: None,
+    textless: None,
     between: &[],
     wanted: THREE,
 };
@@ -362,7 +362,7 @@ fn portions_join(rt: HostRuntime) -> Result<(), Fail> {
 static SEVENS: Tried = Tried {
     count: 40,
     at_once: 7,
-    array: None,
+    textless: None,
     between: &[],
     wanted: THREE,
 };
@@ -371,7 +371,7 @@ static SEVENS: Tried = Tried {
 static AT_ONCE: Tried = Tried {
     count: 40,
     at_once: 40,
-    array: None,
+    textless: None,
     between: &[],
     wanted: THREE,
 };
@@ -407,7 +407,7 @@ const BETWEEN: &[[Update; 2]] = &[
 static GROWING: Tried = Tried {
     count: 40,
     at_once: 1,
-    array: None,
+    textless: None,
     between: BETWEEN,
     wanted: THREE,
 };
@@ -417,11 +417,11 @@ fn portions_are_of_one_state(rt: HostRuntime) -> Result<(), Fail> {
     are_parted(rt.alloc(), &CASES, &GROWING)
 }
 
-/// A history that ends before the 25th of 40 updates, an array.
+/// A history that ends before the 25th of 40 updates, which has no text.
 static WITHOUT_TEXT: Tried = Tried {
     count: 40,
     at_once: 1,
-    array: Some(25),
+    textless: Some(25),
     between: &[],
     wanted: &[(16, Ok(true)), (8, Err(ReportFault::NoText))],
 };
@@ -435,7 +435,7 @@ fn a_value_without_text_ends_a_history(rt: HostRuntime) -> Result<(), Fail> {
 static NOTHING: Tried = Tried {
     count: 0,
     at_once: 1,
-    array: None,
+    textless: None,
     between: &[],
     wanted: &[(0, Ok(false))],
 };

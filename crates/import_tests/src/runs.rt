@@ -50,12 +50,12 @@ const WHY: &str = "row 1: node: expected a node id, as ns=1;s=Temperature or i=2
     row 6: status: expected a status code: eight hex digits, or Good, or nothing\n\
     row 7: expected four fields: node, time, value and status\n\
     row 8: 80230000 Bad_InvalidTimestamp\n\
-    row 9: 80740000 Bad_TypeMismatch\n\
+    row 9: value: expected a JSON array of values, as [1, 2] or [\"on\", \"off\"]\n\
     row 10: expected UTF-8\n\
     11 rows: 1 inserted, 10 refused\n";
 
 /// Runs, one after the other.
-static RUNS: [Run; 10] = [
+static RUNS: [Run; 11] = [
     (
         Insert,
         THREE,
@@ -107,6 +107,13 @@ static RUNS: [Run; 10] = [
         Ok((1, 1, 0, 0, 0)),
         "1 row: 1 inserted\n",
         9,
+    ),
+    (
+        Insert,
+        b"node,time,value,status\nns=1;s=A,2026-03-01T12:00:01Z,\"[5, -6]\",\nns=1;s=A,2026-03-01T12:00:02Z,[],\n",
+        Ok((2, 2, 0, 0, 0)),
+        "2 rows: 2 inserted\n",
+        11,
     ),
 ];
 

@@ -7,7 +7,7 @@ use std::alloc::{AllocError, Global};
 use std::fmt::Write as _;
 
 /// Why texts are not read.
-static TEXTS: [TextFault; 9] = [
+static TEXTS: [TextFault; 10] = [
     TextFault::NoTime,
     TextFault::NoStatus,
     TextFault::NoBoolean,
@@ -15,6 +15,7 @@ static TEXTS: [TextFault; 9] = [
     TextFault::NoFloat,
     TextFault::NoGuid,
     TextFault::NoBytes,
+    TextFault::NoArray,
     TextFault::NoText,
     TextFault::OutOfMemory,
 ];

@@ -10,7 +10,7 @@ use records::{Entry, Held, Moment};
 use stamp::ReplicaNo;
 use std::alloc::Global;
 use ua_binary::{NodeId, Status, Text};
-use ua_variant::{DataValue, HistoryUpdateType, Scalar, Variant};
+use ua_variant::{DataValue, HistoryUpdateType, Scalar, ValueType, Variant};
 
 /// A value with a status.
 fn value_of(value: Option<Variant>, status: Option<Status>) -> DataValue {
@@ -34,7 +34,7 @@ fn is_written(alloc: Global, row: Row, text: &str) -> bool {
     } = row;
     let held = Held {
         time,
-        value: value_of(value.map(Variant::Scalar), Some(status)),
+        value: value_of(value, Some(status)),
         extra: false,
     };
     let mut out = Vec::new(alloc);
@@ -44,21 +44,37 @@ fn is_written(alloc: Global, row: Row, text: &str) -> bool {
     }
 }
 
+/// One value of the type of this number.
+fn one(number: u8) -> ValueType {
+    ValueType {
+        number,
+        array: false,
+    }
+}
+
+/// An array of the type of this number.
+fn many(number: u8) -> ValueType {
+    ValueType {
+        number,
+        array: true,
+    }
+}
+
 /// The row that a text begins by.
-fn row_at(alloc: Global, number: u8, text: &str) -> Result<Row, RowFault> {
+fn row_at(alloc: Global, value_type: ValueType, text: &str) -> Result<Row, RowFault> {
     let mut reader = ReaderBuilder::new()
         .has_headers(false)
         .from_reader(alloc, text.as_bytes());
     let mut record = StringRecord::new(alloc);
     match reader.read_record(&mut record) {
-        Ok(true) => read_row(alloc, number, &record),
+        Ok(true) => read_row(alloc, value_type, &record),
         _ => Err(RowFault::OutOfMemory),
     }
 }
 
 /// Whether a text is read as a row of this type, which is written as that text.
-fn is_row(alloc: Global, number: u8, text: &str, written: &str) -> bool {
-    match row_at(alloc, number, text) {
+fn is_row(alloc: Global, value_type: ValueType, text: &str, written: &str) -> bool {
+    match row_at(alloc, value_type, text) {
         Ok(row) => is_written(alloc, row, written),
         Err(_) => false,
     }
@@ -94,11 +110,34 @@ static ROWS: [(u8, &str, &str); 10] = [
     (19, "i=1,@-1,,\n", "i=1,@-1,Good,Good\n"),
 ];
 
+/// Types of items, each with a row of an array that is read, and how it is written.
+static ARRAYS: [(u8, &str, &str); 6] = [
+    (6, "i=1,@-1,\"[1, -2]\",Good\n", "i=1,@-1,\"[1,-2]\",Good\n"),
+    (6, "i=1,@-1,[],\n", "i=1,@-1,[],Good\n"),
+    (6, "i=1,@-1,,809B0000\n", "i=1,@-1,,809B0000\n"),
+    (12, "i=1,@-1,,\n", "i=1,@-1,,Good\n"),
+    (11, "i=1,@-1,[0.5],\n", "i=1,@-1,[0.5],Good\n"),
+    (
+        12,
+        "i=1,@-1,\"[\"\"a,b\"\"]\",\n",
+        "i=1,@-1,\"[\"\"a,b\"\"]\",Good\n",
+    ),
+];
+
 #[test]
 fn rows_are_written(rt: HostRuntime) {
     let alloc = rt.alloc();
     for (number, text, written) in &ROWS {
-        let good = is_row(alloc, *number, text, written);
+        let good = is_row(alloc, one(*number), text, written);
+        assert!(rt; good, "{text}");
+    }
+}
+
+#[test]
+fn rows_of_arrays_are_written(rt: HostRuntime) {
+    let alloc = rt.alloc();
+    for (number, text, written) in &ARRAYS {
+        let good = is_row(alloc, many(*number), text, written);
         assert!(rt; good, "{text}");
     }
 }
@@ -122,8 +161,8 @@ static REFUSED: [(u8, &str, RowFault); 10] = [
 ];
 
 /// Why a text is no row.
-fn fault_of(alloc: Global, number: u8, text: &str) -> Option<RowFault> {
-    match row_at(alloc, number, text) {
+fn fault_of(alloc: Global, value_type: ValueType, text: &str) -> Option<RowFault> {
+    match row_at(alloc, value_type, text) {
         Ok(_) => None,
         Err(fault) => Some(fault),
     }
@@ -133,7 +172,7 @@ fn fault_of(alloc: Global, number: u8, text: &str) -> Option<RowFault> {
 fn rows_are_refused(rt: HostRuntime) {
     let alloc = rt.alloc();
     for (number, text, fault) in &REFUSED {
-        let refused = fault_of(alloc, *number, text) == Some(*fault);
+        let refused = fault_of(alloc, one(*number), text) == Some(*fault);
         assert!(rt; refused, "{text}");
     }
 }

@@ -1,6 +1,8 @@
-//! Tests: moments, status codes, values, node ids, rows of CSV and printed histories as text, in rows.
+//! Tests: moments, status codes, values, arrays, node ids, rows of CSV and printed histories as text, in rows.
 #![tactic(auto)]
 
+#[cfg(test)]
+mod arrays;
 #[cfg(test)]
 mod csv_rows;
 #[cfg(test)]

@@ -154,7 +154,7 @@ static TOLD: [(Refusal, &str, &str); 16] = [
     (
         Refusal::NoText,
         "HTTP/1.1 500 Internal Server Error\r\n",
-        "\n<p>A value of this history is an array, or of a type that isn't written as text.</p>",
+        "\n<p>A value of this history is of a type that isn't written as text.</p>",
     ),
     (
         Refusal::Crowded,

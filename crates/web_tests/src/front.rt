@@ -1,4 +1,4 @@
-//! The front page, over a plant of three variables.
+//! The front page, over a plant of five variables.
 
 use archive::{Archive, LearnFault, ListArchive, StoreFault};
 use records::{Moment, Record};
@@ -11,12 +11,13 @@ use ua_variant::{Array, DataValue, HistoryUpdateType, Scalar, Variant};
 use uuid::Uuid;
 use web_page::{CallCause, CallEnd, LastCalls, Overview, put_front};
 
-/// Settings with three variables in two folders, and a fourth in none.
+/// Settings with four variables in two folders, and a fifth in none.
 const SETTINGS: &str = "[archive]\nid = '12345678-9abc-def0-1234-56789abcdef0'\nreplica = 7\n\
      [server]\nlisten = ''\nurl = ''\napplication = ''\nnamespace = ''\nanonymous = false\n\
      [[folder]]\nid = 'f'\nname = 'Hall <1>'\n\
      [[folder]]\nid = 'g'\nname = 'Yard & gate'\n\
      [[variable]]\nid = 'a list'\nname = 'list'\ntype = 'Double'\narray = true\nfolder = 'g'\n\
+     [[variable]]\nid = 'place'\nname = 'place'\ntype = 'Int32'\nfolder = 'g'\n\
      [[variable]]\nid = 'note'\nname = \"the \\\"note\\\"\"\ntype = 'String'\nfolder = 'f'\n\
      [[variable]]\nid = 'never\"/&'\nname = \"it's <new>\"\ntype = 'Int32'\nfolder = 'f'\n\
      [[variable]]\nid = 'door'\nname = 'door'\ntype = 'Boolean'\n";
@@ -72,7 +73,12 @@ const NEVER: &str = "<tr><td>Hall &lt;1&gt;</td><td>it&#39;s &lt;new&gt;</td>\
 /// The row of the one with an array, up to its age.
 const LIST: &str = "<tr><td>Yard &amp; gate</td><td>list</td>\
      <td><a href=\"/history?node=ns%3D1%3Bs%3Da+list\">ns=1;s=a list</a></td>\
-     <td>Double array</td><td>[Double array]</td><td>Good</td><td>2026-03-01T12:00:02.0000000Z</td><td>";
+     <td>Double array</td><td>[1.5,&quot;inf&quot;]</td><td>Good</td><td>2026-03-01T12:00:02.0000000Z</td><td>";
+
+/// The row of the one whose value is of another type, which has no text, up to its age.
+const PLACE: &str = "<tr><td>Yard &amp; gate</td><td>place</td>\
+     <td><a href=\"/history?node=ns%3D1%3Bs%3Dplace\">ns=1;s=place</a></td>\
+     <td>Int32</td><td>[NodeId]</td><td>Good</td><td>2026-03-01T12:00:02.0000000Z</td><td>";
 
 /// What stands behind an age.
 const ROW_END: &str = "</td></tr>\n";
@@ -87,17 +93,19 @@ enum Given {
     /// So many characters of two bytes each.
     Long(usize),
     Many,
+    Place,
 }
 
 /// The number of an update, its node, seconds behind noon, and what is written.
 type Row = (u64, &'static str, i64, Given);
 
 /// Updates, one after the other.
-static ROWS: [Row; 4] = [
+static ROWS: [Row; 5] = [
     (1, "door", 9, Given::Truth(true)),
     (2, "door", 8, Given::Truth(false)),
     (3, "note", 1, Given::Long(1000)),
     (4, "a list", 2, Given::Many),
+    (5, "place", 2, Given::Place),
 ];
 
 /// So many characters of two bytes each.
@@ -109,12 +117,21 @@ fn long_text(alloc: Global, count: usize) -> Result<Text, StoreFault> {
     Ok(Text::new(text))
 }
 
+/// Two levels, of which one is infinite.
+fn levels(alloc: Global) -> Result<Listing<[u8; 8]>, StoreFault> {
+    let half = 0x3FF8_0000_0000_0000_u64.to_le_bytes();
+    let infinite = 0x7FF0_0000_0000_0000_u64.to_le_bytes();
+    let levels = Vec::from_slice(alloc, &[half, infinite])?;
+    Ok(Listing::of(levels))
+}
+
 /// A value that is written.
 fn variant_of(alloc: Global, given: Given) -> Result<Variant, StoreFault> {
     match given {
         Given::Truth(truth) => Ok(Variant::Scalar(Scalar::Boolean(truth))),
         Given::Long(count) => Ok(Variant::Scalar(Scalar::String(Some(long_text(alloc, count)?)))),
-        Given::Many => Ok(Variant::Array(Array::Double(Listing::of(Vec::new(alloc))))),
+        Given::Many => Ok(Variant::Array(Array::Double(levels(alloc)?))),
+        Given::Place => Ok(Variant::Scalar(Scalar::NodeId(NodeId::Numeric(0, 85)))),
     }
 }
 
@@ -219,6 +236,9 @@ fn wanted(alloc: Global, aged: &Aged) -> Result<Vec<u8>, Fail> {
     text.extend_from_slice(ROW_END.as_bytes())?;
     text.extend_from_slice(NEVER.as_bytes())?;
     text.extend_from_slice(LIST.as_bytes())?;
+    text.extend_from_slice(list.as_bytes())?;
+    text.extend_from_slice(ROW_END.as_bytes())?;
+    text.extend_from_slice(PLACE.as_bytes())?;
     text.extend_from_slice(list.as_bytes())?;
     text.extend_from_slice(ROW_END.as_bytes())?;
     text.extend_from_slice(END.as_bytes())?;
