@@ -186,7 +186,7 @@ def picture(server, path, name, size="900,700"):
 def front():
     """The first page, its variables with their last values, and what its head says."""
     server = Server()
-    server.bring(day(10) + [f"ns=1;s=U,{moment(NOW)},<i>x</i>,Good", f"ns=1;s=P&Q=1,{moment(NOW)},-7,Good"])
+    server.bring(day(10) + [f"ns=1;s=U,{moment(NOW)},<i>x</i>,Good", f"ns=1;s=P&Q=1,{moment(NOW)},-7,Good", f'ns=1;s=L,{moment(NOW)},"[1,-2]",Good'])
     server.start()
     status, fields, body = server.ask("/")
     tell(status == 200 and fields["Content-Type"] == "text/html; charset=utf-8" and int(fields["Content-Length"]) == len(body), "the first page is HTML of the length that its head tells", (status, fields))
@@ -202,6 +202,9 @@ def front():
     counted = re.search(rb"<p>(\d+) connections?</p>", body)
     tell(counted and int(counted[1]) >= 1, "it tells how many connections there are", body[:1500])
     tell(shown[NAMES["U"]][4] == "<i>x</i>" and not page.tags & {"i", "b", "script"}, "values with tags are text", shown[NAMES["U"]])
+    tell(shown["List"][4] == "[1,-2]", "an array is a JSON array", shown["List"])
+    status, fields, body = server.ask(asking("L"))
+    tell(status == 200 and b"[1,-2]" in body, "and so it is in its history", (status, body[-300:]))
     links = re.findall(r'<a href="([^"]*)"', dom(server.address("/")))
     asked = [server.ask(link.replace("&amp;", "&"))[0] for link in links]
     tell(len(links) == 4 and asked == [200] * 4 or asked == [200, 200, 200, 200], "its links lead to the histories", (links, asked))
@@ -209,7 +212,7 @@ def front():
     tell(status == 200 and body == b"" and int(fields["Content-Length"]) > 0, "HEAD gets the head alone", (status, fields))
     status, fields, body = server.ask("/status.json")
     told = json.loads(body)
-    tell(status == 200 and fields["Content-Type"] == "application/json" and told["archive"] == ARCHIVE and told["replica"] == 1 and told["connections"] >= 1 and told["records"] == {"1": 12} and told["peers"] == [], "/status.json tells the archive, the replica, its connections, its records and that no peer is called", told)
+    tell(status == 200 and fields["Content-Type"] == "application/json" and told["archive"] == ARCHIVE and told["replica"] == 1 and told["connections"] >= 1 and told["records"] == {"1": 13} and told["peers"] == [], "/status.json tells the archive, the replica, its connections, its records and that no peer is called", told)
     picture(server, "/", "front", "1200,560")
     server.stop()
 

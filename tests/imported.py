@@ -35,13 +35,15 @@ name = 'eva'
 password = 'pw'
 access = 'read'
 """
-VARIABLE = "[[variable]]\nid = '{0}'\nname = '{0}'\ntype = '{1}'\n"
-TYPES = {"number": "Double", "whole": "Int32", "flag": "Boolean", "text": "String"}
+VARIABLE = "[[variable]]\nid = '{0}'\nname = '{0}'\ntype = '{1}'\narray = {2}\n"
+TYPES = {"number": "Double", "whole": "Int32", "flag": "Boolean", "text": "String", "list": "Int32[]", "words": "String[]"}
 VALUES = {
     "number": ["0.0", "-1.5", "1e300", "0.1", "inf", "-inf", "5e-324"],
     "whole": ["0", "-5", "2147483647"],
     "flag": ["true", "false"],
     "text": ["a", 'say "hi"', "a,b", "line\nend", "caf\u00e9"],
+    "list": ["[]", "[1,-2]", "[2147483647]"],
+    "words": ["[]", '["a,b","say \\"hi\\""]', '["caf\u00e9","\\n"]'],
 }
 # A wrong row's fields, and what is said of it.
 WRONG = [
@@ -51,6 +53,10 @@ WRONG = [
     (["ns=1;s=whole", "@5", "five", ""], "value: expected a whole number of the type's range"),
     (["ns=1;s=whole", "@5", "2147483648", ""], "value: expected a whole number of the type's range"),
     (["ns=1;s=flag", "@5", "TRUE", ""], "value: expected true or false"),
+    (["ns=1;s=list", "@5", "5", ""], 'value: expected a JSON array of values, as [1, 2] or ["on", "off"]'),
+    (["ns=1;s=list", "@5", "[1,]", ""], 'value: expected a JSON array of values, as [1, 2] or ["on", "off"]'),
+    (["ns=1;s=list", "@5", "[1,2147483648]", ""], "value: expected a whole number of the type's range"),
+    (["ns=1;s=words", "@5", "a", ""], 'value: expected a JSON array of values, as [1, 2] or ["on", "off"]'),
     (["ns=1;s=whole", "@5", "5", "bad"], "status: expected a status code: eight hex digits, or Good, or nothing"),
     (["ns=1;s=whole", "@5", "5"], "expected four fields: node, time, value and status"),
     (["ns=1;s=whole", "@0", "5", ""], "80230000 Bad_InvalidTimestamp"),
@@ -107,7 +113,7 @@ def values(program, settings, name, *options):
 def settings_in(folder, variables):
     path, store = os.path.join(folder, "plant.toml"), os.path.join(folder, "plant.db")
     running.forget(store)
-    open(path, "w").write(SETTINGS.format(store=store, port=running.free_port()) + "".join(VARIABLE.format(name, kind) for name, kind in variables.items()))
+    open(path, "w").write(SETTINGS.format(store=store, port=running.free_port()) + "".join(VARIABLE.format(name, kind.removesuffix("[]"), str(kind.endswith("[]")).lower()) for name, kind in variables.items()))
     return path
 
 

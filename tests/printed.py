@@ -4,11 +4,11 @@
     tests/printed.py PROGRAM [ROUNDS [ROWS]]
 
 Each round (20, unless told) makes a store, writes, replaces, updates and deletes values at random moments, as texts with quotes,
-line ends and letters that control a terminal, numbers and Booleans, and then asks for stretches of it in all four ways. A row of
+line ends and letters that control a terminal, numbers, Booleans and arrays, and then asks for stretches of it in all four ways. A row of
 CSV is read by Python's csv; of a table each line is compared whole. Then so many values (50,000, unless told) are written, and
 printed: their number, the seconds and the greatest memory are told. Exit status 1 where one differs.
 """
-import csv, datetime, io, os, random, struct, sys, tempfile
+import csv, datetime, io, json, os, random, sys, tempfile
 import opcua, running, usage
 
 SETTINGS = """[archive]
@@ -39,13 +39,41 @@ type = 'Double'
 id = 'flag'
 name = 'flag'
 type = 'Boolean'
+[[variable]]
+id = 'list'
+name = 'list'
+type = 'Int32'
+array = true
+[[variable]]
+id = 'levels'
+name = 'levels'
+type = 'Double'
+array = true
+[[variable]]
+id = 'words'
+name = 'words'
+type = 'String'
+array = true
 """
 TEXTS = ["", "a", 'say "hi"', "a,b", "line\nend", "\r", "\x1b[2Jgone", "caf\u00e9", "\u0085next", "x" * 40, "\t"]
 NUMBERS = [0.0, -1.5, 1e300, 0.1, 21.25, -0.0, float("inf"), 5e-324]
+LISTS = [[], [1, -2], [2147483647] * 9, [-2147483648]]
+LEVELS = [[], [0.5, -0.0, float("inf")], [1e300, 5e-324]]
+
+
+def compact(field):
+    """What a JSON text says, if it has no blanks."""
+    said = json.loads(field)
+    return said if json.dumps(said, separators=(",", ":"), ensure_ascii=False) == field else field
+
+
 VARIABLES = {
     'text, "t"': (lambda value: opcua.u8(12) + opcua.text(value), TEXTS, lambda value: value),
     "number": (opcua.double, NUMBERS, float),
     "flag": (lambda value: opcua.u8(1) + opcua.u8(value), [True, False], {"true": True, "false": False}.get),
+    "list": (lambda value: opcua.u8(0x86) + opcua.array([opcua.i32(item) for item in value]), LISTS, compact),
+    "levels": (lambda value: opcua.u8(0x8B) + opcua.array([opcua.double(item)[1:] for item in value]), LEVELS, lambda field: [float(item) for item in json.loads(field)]),
+    "words": (lambda value: opcua.u8(0x8C) + opcua.array([opcua.text(item) for item in value]), [[], TEXTS, ["a"]], json.loads),
 }
 USERS = ["ann", 'ben, "b"']
 NOW = 134_168_832_000_000_000
@@ -120,8 +148,7 @@ def printed(program, settings, name, first, last, *options):
 
 def is_same(kind, field, value):
     """Whether a field says this value."""
-    said = kind(field)
-    return said == value and (not isinstance(said, float) or struct.pack("<d", said) == struct.pack("<d", value))
+    return repr(kind(field)) == repr(value)
 
 
 def wrong(program, settings, name, model, first, last):
