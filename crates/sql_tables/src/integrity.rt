@@ -230,7 +230,7 @@ fn check_currents<S: Alter>(conn: &mut Connection<S>) -> Result<(), StoreFault>
     let tell = currents_tell(conn)?;
     let show = currents_show(conn)?;
     let _held = currents_held(conn)?;
-    all_hold(stand, tell, show && _held < 100_000)
+    all_hold(stand, tell, show)
 }
 
 /// Whether each last number is a record's, as it is where they are kept.
