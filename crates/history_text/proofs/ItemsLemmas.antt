@@ -1,22 +1,73 @@
--- Items of a JSON array: what says a text, what they are once written, and that a moment and a Guid are letters.
-use Rattle.std.proofs.Common.{◌≡◌, ℕ, zero, suc, ◌+◌, ◌/◌, ◌%◌, ◌<◌, ◌^◌, List, [], ◌∷◌, ◌++◌, map, length, take, drop, Bool, true, false, cond, ◌==◌, Option, Some, None, Result, Ok, Err, ok_or, refl, sym, ap, subst, ◌∙◌, arith, inl, inr}
-use Rattle.std.specs.Str.{IsAscii}
-use Rattle.std.proofs.lemmas.List.{append-nil, append_assoc, map_push}
+-- Items of a JSON array: what says a text, and what they are once written.
+use Rattle.std.proofs.Common.{◌≡◌, ℕ, ◌+◌, ◌<◌, List, [], ◌∷◌, ◌++◌, map, get_or, length, take, cond, Some, Result, Ok, Err, ok_or, refl, sym, ap, ◌∙◌}
+use Rattle.std.proofs.lemmas.List.{append_assoc, map_push, map_more}
 use Rattle.json.specs.Lex.{tokens}
 use Rattle.json.specs.Print.{print}
 use Rattle.json.specs.Token.{Token}
 use Rattle.json.specs.Token as token
 use Rattle.json.specs.Written.{Written}
-use Rattle.history_text.specs.Arrays.{◌>>?◌, item_text, item_in, all_said, unless_followed, listed, IsCompact, Puts, PutsItems, PutsText}
+use Rattle.ua_variant.specs.declared.value.Scalar.{Scalar}
+use Rattle.history_text.specs.Arrays.{◌>>?◌, item_text, item_in, all_said, listed, AppendsItem, AreItemsOf, IsItemOf, IsListText, IsNumeric, IsQuoted, PutsItem, PutsItems}
+use Rattle.history_text.specs.Values.{IsValueText}
 use Rattle.history_text.specs.declared.fault.TextFault.{TextFault}
 use Rattle.history_text.specs.declared.fault.TextFault.TheVariants.{NoArray}
 
--- an item of a text says what the text says
-pub puts_said : {A : Type 0} (said : List ℕ → Result A TextFault) (old new : Written)
-    (text : List ℕ) (value : A) → said text ≡ Ok value → PutsText old new text
-    → Puts said old new value
-puts_said said old new text value says put =
-    (put.0, put.1, put.2, ap (λ o. ok_or o NoArray >>? said) put.3 ∙ says)
+-- the item that a value is written as says what its text says
+puts_item : {A : Type 0} (said : List ℕ → Result A TextFault) (old new : Written) (value : Scalar)
+    (item : Token) (text : List ℕ) (again : A) → IsItemOf value item → item_text item ≡ Some text
+    → said text ≡ Ok again → AppendsItem old new item → PutsItem said old new value again
+puts_item said old new value item text again is spelled says put = record {
+  item = item;
+  is = is;
+  puts = put;
+  says = ap (λ o. ok_or o NoArray >>? said) spelled ∙ says;
+}
+
+-- a number without quotes
+pub puts_number : {A : Type 0} (said : List ℕ → Result A TextFault) (old new : Written)
+    (value : Scalar) (text : List ℕ) (again : A) → IsNumeric value → IsValueText value text
+    → said text ≡ Ok again → AppendsItem old new (token.number text)
+    → PutsItem said old new value again
+puts_number said old new value text again numeric is says put =
+    puts_item said old new value (token.number text) text again (numeric, is) refl says put
+
+-- a text between quotes
+pub puts_string : {A : Type 0} (said : List ℕ → Result A TextFault) (old new : Written)
+    (value : Scalar) (text : List ℕ) (again : A) → IsQuoted value text → IsValueText value text
+    → said text ≡ Ok again → AppendsItem old new (token.string text)
+    → PutsItem said old new value again
+puts_string said old new value text again quoted is says put =
+    puts_item said old new value (token.string text) text again (quoted, is) refl says put
+
+-- one item more
+pub items_push : (values : List Scalar) (items : List Token) (value : Scalar) (item : Token)
+    → AreItemsOf values items → IsItemOf value item
+    → AreItemsOf (values ++ value ∷ []) (items ++ item ∷ [])
+items_push [] [] value item are is = (is, tt)
+items_push [] (t ∷ ts) value item are is = absurd are
+items_push (v ∷ vs) [] value item are is = absurd are
+items_push (v ∷ vs) (t ∷ ts) value item are is = (are.0, items_push vs ts value item are.1 is)
+
+-- the items of a list's first values, and that of the next one behind them
+pub values_push : {A B : Type 0} (said : List ℕ → Result B TextFault) (first old new : Written)
+    (alone : A → Scalar) (again : A → B) (xs : List A) (i : ℕ) (d : A) → i < length xs
+    → PutsItems said first old (map alone (take i xs)) (map again (take i xs))
+    → PutsItem said old new (alone (get_or xs i d)) (again (get_or xs i d))
+    → PutsItems said first new (map alone (take (i + 1) xs)) (map again (take (i + 1) xs))
+values_push said first old new alone again xs i d within put one =
+    let front = map again (take i xs) in
+    let next = again (get_or xs i d) in
+    rw (map_more alone xs i d within, map_more again xs i d within) (record {
+      items = put.items ++ one.item ∷ [];
+      are = items_push (map alone (take i xs)) put.items (alone (get_or xs i d)) one.item put.are
+          one.is;
+      before = one.puts.0 ∙ put.before;
+      tokens = one.puts.1 ∙ ap (λ ts. ts ++ one.item ∷ []) put.tokens
+          ∙ append_assoc first.tokens put.items (one.item ∷ []);
+      say = map_push (item_in said) put.items one.item
+          ∙ ap (λ l. l ++ item_in said one.item ∷ []) put.say
+          ∙ ap (λ r. map Ok front ++ r ∷ []) one.says ∙ sym (map_push Ok front next);
+    })
 
 -- ---- reading
 
@@ -97,30 +148,27 @@ items_said said (t ∷ ts) (v ∷ vs) h =
     ∙ ap (λ r. r >>? before_items said (ts ++ token.end_array ∷ [])) says
     ∙ ap (λ r. r >>? λ values. Ok (v ∷ values)) others
 
--- the text of a JSON array of these items is compact
-pub spelled_compact : {A : Type 0} (said : List ℕ → Result A TextFault)
-    (first second third : Written) (values : List A) (text : List ℕ) → first.before ≡ []
-    → first.tokens ≡ token.begin_array ∷ [] → PutsItems said first second values
-    → third.before ≡ second.before → third.tokens ≡ second.tokens ++ token.end_array ∷ []
-    → text ≡ third.before ++ print third.tokens → IsCompact text
-spelled_compact said first second third values text front begun put behind ends is =
-    let bare : third.before ≡ [] = behind ∙ put.1 ∙ front in
-    let whole : third.tokens ≡ token.begin_array ∷ (put.0 ++ token.end_array ∷ []) =
-    ends ∙ ap (λ ts. ts ++ token.end_array ∷ []) (put.2 ∙ ap (λ ts. ts ++ put.0) begun) in
-    (put.0, is ∙ ap (λ b. b ++ print third.tokens) bare ∙ ap print whole)
+-- what stands between an array's begin and its end
+module _ {A : Type 0} (said : List ℕ → Result A TextFault) (first second third : Written)
+    (values : List Scalar) (again : List A) (text : List ℕ) (front : first.before ≡ [])
+    (begun : first.tokens ≡ token.begin_array ∷ []) (put : PutsItems said first second values again)
+    (behind : third.before ≡ second.before)
+    (ends : third.tokens ≡ second.tokens ++ token.end_array ∷ [])
+    (is : text ≡ third.before ++ print third.tokens) where
+  -- the tokens of the whole
+  whole : third.tokens ≡ token.begin_array ∷ (put.items ++ token.end_array ∷ [])
+  whole = ends ∙ ap (λ ts. ts ++ token.end_array ∷ []) (put.tokens ∙ ap (λ ts. ts ++ put.items) begun)
 
--- the text of a JSON array of these items says their values
-pub spelled_is : {A : Type 0} (said : List ℕ → Result A TextFault) (first second third : Written)
-    (values : List A) (text : List ℕ) → first.before ≡ []
-    → first.tokens ≡ token.begin_array ∷ [] → PutsItems said first second values
-    → third.before ≡ second.before → third.tokens ≡ second.tokens ++ token.end_array ∷ []
-    → text ≡ third.before ++ print third.tokens → tokens (print third.tokens) ≡ third.tokens
-    → listed said text ≡ Ok values
-spelled_is said first second third values text front begun put behind ends is read =
-    let bare : third.before ≡ [] = behind ∙ put.1 ∙ front in
-    let whole : third.tokens ≡ token.begin_array ∷ (put.0 ++ token.end_array ∷ []) =
-    ends ∙ ap (λ ts. ts ++ token.end_array ∷ []) (put.2 ∙ ap (λ ts. ts ++ put.0) begun) in
-    let letters : text ≡ print third.tokens = is ∙ ap (λ b. b ++ print third.tokens) bare in
-    let found : tokens text ≡ token.begin_array ∷ (put.0 ++ token.end_array ∷ []) =
-    ap tokens letters ∙ read ∙ whole in
-    ap (listed_of said) found ∙ items_said said put.0 values put.3
+  -- nothing stands in front of them
+  letters : text ≡ print third.tokens
+  letters = is ∙ ap (λ b. b ++ print third.tokens) (behind ∙ put.before ∙ front)
+
+  -- the text is that of the values' items
+  pub spelled_written : IsListText values text
+  spelled_written = (put.items, put.are, letters ∙ ap print whole)
+
+  -- it says what the items say
+  pub spelled_is : tokens (print third.tokens) ≡ third.tokens → listed said text ≡ Ok again
+  spelled_is read =
+      ap (listed_of said) (ap tokens letters ∙ read ∙ whole)
+      ∙ items_said said put.items again put.say

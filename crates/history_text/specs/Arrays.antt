@@ -1,21 +1,21 @@
 -- How arrays are written as text and read again: as JSON (RFC 8259), whose items say values.
 use Rattle.std.specs.Prelude.{◌≡◌, ℕ, ◌^◌, ◌==◌, List, [], ◌∷◌, ◌++◌, map, Option, Some, None, ok_or, unwrap_or, Bool, Result, Ok, Err, if◌then◌else◌}
-use Rattle.std.specs.Result.{result_map_both}
 use Rattle.std.specs.Str.Parse.{true_text, false_text}
 use Rattle.json.specs.Token.{Token}
 use Rattle.json.specs.Token as token
 use Rattle.json.specs.Lex.{tokens}
-use Rattle.json.specs.Print.{print}
+use Rattle.json.specs.Print.{print, IsNumber}
 use Rattle.json.specs.Written.{Written}
-use Rattle.ua_binary.specs.declared.values.Ticks.{Ticks}
 use Rattle.ua_variant.specs.Values.{array_number}
 use Rattle.ua_variant.specs.declared.value.Array.{Array}
+use Rattle.ua_variant.specs.declared.value.Scalar.{Scalar}
+use Rattle.ua_variant.specs.declared.value.Scalar.TheVariants as scalar
 use Rattle.ua_variant.specs.declared.value.Array.TheVariants.{Boolean, SByte, Byte, Int16, UInt16, Int32, UInt32, Int64, UInt64, Float, Double, String, DateTime, Guid, ByteString, NodeId, StatusCode, QualifiedName, LocalizedText}
 use Rattle.history_text.specs.Floats.{single_in, double_in, single_again, double_again}
 use Rattle.history_text.specs.Guids.{guid_in}
 use Rattle.history_text.specs.Numbers.{signed_in, unsigned_in}
 use Rattle.history_text.specs.Statuses.{kept, status_in}
-use Rattle.history_text.specs.Values.{boolean_in, bytes_in, ticks_in}
+use Rattle.history_text.specs.Values.{boolean_in, bytes_in, ticks_in, IsValueText}
 use Rattle.history_text.specs.declared.fault.TextFault.{TextFault}
 use Rattle.history_text.specs.declared.fault.TextFault.TheVariants.{NoTime, NoStatus, NoBoolean, NoInteger, NoFloat, NoGuid, NoBytes, NoArray, NoText}
 
@@ -129,22 +129,69 @@ IsUnwrittenArray array =
       | _ ↦ ⊥
     ]
 
--- one item was appended to a JSON text, and it says this value
-abbrev pub Puts : {A : Type 0} → (said : List ℕ → Result A TextFault) → (old new : Written) → A
-    → Type 0
-Puts said old new value = (item : Token) × (new.before ≡ old.before)
-    × (new.tokens ≡ old.tokens ++ item ∷ []) × (item_in said item ≡ Ok value)
+-- a number, of any type
+abbrev pub IsNumeric : Scalar → Type 0
+IsNumeric value =
+    elim value [
+      | scalar.Boolean _ ↦ ⊥
+      | scalar.String _ ↦ ⊥
+      | scalar.DateTime _ ↦ ⊥
+      | scalar.Guid _ ↦ ⊥
+      | scalar.ByteString _ ↦ ⊥
+      | scalar.StatusCode _ ↦ ⊥
+      | _ ↦ Unit {0}
+    ]
 
--- items were appended to a JSON text, and they say these values
-abbrev pub PutsItems : {A : Type 0} → (said : List ℕ → Result A TextFault) → (old new : Written)
-    → List A → Type 0
-PutsItems said old new values = (items : List Token) × (new.before ≡ old.before)
-    × (new.tokens ≡ old.tokens ++ items) × (map (item_in said) items ≡ map Ok values)
+-- a value whose text stands between quotes: neither a Boolean nor a number that JSON can spell
+abbrev pub IsQuoted : Scalar → (text : List ℕ) → Type 0
+IsQuoted value text =
+    elim value [ scalar.Boolean _ ↦ ⊥ | v ↦ IsNumeric v → IsNumber text → ⊥ ]
 
--- one item was appended to a JSON text, whose text is this
-abbrev pub PutsText : (old new : Written) → List ℕ → Type 0
-PutsText old new text = (item : Token) × (new.before ≡ old.before)
-    × (new.tokens ≡ old.tokens ++ item ∷ []) × (item_text item ≡ Some text)
+-- the item that a value is written as: its text as that of a value alone, between quotes or not
+abbrev pub IsItemOf : Scalar → Token → Type 0
+IsItemOf value item =
+    elim item [
+      | token.boolean b ↦ value ≡ scalar.Boolean b
+      | token.number text ↦ IsNumeric value × IsValueText value text
+      | token.string text ↦ IsQuoted value text × IsValueText value text
+      | _ ↦ ⊥
+    ]
+
+-- the items that values are written as, one by one
+abbrev pub AreItemsOf : List Scalar → List Token → Type 0
+AreItemsOf [] [] = Unit {0}
+AreItemsOf (value ∷ values) (item ∷ items) = IsItemOf value item × AreItemsOf values items
+AreItemsOf _ _ = ⊥
+
+-- an item was appended to a JSON text
+abbrev pub AppendsItem : (old new : Written) → Token → Type 0
+AppendsItem old new item = (new.before ≡ old.before) × (new.tokens ≡ old.tokens ++ item ∷ [])
+
+-- the item that a value is written as was appended to a JSON text, and it says the other one
+pub record PutsItem {A : Type 0} (said : List ℕ → Result A TextFault) (old new : Written)
+    (value : Scalar) (again : A) : Type 0 where
+  pub item : Token
+  pub is : IsItemOf value item
+  pub puts : AppendsItem old new item
+  pub says : item_in said item ≡ Ok again
+
+-- the same of the items that values are written as
+pub record PutsItems {A : Type 0} (said : List ℕ → Result A TextFault) (old new : Written)
+    (values : List Scalar) (again : List A) : Type 0 where
+  pub items : List Token
+  pub are : AreItemsOf values items
+  pub before : new.before ≡ old.before
+  pub tokens : new.tokens ≡ old.tokens ++ items
+  pub say : map (item_in said) items ≡ map Ok again
+
+-- the item of a number's text: without quotes where JSON can spell it
+abbrev pub IsNumberItem : (text : List ℕ) → Token → Type 0
+IsNumberItem text item =
+    elim item [
+      | token.number spelled ↦ spelled ≡ text
+      | token.string spelled ↦ (spelled ≡ text) × (IsNumber text → ⊥)
+      | _ ↦ ⊥
+    ]
 
 -- a null text or byte string is read as an empty one
 abbrev pub never_null : Option (List ℕ) → Option (List ℕ)
@@ -162,12 +209,38 @@ array_again array =
       | v ↦ v
     ]
 
--- a JSON array without white space, each character by its shortest escape
-abbrev pub IsCompact : List ℕ → Type 0
-IsCompact text = (items : List Token)
+-- the values of an array, each as one alone
+abbrev pub scalars_of : Array → List Scalar
+scalars_of array =
+    elim array [
+      | Boolean items ↦ map scalar.Boolean items
+      | SByte items ↦ map scalar.SByte items
+      | Byte items ↦ map scalar.Byte items
+      | Int16 items ↦ map scalar.Int16 items
+      | UInt16 items ↦ map scalar.UInt16 items
+      | Int32 items ↦ map scalar.Int32 items
+      | UInt32 items ↦ map scalar.UInt32 items
+      | Int64 items ↦ map scalar.Int64 items
+      | UInt64 items ↦ map scalar.UInt64 items
+      | Float items ↦ map scalar.Float items
+      | Double items ↦ map scalar.Double items
+      | String items ↦ map scalar.String items
+      | DateTime items ↦ map scalar.DateTime items
+      | Guid items ↦ map scalar.Guid items
+      | ByteString items ↦ map scalar.ByteString items
+      | NodeId items ↦ map scalar.NodeId items
+      | StatusCode items ↦ map scalar.StatusCode items
+      | QualifiedName items ↦ map scalar.QualifiedName items
+      | LocalizedText items ↦ map scalar.LocalizedText items
+    ]
+
+-- the JSON array of the items that values are written as, without white space, each character by
+-- its shortest escape
+abbrev pub IsListText : List Scalar → (text : List ℕ) → Type 0
+IsListText values text = (items : List Token) × AreItemsOf values items
     × (text ≡ print (token.begin_array ∷ items ++ token.end_array ∷ []))
 
--- a text that is written for an array: a compact one that is read as it
+-- a text that is written for an array: the JSON array of its values' items, which is read as it
 abbrev pub IsArrayText : Array → List ℕ → Type 0
-IsArrayText array text = IsCompact text
+IsArrayText array text = IsListText (scalars_of array) text
     × (array_in (array_number array) text ≡ Ok (array_again array))

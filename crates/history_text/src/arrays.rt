@@ -2,7 +2,7 @@
 
 ghost use Rattle.std.specs.Prelude.{◌≡◌, ◌⊎◌, map, Ok, IfOk, IfErr, OnOk};
 ghost use Rattle.json.specs.Reads.{token_of};
-ghost use Rattle.history_text.specs.Arrays.{item_in, all_said, unless_followed, listed, array_in, IsCompact, IsArrayText, IsUnwrittenArray, PutsItems};
+ghost use Rattle.history_text.specs.Arrays.{item_in, all_said, unless_followed, listed, array_in, IsListText, IsArrayText, IsUnwrittenArray, PutsItems};
 ghost use Rattle.history_text.specs.Values.{Answers};
 ghost use Rattle.history_text.specs.declared.fault.TextFault.TheVariants.{NoText, OutOfMemory};
 
@@ -97,7 +97,8 @@ pub fn read_array(alloc: Global, number: u8, text: &str) -> Result<Array, TextFa
 
 /// Appends items.
 fn put_items<T: Item>(alloc: Global, out: &mut Writer, items: &[T]) -> Result<(), TextFault>
-    ensures put { OnOk result (PutsItems T.said out.old out.new (map T.again items.now)) }
+    ensures put { OnOk result (PutsItems T.said out.old out.new
+        (map T.alone items.now) (map T.again items.now)) }
     ensures refused { IfErr result (λ e. e ≡ OutOfMemory) }
 {
     for item in items {
@@ -108,7 +109,7 @@ fn put_items<T: Item>(alloc: Global, out: &mut Writer, items: &[T]) -> Result<()
 
 /// Items as a JSON array.
 fn spelled<T: Item>(alloc: Global, items: &[T]) -> Result<Vec<u8>, TextFault>
-    ensures compact { IfOk result (λ text. IsCompact text.items) }
+    ensures written { IfOk result (λ text. IsListText (map T.alone items.now) text.items) }
     ensures read { IfOk result (λ text. listed T.said text.items ≡ Ok (map T.again items.now)) }
     ensures refused { IfErr result (λ e. e ≡ OutOfMemory) }
 {

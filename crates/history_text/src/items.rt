@@ -1,9 +1,12 @@
 //! Values of one type, as items of a JSON array.
 
 ghost use Rattle.std.specs.Prelude.{◌≡◌, ◌^◌, OnOk, IfErr, Ok, Some};
+ghost use Rattle.json.specs.Token.{Token};
+ghost use Rattle.json.specs.Token as token;
+ghost use Rattle.ua_variant.specs.declared.value.Scalar.TheVariants as scalar;
 ghost use Rattle.std.specs.Fmt.{decimal, signed_decimal};
 ghost use Rattle.std.specs.Str.{IsAscii};
-ghost use Rattle.history_text.specs.Arrays.{or_fault, never_null, byte_string_in, Puts, PutsText};
+ghost use Rattle.history_text.specs.Arrays.{or_fault, never_null, byte_string_in, IsNumberItem, AppendsItem, PutsItem};
 ghost use Rattle.history_text.specs.Floats.{single_in, double_in, single_again, double_again};
 ghost use Rattle.history_text.specs.Guids.{guid_in};
 ghost use Rattle.history_text.specs.Numbers.{signed_in, unsigned_in};
@@ -26,7 +29,8 @@ use ua_binary::{Bytes, Guid, Status, Text, Ticks};
 /// A value of one type.
 pub(crate) trait Item: Drop + Sized {
     ghost use Rattle.std.specs.Prelude.{List, ℕ, Result, OnOk, IfErr, ◌≡◌};
-    ghost use Rattle.history_text.specs.Arrays.{Puts};
+    ghost use Rattle.ua_variant.specs.declared.value.Scalar.{Scalar};
+    ghost use Rattle.history_text.specs.Arrays.{PutsItem};
     ghost use Rattle.history_text.specs.Values.{Answers};
     ghost use Rattle.history_text.specs.declared.fault.TextFault.{TextFault as Fault};
     ghost use Rattle.history_text.specs.declared.fault.TextFault.TheVariants.{OutOfMemory as NoMemory};
@@ -37,13 +41,17 @@ pub(crate) trait Item: Drop + Sized {
     /// What is read of a value that was written.
     ghost again: { Self → Self };
 
+    /// The value alone, of its type.
+    ghost alone: { Self → Scalar };
+
     /// Reads a value. `OutOfMemory` says that memory ran out.
     fn read(alloc: Global, text: &str) -> Result<Self, TextFault>
         ensures { Answers (said text.now) result };
 
     /// Appends the value, or says that memory ran out.
     fn put(&self, alloc: Global, out: &mut Writer) -> Result<(), TextFault>
-        ensures put { OnOk result (Puts said out.old out.new (again self.now)) }
+        ensures put { OnOk result
+            (PutsItem said out.old out.new (alone self.now) (again self.now)) }
         ensures refused { IfErr result (λ e. e ≡ NoMemory) };
 }
 
@@ -51,7 +59,8 @@ pub(crate) trait Item: Drop + Sized {
 
 /// Appends a number as it is spelled; what is none of JSON's, as `NaN`, as a string.
 fn put_number(out: &mut Writer, text: &str) -> Result<(), TextFault>
-    ensures put { OnOk result (PutsText out.old out.new text.now) }
+    ensures put { OnOk result
+        ((item : Token) × IsNumberItem text.now item × AppendsItem out.old out.new item) }
     ensures refused { IfErr result (λ e. e ≡ OutOfMemory) }
 {
     if is_number(text) {
@@ -64,7 +73,7 @@ fn put_number(out: &mut Writer, text: &str) -> Result<(), TextFault>
 
 /// Appends a string.
 fn put_string(out: &mut Writer, text: &str) -> Result<(), TextFault>
-    ensures put { OnOk result (PutsText out.old out.new text.now) }
+    ensures put { OnOk result (AppendsItem out.old out.new (token.string text.now)) }
     ensures refused { IfErr result (λ e. e ≡ OutOfMemory) }
 {
     out.string(text)?;
@@ -74,7 +83,7 @@ fn put_string(out: &mut Writer, text: &str) -> Result<(), TextFault>
 /// Appends ASCII text as a string.
 fn put_ascii(out: &mut Writer, text: &[u8]) -> Result<(), TextFault>
     requires { IsAscii text.now }
-    ensures put { OnOk result (PutsText out.old out.new text.now) }
+    ensures put { OnOk result (AppendsItem out.old out.new (token.string text.now)) }
     ensures refused { IfErr result (λ e. e ≡ OutOfMemory) }
 {
     match str::from_utf8(text) {
@@ -85,7 +94,7 @@ fn put_ascii(out: &mut Writer, text: &[u8]) -> Result<(), TextFault>
 
 /// Appends a whole number.
 fn put_signed(out: &mut Writer, value: i64) -> Result<(), TextFault>
-    ensures put { OnOk result (PutsText out.old out.new (signed_decimal value)) }
+    ensures put { OnOk result (AppendsItem out.old out.new (token.number (signed_decimal value))) }
     ensures refused { IfErr result (λ e. e ≡ OutOfMemory) }
 {
     out.i64(value)?;
@@ -94,7 +103,7 @@ fn put_signed(out: &mut Writer, value: i64) -> Result<(), TextFault>
 
 /// Appends a whole number without a sign.
 fn put_unsigned(out: &mut Writer, value: u64) -> Result<(), TextFault>
-    ensures put { OnOk result (PutsText out.old out.new (decimal value)) }
+    ensures put { OnOk result (AppendsItem out.old out.new (token.number (decimal value))) }
     ensures refused { IfErr result (λ e. e ≡ OutOfMemory) }
 {
     out.u64(value)?;
@@ -104,7 +113,8 @@ fn put_unsigned(out: &mut Writer, value: u64) -> Result<(), TextFault>
 /// Appends a whole number of 8 bits.
 fn put_i8(out: &mut Writer, value: i8) -> Result<(), TextFault>
     ensures put { OnOk result
-        (Puts (or_fault NoInteger (signed_in (2 ^ 7))) out.old out.new value) }
+        (PutsItem (or_fault NoInteger (signed_in (2 ^ 7))) out.old out.new
+        (scalar.SByte value) value) }
     ensures refused { IfErr result (λ e. e ≡ OutOfMemory) }
 {
     put_signed(out, i64::from(value))
@@ -113,7 +123,8 @@ fn put_i8(out: &mut Writer, value: i8) -> Result<(), TextFault>
 /// Appends a whole number of 16 bits.
 fn put_i16(out: &mut Writer, value: i16) -> Result<(), TextFault>
     ensures put { OnOk result
-        (Puts (or_fault NoInteger (signed_in (2 ^ 15))) out.old out.new value) }
+        (PutsItem (or_fault NoInteger (signed_in (2 ^ 15))) out.old out.new
+        (scalar.Int16 value) value) }
     ensures refused { IfErr result (λ e. e ≡ OutOfMemory) }
 {
     put_signed(out, i64::from(value))
@@ -122,7 +133,8 @@ fn put_i16(out: &mut Writer, value: i16) -> Result<(), TextFault>
 /// Appends a whole number of 32 bits.
 fn put_i32(out: &mut Writer, value: i32) -> Result<(), TextFault>
     ensures put { OnOk result
-        (Puts (or_fault NoInteger (signed_in (2 ^ 31))) out.old out.new value) }
+        (PutsItem (or_fault NoInteger (signed_in (2 ^ 31))) out.old out.new
+        (scalar.Int32 value) value) }
     ensures refused { IfErr result (λ e. e ≡ OutOfMemory) }
 {
     put_signed(out, i64::from(value))
@@ -131,7 +143,8 @@ fn put_i32(out: &mut Writer, value: i32) -> Result<(), TextFault>
 /// Appends a whole number of 64 bits.
 fn put_i64(out: &mut Writer, value: i64) -> Result<(), TextFault>
     ensures put { OnOk result
-        (Puts (or_fault NoInteger (signed_in (2 ^ 63))) out.old out.new value) }
+        (PutsItem (or_fault NoInteger (signed_in (2 ^ 63))) out.old out.new
+        (scalar.Int64 value) value) }
     ensures refused { IfErr result (λ e. e ≡ OutOfMemory) }
 {
     put_signed(out, value)
@@ -140,7 +153,8 @@ fn put_i64(out: &mut Writer, value: i64) -> Result<(), TextFault>
 /// Appends a whole number of 8 bits without a sign.
 fn put_u8(out: &mut Writer, value: u8) -> Result<(), TextFault>
     ensures put { OnOk result
-        (Puts (or_fault NoInteger (unsigned_in 8)) out.old out.new value) }
+        (PutsItem (or_fault NoInteger (unsigned_in 8)) out.old out.new
+        (scalar.Byte value) value) }
     ensures refused { IfErr result (λ e. e ≡ OutOfMemory) }
 {
     put_unsigned(out, u64::from(value))
@@ -149,7 +163,8 @@ fn put_u8(out: &mut Writer, value: u8) -> Result<(), TextFault>
 /// Appends a whole number of 16 bits without a sign.
 fn put_u16(out: &mut Writer, value: u16) -> Result<(), TextFault>
     ensures put { OnOk result
-        (Puts (or_fault NoInteger (unsigned_in 16)) out.old out.new value) }
+        (PutsItem (or_fault NoInteger (unsigned_in 16)) out.old out.new
+        (scalar.UInt16 value) value) }
     ensures refused { IfErr result (λ e. e ≡ OutOfMemory) }
 {
     put_unsigned(out, u64::from(value))
@@ -158,7 +173,8 @@ fn put_u16(out: &mut Writer, value: u16) -> Result<(), TextFault>
 /// Appends a whole number of 32 bits without a sign.
 fn put_u32(out: &mut Writer, value: u32) -> Result<(), TextFault>
     ensures put { OnOk result
-        (Puts (or_fault NoInteger (unsigned_in 32)) out.old out.new value) }
+        (PutsItem (or_fault NoInteger (unsigned_in 32)) out.old out.new
+        (scalar.UInt32 value) value) }
     ensures refused { IfErr result (λ e. e ≡ OutOfMemory) }
 {
     put_unsigned(out, u64::from(value))
@@ -167,7 +183,8 @@ fn put_u32(out: &mut Writer, value: u32) -> Result<(), TextFault>
 /// Appends a whole number of 64 bits without a sign.
 fn put_u64(out: &mut Writer, value: u64) -> Result<(), TextFault>
     ensures put { OnOk result
-        (Puts (or_fault NoInteger (unsigned_in 64)) out.old out.new value) }
+        (PutsItem (or_fault NoInteger (unsigned_in 64)) out.old out.new
+        (scalar.UInt64 value) value) }
     ensures refused { IfErr result (λ e. e ≡ OutOfMemory) }
 {
     put_unsigned(out, value)
@@ -179,6 +196,8 @@ impl Item for bool {
     ghost said = { or_fault NoBoolean boolean_in };
 
     ghost again = { λ b. b };
+
+    ghost alone = { scalar.Boolean };
 
     fn read(_alloc: Global, text: &str) -> Result<bool, TextFault> {
         boolean_in(text).ok_or(TextFault::NoBoolean)
@@ -195,6 +214,8 @@ impl Item for i8 {
 
     ghost again = { λ z. z };
 
+    ghost alone = { scalar.SByte };
+
     fn read(_alloc: Global, text: &str) -> Result<i8, TextFault> {
         i8_in(text).ok_or(TextFault::NoInteger)
     }
@@ -208,6 +229,8 @@ impl Item for i16 {
     ghost said = { or_fault NoInteger (signed_in (2 ^ 15)) };
 
     ghost again = { λ z. z };
+
+    ghost alone = { scalar.Int16 };
 
     fn read(_alloc: Global, text: &str) -> Result<i16, TextFault> {
         i16_in(text).ok_or(TextFault::NoInteger)
@@ -223,6 +246,8 @@ impl Item for i32 {
 
     ghost again = { λ z. z };
 
+    ghost alone = { scalar.Int32 };
+
     fn read(_alloc: Global, text: &str) -> Result<i32, TextFault> {
         i32_in(text).ok_or(TextFault::NoInteger)
     }
@@ -236,6 +261,8 @@ impl Item for i64 {
     ghost said = { or_fault NoInteger (signed_in (2 ^ 63)) };
 
     ghost again = { λ z. z };
+
+    ghost alone = { scalar.Int64 };
 
     fn read(_alloc: Global, text: &str) -> Result<i64, TextFault> {
         i64_in(text).ok_or(TextFault::NoInteger)
@@ -251,6 +278,8 @@ impl Item for u8 {
 
     ghost again = { λ n. n };
 
+    ghost alone = { scalar.Byte };
+
     fn read(_alloc: Global, text: &str) -> Result<u8, TextFault> {
         u8_in(text).ok_or(TextFault::NoInteger)
     }
@@ -264,6 +293,8 @@ impl Item for u16 {
     ghost said = { or_fault NoInteger (unsigned_in 16) };
 
     ghost again = { λ n. n };
+
+    ghost alone = { scalar.UInt16 };
 
     fn read(_alloc: Global, text: &str) -> Result<u16, TextFault> {
         u16_in(text).ok_or(TextFault::NoInteger)
@@ -279,6 +310,8 @@ impl Item for u32 {
 
     ghost again = { λ n. n };
 
+    ghost alone = { scalar.UInt32 };
+
     fn read(_alloc: Global, text: &str) -> Result<u32, TextFault> {
         u32_in(text).ok_or(TextFault::NoInteger)
     }
@@ -293,6 +326,8 @@ impl Item for u64 {
 
     ghost again = { λ n. n };
 
+    ghost alone = { scalar.UInt64 };
+
     fn read(_alloc: Global, text: &str) -> Result<u64, TextFault> {
         u64_in(text).ok_or(TextFault::NoInteger)
     }
@@ -306,6 +341,8 @@ impl Item for [u8; 4] {
     ghost said = { or_fault NoFloat single_in };
 
     ghost again = { single_again };
+
+    ghost alone = { scalar.Float };
 
     fn read(_alloc: Global, text: &str) -> Result<[u8; 4], TextFault> {
         single_in(text).ok_or(TextFault::NoFloat)
@@ -322,6 +359,8 @@ impl Item for [u8; 8] {
 
     ghost again = { double_again };
 
+    ghost alone = { scalar.Double };
+
     fn read(_alloc: Global, text: &str) -> Result<[u8; 8], TextFault> {
         double_in(text).ok_or(TextFault::NoFloat)
     }
@@ -336,6 +375,8 @@ impl Item for Option<Text> {
     ghost said = { λ text. Ok (Some text) };
 
     ghost again = { never_null };
+
+    ghost alone = { scalar.String };
 
     fn read(alloc: Global, text: &str) -> Result<Option<Text>, TextFault> {
         Ok(Some(Text::from_str(alloc, text)?))
@@ -354,6 +395,8 @@ impl Item for Ticks {
 
     ghost again = { λ ticks. ticks };
 
+    ghost alone = { scalar.DateTime };
+
     fn read(_alloc: Global, text: &str) -> Result<Ticks, TextFault> {
         ticks_in(text).ok_or(TextFault::NoTime)
     }
@@ -368,6 +411,8 @@ impl Item for Guid {
     ghost said = { or_fault NoGuid guid_in };
 
     ghost again = { λ guid. guid };
+
+    ghost alone = { scalar.Guid };
 
     fn read(_alloc: Global, text: &str) -> Result<Guid, TextFault> {
         guid_in(text.as_bytes()).ok_or(TextFault::NoGuid)
@@ -384,6 +429,8 @@ impl Item for Option<Bytes> {
 
     ghost again = { never_null };
 
+    ghost alone = { scalar.ByteString };
+
     fn read(alloc: Global, text: &str) -> Result<Option<Bytes>, TextFault> {
         bytes_in(alloc, text).map(Some)
     }
@@ -398,6 +445,8 @@ impl Item for Status {
     ghost said = { or_fault NoStatus status_in };
 
     ghost again = { kept };
+
+    ghost alone = { scalar.StatusCode };
 
     fn read(_alloc: Global, text: &str) -> Result<Status, TextFault> {
         status_in(text).ok_or(TextFault::NoStatus)

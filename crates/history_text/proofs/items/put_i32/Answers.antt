@@ -1,13 +1,15 @@
-use Rattle.std.proofs.Common.{◌≡◌, ◌^◌, Ok, OnOk, w32, w64, of_z, to_z, ap, ok_or, subst, sym, ◌∙◌}
+use Rattle.std.proofs.Common.{◌≡◌, ◌^◌, Ok, OnOk, refl, w32, w64, of_z, to_z, ap, ok_or, subst, sym, ◌∙◌}
 use Rattle.std.specs.Fmt.{signed_decimal}
 use Rattle.std.specs.Int.RustNames.{FitsSigned}
 use Rattle.std.proofs.lemmas.Int.{to_z-of_z}
 use Rattle.std.proofs.lemmas.Result.{on_ok_weaker}
-use Rattle.history_text.specs.Arrays.{or_fault, PutsText}
+use Rattle.history_text.specs.Arrays.{or_fault, AppendsItem}
 use Rattle.history_text.specs.Numbers.{signed_in}
 use Rattle.history_text.specs.declared.fault.TextFault.TheVariants.{NoInteger}
-use Rattle.history_text.proofs.ItemsLemmas.{puts_said}
+use Rattle.history_text.proofs.ItemsLemmas.{puts_number}
 use Rattle.history_text.proofs.NumbersLemmas.{read_w32, wide_w32}
+use Rattle.json.specs.Token as token
+use Rattle.ua_variant.specs.declared.value.Scalar.TheVariants as scalar
 use Rattle.history_text.proofs.items.put_i32.Goals as goal
 
 pub returns-clause-put : goal.returns-clause-put
@@ -21,8 +23,8 @@ returns-clause-put c =
     to_z-of_z w64 c.from.result
     (subst (FitsSigned w64) (sym from) (wide_w32 c.args.value c.ranges.value)) ∙ from in
     on_ok_weaker c.put_signed.result
-    (puts_said said c.args.out.now c.put_signed.new.out (signed_decimal c.args.value) c.args.value
-    says)
+    (puts_number said c.args.out.now c.put_signed.new.out (scalar.Int32 c.args.value)
+    (signed_decimal c.args.value) c.args.value tt refl says)
     (subst (λ z. OnOk c.put_signed.result
-    (PutsText c.args.out.now c.put_signed.new.out (signed_decimal z))) same
+    (AppendsItem c.args.out.now c.put_signed.new.out (token.number (signed_decimal z)))) same
     c.put_signed.ensures.put)

@@ -1,11 +1,13 @@
-use Rattle.std.proofs.Common.{◌≡◌, Ok, OnOk, ap, ok_or, subst, arith}
+use Rattle.std.proofs.Common.{◌≡◌, Ok, refl, ap, ok_or, arith}
 use Rattle.std.specs.Fmt.{decimal}
 use Rattle.std.proofs.lemmas.Result.{on_ok_weaker}
-use Rattle.history_text.specs.Arrays.{or_fault, PutsText}
+use Rattle.history_text.specs.Arrays.{or_fault}
 use Rattle.history_text.specs.Numbers.{unsigned_in}
 use Rattle.history_text.specs.declared.fault.TextFault.TheVariants.{NoInteger}
-use Rattle.history_text.proofs.ItemsLemmas.{puts_said}
+use Rattle.history_text.proofs.ItemsLemmas.{puts_number}
 use Rattle.history_text.proofs.NumbersLemmas.{read_unsigned}
+use Rattle.json.specs.Token as token
+use Rattle.ua_variant.specs.declared.value.Scalar.TheVariants as scalar
 use Rattle.history_text.proofs.items.put_u64.Goals as goal
 
 pub returns-clause-put : goal.returns-clause-put
@@ -15,5 +17,6 @@ returns-clause-put c =
     ap (λ o. ok_or o NoInteger)
     (read_unsigned 64 c.args.value (omega arith) (omega (arith, c.ranges.value.fits))) in
     on_ok_weaker c.put_unsigned.result
-    (puts_said said c.args.out.now c.put_unsigned.new.out (decimal c.args.value) c.args.value says)
+    (puts_number said c.args.out.now c.put_unsigned.new.out (scalar.UInt64 c.args.value)
+    (decimal c.args.value) c.args.value tt refl says)
     c.put_unsigned.ensures.put

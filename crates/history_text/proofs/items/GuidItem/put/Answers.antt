@@ -2,9 +2,10 @@ use Rattle.std.proofs.Common.{ap, ok_or, subst, sym, ◌∙◌}
 use Rattle.std.specs.Str.{IsAscii}
 use Rattle.std.proofs.lemmas.Result.{on_ok_weaker}
 use Rattle.history_text.specs.Arrays.{or_fault}
+use Rattle.ua_variant.specs.declared.value.Scalar.TheVariants.{Guid}
 use Rattle.history_text.specs.Guids.{guid_in}
 use Rattle.history_text.specs.declared.fault.TextFault.TheVariants.{NoGuid}
-use Rattle.history_text.proofs.ItemsLemmas.{puts_said}
+use Rattle.history_text.proofs.ItemsLemmas.{puts_string}
 use Rattle.history_text.proofs.items.GuidItem.put.Goals as goal
 
 pub put_ascii-requires : goal.put_ascii-requires
@@ -12,7 +13,11 @@ put_ascii-requires c =
     subst IsAscii (sym c.as_slice.ensures.value) c.in_ok-text.ensures.ascii
 
 pub returns-clause-put : goal.returns-clause-put
-returns-clause-put c = on_ok_weaker c.put_ascii.result
-    (puts_said (or_fault NoGuid guid_in) c.args.out.now c.put_ascii.new.out c.as_slice.result.now
-    c.args.self.now (ap (λ o. ok_or o NoGuid)
+returns-clause-put c =
+    let text = c.as_slice.result.now in
+    on_ok_weaker c.put_ascii.result
+    (puts_string (or_fault NoGuid guid_in) c.args.out.now c.put_ascii.new.out
+    (Guid c.args.self.now) text c.args.self.now (λ numeric spelled. numeric)
+    (c.as_slice.ensures.value ∙ c.in_ok-text.ensures.written)
+    (ap (λ o. ok_or o NoGuid)
     (ap guid_in c.as_slice.ensures.value ∙ c.in_ok-text.ensures.read))) c.put_ascii.ensures.put
