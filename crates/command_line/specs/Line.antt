@@ -42,6 +42,10 @@ now = record (option (codes "now")) { parser = Some (Unsigned 0 9223372036854775
 abbrev pub connections : Rule
 connections = record (option (codes "connections")) { parser = Some (Unsigned 1 4294967295) }
 
+-- a word without a name: the path of a file
+abbrev pub file : Rule
+file = record (new_rule (codes "file")) { action = Some Set; value_names = 1 }
+
 -- a command of this name with these options
 abbrev pub command : Text → List Rule → App
 command name options = fold with_rule (new_app name) options
@@ -88,9 +92,9 @@ rows_command =
     command (codes "import")
     (needed (codes "settings") ∷ needed (codes "user") ∷ option (codes "perform") ∷ [])
 
--- the same with `[--server ADDRESS]`: `import` with its options
+-- the same with `[--server ADDRESS] [FILE.csv]`: `import` with its options and its argument
 abbrev pub import_command : App
-import_command = with_rule rows_command (option (codes "server"))
+import_command = with_rule (with_rule rows_command (option (codes "server"))) file
 
 -- `check --settings FILE [--store]`
 abbrev pub check_command : App
@@ -210,12 +214,21 @@ perform_named word =
 abbrev pub perform_in : Option Text → Option PerformWord
 perform_in given = elim given [ None ↦ Some Insert | Some word ↦ perform_named word ]
 
--- what rows ask of an import: in whose name, what is done with the values that it brings, and
--- which running server they are brought to, if one is named
+-- the path of a file that a word names: none where it is `-`, which is standard input
+abbrev pub file_in : Option Text → Option Text
+file_in given =
+    elim given [
+      | None ↦ None
+      | Some word ↦ if pointwise nat_eq word (codes "-") then None else Some word
+    ]
+
+-- what rows ask of an import: in whose name, what is done with the values that it brings, which
+-- running server they are brought to, if one is named, and which file has them, if one does
 pub record AreImportWords (rows : List Row) (asked : ImportWords) : Type 0 where
   pub user : first_of (codes "user") rows ≡ Some asked.user.now
   pub perform : perform_in (first_of (codes "perform") rows) ≡ Some asked.perform
   pub server : option_copied asked.server ≡ first_of (codes "server") rows
+  pub file : option_copied asked.file ≡ file_in (first_of (codes "file") rows)
 
 -- what the rows of `import` give
 abbrev pub IsImportCommand : List Row → Line → Type 0
@@ -271,7 +284,7 @@ usage =
     ++ codes " | dump --settings FILE | sync --settings FILE --peer ADDRESS [--check] [--verify]"
     ++ codes " | history --settings FILE --node ID [--from T] [--to T] [--changes] [--csv] [--html]"
     ++ codes " | import --settings FILE --user NAME [--perform insert|replace|update]"
-    ++ codes " [--server ADDRESS] | check --settings FILE [--store]"
+    ++ codes " [--server ADDRESS] [FILE.csv] | check --settings FILE [--store]"
 
 -- the text that tells a refused command line
 abbrev pub line_text_of : LineFault → List ℕ

@@ -6,8 +6,8 @@ ghost use Rattle.clap.specs.declared.builder.command.Command.TheViews.{out-Comma
 ghost use Rattle.clap.specs.declared.error.ErrorKind.TheVariants as clap;
 ghost use Rattle.clap.specs.Takes.{takes};
 ghost use Rattle.clap.specs.Faults.{fault_of as fault_kinds};
-ghost use Rattle.command_line.specs.Line.{Asks, AsksForText, AreHistoryWords, IsLine, option, uahist, IsAnswer, IsCheck, IsServe, IsDump, IsHistoryCommand, IsImportCommand, AreSyncWords, IsMistake, IsSync, IsText, IsTextOf, NoLine, movers, node_command, perform_in, perform_named, servers, span_command};
-ghost use Rattle.command_line.specs.Line.{answer_command, call_command, check_command, connections, dump_command, flag, histories, history_command, import_command, now, rows_command, serve_command, sync_command};
+ghost use Rattle.command_line.specs.Line.{Asks, AsksForText, AreHistoryWords, IsLine, option, uahist, IsAnswer, IsCheck, IsServe, IsDump, IsHistoryCommand, IsImportCommand, AreSyncWords, IsMistake, IsSync, IsText, IsTextOf, NoLine, movers, node_command, file_in, perform_in, perform_named, servers, span_command};
+ghost use Rattle.command_line.specs.Line.{answer_command, call_command, check_command, connections, dump_command, file, flag, histories, history_command, import_command, now, rows_command, serve_command, sync_command};
 
 use clap::builder::ValueParser;
 use clap::error::{Error as Refusal, ErrorKind};
@@ -56,7 +56,8 @@ pub enum Line<'a> {
         settings: &'a str,
         asked: HistoryWords<'a>,
     },
-    /// Write the rows of standard input into the archive that the file at `settings` sets, or bring them to a running server.
+    /// Write the rows of a file, or of standard input, into the archive that the file at `settings` sets, or bring them to a
+    /// running server.
     Import {
         settings: &'a str,
         asked: ImportWords<'a>,
@@ -99,6 +100,8 @@ pub struct ImportWords<'a> {
     pub perform: PerformWord,
     /// The address of the running server that they are brought to; without one they are written into the settings' store.
     pub server: Option<&'a str>,
+    /// The path of the file that has the rows; without one they are those of standard input.
+    pub file: Option<&'a str>,
 }
 
 /// What a command line asks of a node's history, in its own words.
@@ -145,7 +148,7 @@ impl LineFault {
     {
         match self {
             LineFault::Words =>
-                "usage: uahist answer [--settings FILE] [--hex] [--now N] | serve --settings FILE [--connections N] | dump --settings FILE | sync --settings FILE --peer ADDRESS [--check] [--verify] | history --settings FILE --node ID [--from T] [--to T] [--changes] [--csv] [--html] | import --settings FILE --user NAME [--perform insert|replace|update] [--server ADDRESS] | check --settings FILE [--store]",
+                "usage: uahist answer [--settings FILE] [--hex] [--now N] | serve --settings FILE [--connections N] | dump --settings FILE | sync --settings FILE --peer ADDRESS [--check] [--verify] | history --settings FILE --node ID [--from T] [--to T] [--changes] [--csv] [--html] | import --settings FILE --user NAME [--perform insert|replace|update] [--server ADDRESS] [FILE.csv] | check --settings FILE [--store]",
             LineFault::OutOfMemory => "memory ran out before the command began",
         }
     }
@@ -455,6 +458,19 @@ fn server_option<'a>(alloc: Global) -> Arg<'a>
         .action(ArgAction::Set)
 }
 
+/// The argument `FILE.csv`, which stands without a name.
+fn file_argument<'a>(alloc: Global) -> Arg<'a>
+    ensures rule { rule_of result ≡ file }
+    ensures local { result.global ≡ false }
+{
+    Arg::new(alloc, "file")
+        .value_name("FILE.csv")
+        .help(
+            "The file that has the rows; without it, or where it is -, they are those of standard input",
+        )
+        .action(ArgAction::Set)
+}
+
 /// The command `import` with the options that don't say where to.
 fn rows_command<'a>(alloc: Global) -> Result<Command<'a>, AllocError>
     ensures app { IfOk result (λ command. app_of command ≡ rows_command) }
@@ -464,20 +480,21 @@ fn rows_command<'a>(alloc: Global) -> Result<Command<'a>, AllocError>
     let user = user_option(alloc).required(true);
     let perform = perform_option(alloc);
     let command = Command::new(alloc, "import").about(
-        "Writes the values of CSV from standard input, as history --csv prints them",
+        "Writes the values of CSV, as history --csv prints them",
     );
     let command = command.arg(settings)?.arg(user)?.arg(perform)?;
     Ok(command)
 }
 
-/// The command `import` and its options.
+/// The command `import` with its options and its argument.
 fn import_command<'a>(alloc: Global) -> Result<Command<'a>, AllocError>
     ensures app { IfOk result (λ command. app_of command ≡ import_command) }
     ensures local { IfOk result (λ command. (out-Command command).has_globals ≡ false) }
 {
     let server = server_option(alloc);
+    let file = file_argument(alloc);
     let command = rows_command(alloc)?;
-    let command = command.arg(server)?;
+    let command = command.arg(server)?.arg(file)?;
     Ok(command)
 }
 
@@ -703,7 +720,17 @@ fn perform_in(word: Option<&str>) -> Option<PerformWord>
     }
 }
 
-/// Reads the options of `import`.
+/// The path of a file of rows: none where the word is `-`, which is standard input.
+fn file_in(word: Option<&str>) -> Option<&str>
+    ensures { option_copied result ≡ file_in (option_copied word.entry) }
+{
+    match word {
+        Some("-") => None,
+        word => word,
+    }
+}
+
+/// Reads the options of `import`, and its argument.
 fn read_import<'a>(import: &ArgMatches<'a>) -> Result<Line<'a>, LineFault>
     ensures ok { IfOk result (IsImportCommand (rows_of (found_of import.now))) }
     ensures words { OnErr result (NoLine (IsImportCommand (rows_of (found_of import.now)))) }
@@ -715,6 +742,7 @@ fn read_import<'a>(import: &ArgMatches<'a>) -> Result<Line<'a>, LineFault>
         return Err(LineFault::Words);
     };
     let server = import.get_str("server");
+    let file = import.get_str("file");
     match perform_in(import.get_str("perform")) {
         Some(perform) => Ok(Line::Import {
             settings,
@@ -722,6 +750,7 @@ fn read_import<'a>(import: &ArgMatches<'a>) -> Result<Line<'a>, LineFault>
                 user,
                 perform,
                 server,
+                file: file_in(file),
             },
         }),
         None => Err(LineFault::Words),

@@ -15,7 +15,7 @@ use ua_server::{
 use uuid::Uuid;
 
 /// Command lines, and what they are.
-static LINES: [(&[&str], Result<Line<'static>, LineFault>); 54] = [
+static LINES: [(&[&str], Result<Line<'static>, LineFault>); 59] = [
     (
         &[
             "uahist",
@@ -168,6 +168,7 @@ static LINES: [(&[&str], Result<Line<'static>, LineFault>); 54] = [
                 user: "ann",
                 perform: PerformWord::Insert,
                 server: None,
+                file: None,
             },
         }),
     ),
@@ -187,6 +188,7 @@ static LINES: [(&[&str], Result<Line<'static>, LineFault>); 54] = [
                 user: "ann",
                 perform: PerformWord::Replace,
                 server: None,
+                file: None,
             },
         }),
     ),
@@ -206,8 +208,75 @@ static LINES: [(&[&str], Result<Line<'static>, LineFault>); 54] = [
                 user: "ann",
                 perform: PerformWord::Update,
                 server: Some("127.0.0.1:4840"),
+                file: None,
             },
         }),
+    ),
+    (
+        &[
+            "uahist",
+            "import",
+            "--settings=a",
+            "--user=ann",
+            "--server=b",
+            "rows.csv",
+        ],
+        Ok(Line::Import {
+            settings: "a",
+            asked: ImportWords {
+                user: "ann",
+                perform: PerformWord::Insert,
+                server: Some("b"),
+                file: Some("rows.csv"),
+            },
+        }),
+    ),
+    (
+        &["uahist", "import", "rows.csv", "--user=ann", "--settings=a"],
+        Ok(Line::Import {
+            settings: "a",
+            asked: ImportWords {
+                user: "ann",
+                perform: PerformWord::Insert,
+                server: None,
+                file: Some("rows.csv"),
+            },
+        }),
+    ),
+    (
+        &["uahist", "import", "--settings=a", "--user=ann", "-"],
+        Ok(Line::Import {
+            settings: "a",
+            asked: ImportWords {
+                user: "ann",
+                perform: PerformWord::Insert,
+                server: None,
+                file: None,
+            },
+        }),
+    ),
+    (
+        &["uahist", "import", "--settings=a", "--user=ann", "--", "-b"],
+        Ok(Line::Import {
+            settings: "a",
+            asked: ImportWords {
+                user: "ann",
+                perform: PerformWord::Insert,
+                server: None,
+                file: Some("-b"),
+            },
+        }),
+    ),
+    (
+        &[
+            "uahist",
+            "import",
+            "--settings=a",
+            "--user=ann",
+            "rows.csv",
+            "more.csv",
+        ],
+        Err(LineFault::Words),
     ),
     (
         &["uahist", "import", "--settings", "a"],
@@ -679,7 +748,7 @@ static RUNS: [(&[&str], &[u8], usize, &str, &str, u8); 62] = [
         b"",
         1000,
         "",
-        "uahist: usage: uahist answer [--settings FILE] [--hex] [--now N] | serve --settings FILE [--connections N] | dump --settings FILE | sync --settings FILE --peer ADDRESS [--check] [--verify] | history --settings FILE --node ID [--from T] [--to T] [--changes] [--csv] [--html] | import --settings FILE --user NAME [--perform insert|replace|update] [--server ADDRESS] | check --settings FILE [--store]\n",
+        "uahist: usage: uahist answer [--settings FILE] [--hex] [--now N] | serve --settings FILE [--connections N] | dump --settings FILE | sync --settings FILE --peer ADDRESS [--check] [--verify] | history --settings FILE --node ID [--from T] [--to T] [--changes] [--csv] [--html] | import --settings FILE --user NAME [--perform insert|replace|update] [--server ADDRESS] [FILE.csv] | check --settings FILE [--store]\n",
         2,
     ),
     (
@@ -947,7 +1016,7 @@ static RUNS: [(&[&str], &[u8], usize, &str, &str, u8); 62] = [
 ];
 
 /// The same of imports.
-static IMPORTS: [(&[&str], &[u8], usize, &str, &str, u8); 13] = [
+static IMPORTS: [(&[&str], &[u8], usize, &str, &str, u8); 19] = [
     (
         &[
             "uahist",
@@ -1132,7 +1201,110 @@ static IMPORTS: [(&[&str], &[u8], usize, &str, &str, u8); 13] = [
         "uahist: settings file can't be read\n",
         2,
     ),
+    (
+        &[
+            "uahist",
+            "import",
+            "--settings",
+            "kept",
+            "--user",
+            "anonymous",
+            "rows.csv",
+        ],
+        b"",
+        1000,
+        "row 1: 80340000 Bad_NodeIdUnknown\n1 row: 1 refused\n",
+        "uahist: rows refused (1)\n",
+        1,
+    ),
+    (
+        &[
+            "uahist",
+            "import",
+            "--settings",
+            "kept",
+            "--user",
+            "anonymous",
+            "-",
+        ],
+        b"node,time,value,status\n",
+        1000,
+        "0 rows\n",
+        "",
+        0,
+    ),
+    (
+        &[
+            "uahist",
+            "import",
+            "--settings",
+            "kept",
+            "--user",
+            "anonymous",
+            "no.csv",
+        ],
+        b"node,time,value,status\n",
+        1000,
+        "",
+        "uahist: rows refused: the file can't be opened\n",
+        2,
+    ),
+    (
+        &[
+            "uahist",
+            "import",
+            "--settings",
+            "kept",
+            "--user",
+            "ann",
+            "rows.csv",
+        ],
+        b"",
+        1000,
+        "",
+        "uahist: --user: want a user of the settings who may write\n",
+        2,
+    ),
+    (
+        &[
+            "uahist",
+            "import",
+            "--settings",
+            "good",
+            "--user",
+            "anonymous",
+            "--server",
+            "127.0.0.1:4844",
+            "rows.csv",
+        ],
+        b"",
+        1000,
+        "",
+        "uahist: import ended: the server refused it (2155675648)\n",
+        1,
+    ),
+    (
+        &[
+            "uahist",
+            "import",
+            "--settings",
+            "good",
+            "--user",
+            "anonymous",
+            "--server",
+            "127.0.0.1:4844",
+            "no.csv",
+        ],
+        b"node,time,value,status\n",
+        1000,
+        "",
+        "uahist: rows refused: the file can't be opened\n",
+        2,
+    ),
 ];
+
+/// Files of rows.
+static ROWS: [(&str, &[u8]); 1] = [("rows.csv", b"node,time,value,status\nns=1;s=T,@5,5,\n")];
 
 /// What is told of settings that name a store.
 const TOLD: &str = "archive 00000000-0000-0000-0000-000000000000, replica 1\n\
@@ -1464,6 +1636,8 @@ impl Host for Machine {
 
     type Writer = Narrow;
 
+    type Rows = &'static [u8];
+
     ghost means = { unknown_machine };
 
     fn read(&mut self, path: &str) -> Option<String> {
@@ -1476,6 +1650,11 @@ impl Host for Machine {
             Some((_, mode)) => *mode,
             None => Some(0o100_600),
         }
+    }
+
+    fn open_rows(&mut self, path: &str) -> Option<&'static [u8]> {
+        let (_, rows) = ROWS.iter().find(|(name, _)| *name == path)?;
+        Some(rows)
     }
 
     fn has_store(&self, path: &str) -> bool {
@@ -1666,6 +1845,11 @@ fn tells_each_fault(rt: HostRuntime) {
             ProgramFault::UnreadRows,
             "uahist: import ended: the rows can't be read\n",
             1,
+        ),
+        (
+            ProgramFault::NoRows,
+            "uahist: rows refused: the file can't be opened\n",
+            2,
         ),
         (
             ProgramFault::NumberTwice(17),

@@ -11,7 +11,7 @@ all-more : {X : Type 0} (P : X → Type 0) (xs : List X) (x : X) → AllByRecurs
 all-more P [] x all one = (one, all)
 all-more P (y ∷ ys) x all one = (all.0, all-more P ys x all.1 one)
 
-module _ {H A L R W : Type 0} (machine : Machine H A L R W) (host : H) (settings : List ℕ) where
+module _ {H A L R W I : Type 0} (machine : Machine H A L R W I) (host : H) (settings : List ℕ) where
   abbrev Closed : List ℕ → Type 0
   Closed path = ExposesBeside machine host settings false path
 

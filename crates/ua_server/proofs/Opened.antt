@@ -23,7 +23,7 @@ use Rattle.ua_server.specs.declared.program.ProgramFault.TheVariants as program
 use Rattle.ua_server.specs.declared.program.StoreUse.{StoreUse}
 
 -- a command isn't refused by its settings, and their archive was opened, or can't be
-pub opened-unrefused : {H A L R W : Type 0} (machine : Machine H A L R W) (held : A → Store)
+pub opened-unrefused : {H A L R W I : Type 0} (machine : Machine H A L R W I) (held : A → Store)
     (uses : StoreUse) (refusal : Option ProgramFault) (settings : SettingsValues)
     (result : Result (SettingsValues × A) ProgramFault) (old new : H)
     (opening : Result A StoreFault) → refusal ≡ None

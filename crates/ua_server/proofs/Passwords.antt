@@ -6,7 +6,7 @@ use Rattle.ua_settings.specs.declared.password.PasswordLine.{PasswordLine}
 use Rattle.ua_server.specs.Host.{Machine}
 use Rattle.ua_server.specs.Passwords.{ReadsPassword, ReadsPasswords}
 
-module _ {H A L R W : Type 0} (machine : Machine H A L R W) (settings : List ℕ) where
+module _ {H A L R W I : Type 0} (machine : Machine H A L R W I) (settings : List ℕ) where
   abbrev One : List ℕ → Result (Option PasswordLine) (Unit {0}) → H → H → Type 0
   One path one a b = ReadsPassword machine settings path one a b
 

@@ -50,13 +50,13 @@ use Rattle.conversation.specs.declared.door.Door.TheVariants.{Both, Clients, Pee
 use Rattle.ua_server.specs.Network.{Serving}
 use Rattle.peer_check.specs.declared.comparing.Extent.{Extent}
 use Rattle.ua_server.specs.Calls.{compared_before}
-use Rattle.ua_server.specs.Program.{SettingsAt, FindsNoPlace, OpensBy, CallsPeer, Calling, ImportsTo, Scene, PrintsCall, PrintsSynced, Shows, Findings, IsMistaken, DoesCommand, DoesLine, Runs, OpensUnless, line_refusal, settings_path, store_use}
+use Rattle.ua_server.specs.Program.{SettingsAt, FindsNoPlace, OpensBy, CallsPeer, Calling, ImportsTo, ImportsFrom, Scene, PrintsCall, PrintsSynced, Shows, Findings, IsMistaken, DoesCommand, DoesLine, Runs, OpensUnless, line_refusal, settings_path, store_use}
 use Rattle.ua_server.specs.declared.program.StoreUse.{StoreUse}
 use Rattle.ua_server.specs.Telling.{Known, dump_fault, fault_of, report_fault, Readings}
 use Rattle.ua_server.proofs.ProgramParts.{IsUnbegun}
 
 -- no file is judged as a line
-unjudged : {H A L R W : Type 0} (machine : Machine H A L R W) (host : H) (path text : List ℕ)
+unjudged : {H A L R W I : Type 0} (machine : Machine H A L R W I) (host : H) (path text : List ℕ)
     (strict : Bool) (fault : LineFault) (why : ProgramFault)
     → JudgesStrict machine host path text strict (Err why) → why ≡ Line fault → ⊥
 unjudged machine host path text true fault why (inl starved) is = cc
@@ -64,7 +64,7 @@ unjudged machine host path text true fault why (inr (file, first, (place, told, 
 unjudged machine host path text false fault why judged is = cc
 
 -- settings aren't refused as a line for a file that is exposed
-untaken : {H A L R W : Type 0} (machine : Machine H A L R W) (host : H) (path text : List ℕ)
+untaken : {H A L R W I : Type 0} (machine : Machine H A L R W I) (host : H) (path text : List ℕ)
     (settings : SettingsValues) (fault : LineFault)
     → IsTaken machine host path text settings (Err (Line fault)) → ⊥
 untaken machine host path text settings fault (Ok done, judges, same) = cc
@@ -72,7 +72,7 @@ untaken machine host path text settings fault (Err why, judges, same) =
     unjudged machine host path text settings.is_strict fault why judges cc
 
 -- settings are refused as a line where memory for those without a file was wanting
-unset : {H A L R W : Type 0} (machine : Machine H A L R W) (path : Option (List ℕ))
+unset : {H A L R W I : Type 0} (machine : Machine H A L R W I) (path : Option (List ℕ))
     (fault : LineFault) (old new : H) → SettingsAt machine path (Err (Line fault)) old new
     → IsUnbegun fault × (new ≡ old)
 unset machine None fault old new so = so
@@ -122,7 +122,7 @@ unset machine (Some path) fault old new (
 ) = absurd cc
 
 -- a command is refused by its settings, or its archive can't be opened, not as such a line
-unopened-with : {H A L R W : Type 0} (machine : Machine H A L R W) (held : A → Store)
+unopened-with : {H A L R W I : Type 0} (machine : Machine H A L R W I) (held : A → Store)
     (uses : StoreUse) (refusal : Option ProgramFault) (settings : SettingsValues)
     (fault : LineFault) (old new : H)
     → ((why : ProgramFault) → refusal ≡ Some why → why ≡ Line fault → ⊥)
@@ -135,7 +135,7 @@ unopened-with machine held uses None settings fault old new never (Err cause, op
     absurd cc
 
 -- and then nothing was opened
-unopened : {H A L R W : Type 0} (machine : Machine H A L R W) (held : A → Store)
+unopened : {H A L R W I : Type 0} (machine : Machine H A L R W I) (held : A → Store)
     (uses : StoreUse) (refused_by : SettingsValues → Option ProgramFault)
     (path : Option (List ℕ)) (fault : LineFault) (old new : H)
     → ((settings : SettingsValues) (why : ProgramFault) → refused_by settings ≡ Some why
@@ -349,6 +349,20 @@ brought-line known (Some text) gave settings words first last old new line
 brought-line known (Some text) gave settings words first last old new line
     (kept, errors, inr (address, spells, brings)) = remote-line brings.ended line brings.told
 
+-- nor is one whose rows are a file's
+from-line : {C E : Type 0} (known : KnownMachine) (file : Option (Bor (List ℕ)))
+    (gave : Readings C) (settings : SettingsValues) (words : ImportWords)
+    (first last : known.Archive) (old new : Scene known.Host C E) (line : LineFault)
+    → ImportsFrom known file gave settings words first last old new (Err (Line line)) → ⊥
+from-line known None gave settings words first last old new line does =
+    brought-line known words.server gave settings words first last old new line does
+from-line known (Some path) gave settings words first last old new line
+    (inl (opens, same, stays, is)) = absurd cc
+from-line known (Some path) gave settings words first last old new line (inr from) =
+    brought-line known words.server gave settings words first last
+    (record old { unread = known.rows from.rows; host = from.opened })
+    (record new { unread = known.rows from.rest }) line from.imports
+
 -- no command ends as a refused line
 never-line : {C E : Type 0} (known : KnownMachine) (gave : Readings C) (told : Known E)
     (line : CommandLine) (settings : SettingsValues) (first last : known.Archive)
@@ -369,7 +383,7 @@ never-line known gave told (Sync path asked) settings first last old new fault (
 never-line known gave told (History path words) settings first last old new fault (same, so) =
     history-line known.held words first last old.written new.written fault so
 never-line known gave told (Import path words) settings first last old new fault does =
-    brought-line known words.server gave settings words first last old new fault does
+    from-line known words.file gave settings words first last old new fault does
 never-line known gave told (Check path store) settings first last old new fault (same, so) =
     told-line known.held settings store first last old.written new.written fault so
 

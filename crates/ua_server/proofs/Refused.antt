@@ -52,6 +52,7 @@ module _ {C E : Type 0} (known : KnownMachine) (gave : Readings C) (told : Known
   no-address program.NoText none same stays = absurd none
   no-address program.BadUser none same stays = absurd none
   no-address program.NoStore none same stays = absurd none
+  no-address program.NoRows none same stays = absurd none
   no-address program.NoHeader none same stays = absurd none
   no-address program.UnreadRows none same stays = absurd none
   no-address (program.RowsRefused number) none same stays = absurd none
@@ -105,6 +106,7 @@ none-serving settings (program.BadOption fault) none = absurd none
 none-serving settings program.NoText none = absurd none
 none-serving settings program.BadUser none = absurd none
 none-serving settings program.NoStore none = absurd none
+none-serving settings program.NoRows none = absurd none
 none-serving settings program.NoHeader none = absurd none
 none-serving settings program.UnreadRows none = absurd none
 none-serving settings (program.RowsRefused number) none = absurd none

@@ -13,7 +13,7 @@ use Rattle.counted_io.specs.declared.fault.ServeFault.{ServeFault}
 use Rattle.ua_peers.specs.declared.calling.SyncFault.{SyncFault}
 use Rattle.ua_server.specs.declared.log.ErrorLog.{ErrorLog}
 use Rattle.ua_server.specs.declared.program.ProgramFault.{ProgramFault}
-use Rattle.ua_server.specs.declared.program.ProgramFault.TheVariants.{Line, File, Settings, Store, BadHex, Address, DoorAddress, DoorNetwork, PeerAddress, WebAddress, StoreBroken, Connection, Call, Exchange, Peer, NumberTwice, BadOption, NoText, BadUser, NoStore, NoHeader, UnreadRows, RowsRefused, Server}
+use Rattle.ua_server.specs.declared.program.ProgramFault.TheVariants.{Line, File, Settings, Store, BadHex, Address, DoorAddress, DoorNetwork, PeerAddress, WebAddress, StoreBroken, Connection, Call, Exchange, Peer, NumberTwice, BadOption, NoText, BadUser, NoStore, NoRows, NoHeader, UnreadRows, RowsRefused, Server}
 use Rattle.ua_client.specs.declared.fault.ClientFault.TheVariants as client
 use Rattle.ua_server.specs.Telling.{Known, words_of, number_told, numbered, fault_text, failed_text, outcome_text, call_lines, told_line, place_line, KeepsLast, LogsCall, LogsLine}
 
@@ -51,6 +51,7 @@ short-words (BadOption fault) number e = absurd cc
 short-words NoText number e = absurd cc
 short-words BadUser number e = absurd cc
 short-words NoStore number e = absurd cc
+short-words NoRows number e = absurd cc
 short-words NoHeader number e = absurd cc
 short-words UnreadRows number e = absurd cc
 short-words (RowsRefused rows) number e = omega arith
@@ -154,6 +155,7 @@ second-line (BadOption fault) = refl
 second-line NoText = refl
 second-line BadUser = refl
 second-line NoStore = refl
+second-line NoRows = refl
 second-line NoHeader = refl
 second-line UnreadRows = refl
 second-line (RowsRefused number) = refl

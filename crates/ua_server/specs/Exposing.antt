@@ -28,19 +28,19 @@ is_exposed has_password mode =
     option_map_or (λ bits. others_write bits || (has_password && all_read bits)) mode true
 
 -- the file at a path is exposed, or it isn't
-abbrev pub Exposes : {H A L R W : Type 0} → Machine H A L R W → H → (path : List ℕ)
+abbrev pub Exposes : {H A L R W I : Type 0} → Machine H A L R W I → H → (path : List ℕ)
     → (has_password exposed : Bool) → Type 0
 Exposes machine host path has_password exposed =
     (mode : Option ℕ) × machine.modes host path mode × (exposed ≡ is_exposed has_password mode)
 
 -- the password file of this path beside the settings' is exposed, or it isn't
-abbrev pub ExposesBeside : {H A L R W : Type 0} → Machine H A L R W → H → (settings : List ℕ)
+abbrev pub ExposesBeside : {H A L R W I : Type 0} → Machine H A L R W I → H → (settings : List ℕ)
     → (exposed : Bool) → (path : List ℕ) → Type 0
 ExposesBeside machine host settings exposed path =
     Exposes machine host (path_with_file_name settings path) true exposed
 
 -- the first of these password files that is exposed; None where none is
-abbrev pub IsFirstBeside : {H A L R W : Type 0} → Machine H A L R W → H → (settings : List ℕ)
+abbrev pub IsFirstBeside : {H A L R W I : Type 0} → Machine H A L R W I → H → (settings : List ℕ)
     → (paths : List (List ℕ)) → Option (List ℕ) → Type 0
 IsFirstBeside machine host settings paths None =
     AllByRecursion (ExposesBeside machine host settings false) paths
@@ -51,7 +51,7 @@ IsFirstBeside machine host settings paths (Some path) =
 
 -- the first file that is exposed of the settings of this path and text: their own, or else a
 -- password file of theirs; None where none is
-abbrev pub IsFirstExposed : {H A L R W : Type 0} → Machine H A L R W → H → (path text : List ℕ)
+abbrev pub IsFirstExposed : {H A L R W I : Type 0} → Machine H A L R W I → H → (path text : List ℕ)
     → Option (List ℕ) → Type 0
 IsFirstExposed machine host path text found =
     (exposed : Bool) × Exposes machine host path (holds_password (parse_document text)) exposed
@@ -69,7 +69,7 @@ IsExposedFault file fault =
 
 -- no file of the settings of this path and text is exposed; or the first is told that is, or memory
 -- was wanting
-abbrev pub JudgesFiles : {H A L R W : Type 0} → Machine H A L R W → H → (path text : List ℕ)
+abbrev pub JudgesFiles : {H A L R W I : Type 0} → Machine H A L R W I → H → (path text : List ℕ)
     → Result (Unit {0}) ProgramFault → Type 0
 JudgesFiles machine host path text (Ok done) = IsFirstExposed machine host path text None
 JudgesFiles machine host path text (Err fault) =
@@ -78,13 +78,13 @@ JudgesFiles machine host path text (Err fault) =
     × IsExposedFault file fault)
 
 -- the same, where the settings are strict; else no file is judged
-abbrev pub JudgesStrict : {H A L R W : Type 0} → Machine H A L R W → H → (path text : List ℕ)
+abbrev pub JudgesStrict : {H A L R W I : Type 0} → Machine H A L R W I → H → (path text : List ℕ)
     → (strict : Bool) → Result (Unit {0}) ProgramFault → Type 0
 JudgesStrict machine host path text true judged = JudgesFiles machine host path text judged
 JudgesStrict machine host path text false judged = judged ≡ Ok tt
 
 -- settings are taken, unless one of their files is judged to be exposed
-abbrev pub IsTaken : {H A L R W : Type 0} → Machine H A L R W → H → (path text : List ℕ)
+abbrev pub IsTaken : {H A L R W I : Type 0} → Machine H A L R W I → H → (path text : List ℕ)
     → SettingsValues → Result SettingsValues ProgramFault → Type 0
 IsTaken machine host path text settings result =
     (judged : Result (Unit {0}) ProgramFault)

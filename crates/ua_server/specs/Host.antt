@@ -11,11 +11,13 @@ use Rattle.multiplex.specs.Input.{Input}
 use Rattle.multiplex.specs.Output.{Output}
 
 -- what a machine does in a call, from its state before to that behind
-pub record Machine (H A L R W : Type 0) : Type 1 where
+pub record Machine (H A L R W I : Type 0) : Type 1 where
   -- the text of the file at a path; None where it can't be read
   pub reads : H → List ℕ → Option (List ℕ) → H → Type 0
   -- the mode of the file at a path: who may read and write it; None where it can't be told
   pub modes : H → List ℕ → Option ℕ → Type 0
+  -- the file of rows at a path, to be read from its beginning; None where it can't be opened
+  pub opens_rows : H → List ℕ → Option I → H → Type 0
   -- a store stands at a path, or none does
   pub stands : H → List ℕ → Bool → Type 0
   -- the file at a path was opened as the store of this replica of this archive
@@ -31,10 +33,11 @@ pub record Machine (H A L R W : Type 0) : Type 1 where
   pub parts : H → Tally R → Tally W → H → Type 0
 
 -- a machine of which nothing is known
-abbrev pub unknown_machine : {H A L R W : Type 0} → Machine H A L R W
+abbrev pub unknown_machine : {H A L R W I : Type 0} → Machine H A L R W I
 unknown_machine = record {
   reads = λ old path text new. Unit {0};
   modes = λ now path mode. Unit {0};
+  opens_rows = λ old path rows new. Unit {0};
   stands = λ now path is_there. Unit {0};
   opens = λ old path id replica opening new. Unit {0};
   closes = λ old archive new. Unit {0};
@@ -44,34 +47,38 @@ unknown_machine = record {
 }
 
 -- a machine, with what its archives hold, how connections come to an address, what is known of what
--- their other end writes, and of what it reads, and the same of a peer that is called
+-- their other end writes, and of what it reads, the same of a peer that is called, and what is
+-- unread of a file of rows
 pub record KnownMachine : Type 1 where
   pub Host : Type 0
   pub Archive : Type 0
   pub Source : Type 0
   pub Reader : Type 0
   pub Writer : Type 0
+  pub Rows : Type 0
   pub ClientReader : Type 0
   pub ClientWriter : Type 0
-  pub machine : Machine Host Archive Source Reader Writer
+  pub machine : Machine Host Archive Source Reader Writer Rows
   pub held : Archive → Store
   pub effects : Effects Source ClientReader ClientWriter
   pub input : Input ClientReader
   pub output : Output ClientWriter
   pub unread : Reader → Option (List ℕ)
   pub written : Writer → Option (List ℕ)
+  pub rows : Rows → Option (List ℕ)
 
 -- the record of these, from what the traits of a machine say
-abbrev pub known_machine : {H A S R W P Q : Type 0} → Machine H A S R W → (A → Store)
+abbrev pub known_machine : {H A S R W I P Q : Type 0} → Machine H A S R W I → (A → Store)
     → Effects S P Q → Input P → Output Q → (R → Option (List ℕ)) → (W → Option (List ℕ))
-    → KnownMachine
-known_machine {H} {A} {S} {R} {W} {P} {Q}
-    machine held effects input output unread written = record {
+    → (I → Option (List ℕ)) → KnownMachine
+known_machine {H} {A} {S} {R} {W} {I} {P} {Q}
+    machine held effects input output unread written rows = record {
       Host = H;
       Archive = A;
       Source = S;
       Reader = R;
       Writer = W;
+      Rows = I;
       ClientReader = P;
       ClientWriter = Q;
       machine = machine;
@@ -81,4 +88,5 @@ known_machine {H} {A} {S} {R} {W} {P} {Q}
       output = output;
       unread = unread;
       written = written;
+      rows = rows;
     }

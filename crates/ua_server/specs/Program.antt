@@ -9,7 +9,7 @@ use Rattle.toml.specs.Parse.{parse_document}
 use Rattle.counted_io.specs.declared.fault.ServeFault.TheVariants.{Write, OutOfMemory}
 use Rattle.ua_server.specs.declared.hexed.HexFault.{HexFault}
 use Rattle.ua_server.specs.declared.program.ProgramFault.{ProgramFault}
-use Rattle.ua_server.specs.declared.program.ProgramFault.TheVariants.{Line, File, Settings, Address, StoreBroken, Connection}
+use Rattle.ua_server.specs.declared.program.ProgramFault.TheVariants.{Line, File, Settings, Address, NoRows, StoreBroken, Connection}
 use Rattle.ua_server.specs.declared.program.ProgramFault.TheVariants as program
 use Rattle.ua_server.specs.declared.dumps.DumpFault.{DumpFault}
 use Rattle.counted_io.specs.Bytes.{AppendsPart}
@@ -98,8 +98,8 @@ IsBare result =
     elim result [ Ok settings ↦ settings ≡ bare | Err (Line NoMemory) ↦ Unit {0} | Err fault ↦ ⊥ ]
 
 -- settings are taken by the rights of their files, or were refused before
-abbrev pub IsTakenOrRefused : {H A L R W : Type 0} → Machine H A L R W → H → (path text : List ℕ)
-    → (set result : Result SettingsValues ProgramFault) → Type 0
+abbrev pub IsTakenOrRefused : {H A L R W I : Type 0} → Machine H A L R W I → H
+    → (path text : List ℕ) → (set result : Result SettingsValues ProgramFault) → Type 0
 IsTakenOrRefused machine host path text (Ok settings) result =
     IsTaken machine host path text settings result
 IsTakenOrRefused machine host path text (Err fault) result = result ≡ Err fault
@@ -107,7 +107,7 @@ IsTakenOrRefused machine host path text (Err fault) result = result ≡ Err faul
 -- the settings that the text of the file at this path gives, once the password files that it names
 -- were read and, where they are strict, no file of theirs is exposed; or memory for the paths was
 -- wanting before
-abbrev pub SetsBy : {H A L R W : Type 0} → Machine H A L R W → (path text : List ℕ)
+abbrev pub SetsBy : {H A L R W I : Type 0} → Machine H A L R W I → (path text : List ℕ)
     → Result SettingsValues ProgramFault → (old new : H) → Type 0
 SetsBy machine path text result old new =
     ((result ≡ Err (Settings refused.OutOfMemory None)) × (new ≡ old))
@@ -118,7 +118,7 @@ SetsBy machine path text result old new =
 
 -- The settings of a server that is given this path. Without a path they are those without a file,
 -- and no file is read. A file that can't be read is the fault File.
-abbrev pub SettingsAt : {H A L R W : Type 0} → Machine H A L R W → Option (List ℕ)
+abbrev pub SettingsAt : {H A L R W I : Type 0} → Machine H A L R W I → Option (List ℕ)
     → Result SettingsValues ProgramFault → (old new : H) → Type 0
 SettingsAt machine None result old new = IsBare result × (new ≡ old)
 SettingsAt {H} machine (Some path) result old new =
@@ -137,7 +137,7 @@ OpensNothing held settings opening old new =
 
 -- the archive of the store at a path; for a command that leaves it alone, or that makes none where
 -- none stands there, one in memory that holds nothing
-abbrev pub OpensStore : {H A L R W : Type 0} → Machine H A L R W → (A → Store) → StoreUse
+abbrev pub OpensStore : {H A L R W I : Type 0} → Machine H A L R W I → (A → Store) → StoreUse
     → SettingsValues → (path : List ℕ) → Result A StoreFault → (old new : H) → Type 0
 OpensStore machine held uses settings path opening old new =
     let opens = machine.opens old path settings.archive settings.replica opening new in
@@ -151,7 +151,7 @@ OpensStore machine held uses settings path opening old new =
 
 -- the archive of the settings, or why it can't be opened: that of their store, or one in memory
 -- that holds nothing where they name none
-abbrev pub OpensArchive : {H A L R W : Type 0} → Machine H A L R W → (A → Store) → StoreUse
+abbrev pub OpensArchive : {H A L R W I : Type 0} → Machine H A L R W I → (A → Store) → StoreUse
     → SettingsValues → Option (List ℕ) → Result A StoreFault → (old new : H) → Type 0
 OpensArchive machine held uses settings path opening old new =
     elim path [
@@ -161,7 +161,7 @@ OpensArchive machine held uses settings path opening old new =
 
 -- settings with their archive, or why that can't be opened; where a command is refused by them,
 -- nothing is opened
-abbrev pub OpensUnless : {H A L R W : Type 0} → Machine H A L R W → (A → Store) → StoreUse
+abbrev pub OpensUnless : {H A L R W I : Type 0} → Machine H A L R W I → (A → Store) → StoreUse
     → Option ProgramFault → SettingsValues → Result (SettingsValues × A) ProgramFault
     → (old new : H) → Type 0
 OpensUnless {H} {A} machine held uses refusal settings result old new =
@@ -174,7 +174,7 @@ OpensUnless {H} {A} machine held uses refusal settings result old new =
 
 -- the settings that a path gives, and their archive; or why they, a command by them, or it are
 -- refused
-abbrev pub OpensBy : {H A L R W : Type 0} → Machine H A L R W → (A → Store) → StoreUse
+abbrev pub OpensBy : {H A L R W I : Type 0} → Machine H A L R W I → (A → Store) → StoreUse
     → (refused_by : SettingsValues → Option ProgramFault) → Option (List ℕ)
     → Result (SettingsValues × A) ProgramFault → (old new : H) → Type 0
 OpensBy {H} {A} machine held uses refused_by path result old new =
@@ -426,12 +426,46 @@ ImportsTo known (Some address) gave settings words first last old new result =
     (last ≡ first) × (new.errors ≡ old.errors)
     × ImportsThere known gave settings words address.now old new result
 
--- `import`: the rows of the input are written to where its words say
+-- the file at a path was opened, and its rows are written to where the words say, as those of the
+-- input would be, which stays unread
+pub record ImportsFile {C E : Type 0} (known : KnownMachine) (gave : Readings C)
+    (settings : SettingsValues) (words : ImportWords) (path : List ℕ) (first last : known.Archive)
+    (old new : Scene known.Host C E) (result : Result (Unit {0}) ProgramFault) : Type 0 where
+  pub rows : known.Rows
+  pub opened : known.Host
+  pub opens : known.machine.opens_rows old.host path (Some rows) opened
+  pub rest : known.Rows
+  pub imports : ImportsTo known words.server gave settings words first last
+      (record old { unread = known.rows rows; host = opened })
+      (record new { unread = known.rows rest }) result
+  pub input : new.unread ≡ old.unread
+
+-- the file at a path can't be opened, and nothing else was done
+abbrev pub FindsNoRows : {C E : Type 0} → (known : KnownMachine) → (path : List ℕ)
+    → (first last : known.Archive) → (old new : Scene known.Host C E)
+    → Result (Unit {0}) ProgramFault → Type 0
+FindsNoRows known path first last old new result =
+    known.machine.opens_rows old.host path None new.host × (last ≡ first)
+    × (new ≡ record old { host = new.host }) × (result ≡ Err NoRows)
+
+-- the rows of the input, or of the file at this path, if one is named, are written to where the
+-- words say; or that file can't be opened
+abbrev pub ImportsFrom : {C E : Type 0} → (known : KnownMachine) → (file : Option (Bor (List ℕ)))
+    → Readings C → SettingsValues → ImportWords → (first last : known.Archive)
+    → (old new : Scene known.Host C E) → Result (Unit {0}) ProgramFault → Type 0
+ImportsFrom known None gave settings words first last old new result =
+    ImportsTo known words.server gave settings words first last old new result
+ImportsFrom known (Some path) gave settings words first last old new result =
+    FindsNoRows known path.now first last old new result
+    ⊎ ImportsFile known gave settings words path.now first last old new result
+
+-- `import`: the rows of the file that its words name, or of the input, are written to where they
+-- say
 abbrev pub DoesImporting : {C E : Type 0} → (known : KnownMachine) → Readings C → SettingsValues
     → ImportWords → (first last : known.Archive) → (old new : Scene known.Host C E)
     → Result (Unit {0}) ProgramFault → Type 0
 DoesImporting known gave settings words first last old new result =
-    ImportsTo known words.server gave settings words first last old new result
+    ImportsFrom known words.file gave settings words first last old new result
 
 -- `check`: what the settings say is told, and what the archive holds where that is asked for
 abbrev pub DoesChecking : {C E : Type 0} → (known : KnownMachine) → SettingsValues → (store : Bool)

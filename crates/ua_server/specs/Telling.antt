@@ -8,7 +8,7 @@ use Rattle.std.specs.Result.{result_err}
 use Rattle.std.specs.Io.KnownBytes.{Appends}
 use Rattle.counted_io.specs.Fault.{serve_fault_number as connection_number}
 use Rattle.ua_server.specs.declared.program.ProgramFault.{ProgramFault}
-use Rattle.ua_server.specs.declared.program.ProgramFault.TheVariants.{Line, File, Settings, Store, BadHex, Address, DoorAddress, DoorNetwork, PeerAddress, WebAddress, StoreBroken, Connection, Call, Exchange, Peer, NumberTwice, BadOption, NoText, BadUser, NoStore, NoHeader, UnreadRows, RowsRefused, Server}
+use Rattle.ua_server.specs.declared.program.ProgramFault.TheVariants.{Line, File, Settings, Store, BadHex, Address, DoorAddress, DoorNetwork, PeerAddress, WebAddress, StoreBroken, Connection, Call, Exchange, Peer, NumberTwice, BadOption, NoText, BadUser, NoStore, NoRows, NoHeader, UnreadRows, RowsRefused, Server}
 use Rattle.ua_peers.specs.declared.calling.Synced.{Synced}
 use Rattle.command_line.specs.Line.{line_text_of}
 use Rattle.ua_client.specs.declared.fault.ClientFault.{ClientFault}
@@ -45,6 +45,7 @@ fault_status BadHex = 2
 fault_status (BadOption fault) = 2
 fault_status BadUser = 2
 fault_status NoStore = 2
+fault_status NoRows = 2
 fault_status NoHeader = 2
 fault_status fault = 1
 
@@ -96,6 +97,7 @@ words_of (BadOption fault) = option_text fault
 words_of NoText = codes "history ended: a value of a type that has no text"
 words_of BadUser = codes "--user: want a user of the settings who may write"
 words_of NoStore = codes "import refused: the settings name no store"
+words_of NoRows = codes "rows refused: the file can't be opened"
 words_of NoHeader = codes "rows refused: want the header node,time,value,status"
 words_of UnreadRows = codes "import ended: the rows can't be read"
 words_of (RowsRefused number) = codes "rows refused"

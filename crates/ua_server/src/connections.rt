@@ -123,7 +123,7 @@ pub(crate) fn serve_at<H: Host, C: Clock, E: Write>(
         world.old.clock world.old.log.errors }
     ensures listens { Listens
         (known_machine H.means H.Archive.state H.Source.effects H.Source.Reader.input
-        H.Source.Writer.output H.Reader.remaining H.Writer.contents)
+        H.Source.Writer.output H.Reader.remaining H.Writer.contents H.Rows.remaining)
         C.gave E.contents world.old.server.settings connections
         (serving_of host.old world.old) (serving_of host.new world.new) result }
     ensures fault { IfErr result IsServingFault }

@@ -28,8 +28,11 @@ pub trait Host {
     /// What a peer that was called reads.
     type Writer: Write + Drop;
 
+    /// A file of rows that is read.
+    type Rows: Read + Drop;
+
     /// What it does in each of the calls below.
-    ghost means: { Machine Self Self.Archive Self.Source Self.Reader Self.Writer };
+    ghost means: { Machine Self Self.Archive Self.Source Self.Reader Self.Writer Self.Rows };
 
     /// The text of the file at a path; none where it can't be read as UTF-8.
     fn read(&mut self, path: &str) -> Option<String>
@@ -38,6 +41,10 @@ pub trait Host {
     /// The mode of the file at a path, as Unix has it: who may read and write it; none where it can't be told.
     fn mode(&self, path: &str) -> Option<u32>
         ensures { means.modes self.now path.now result };
+
+    /// The file of rows at a path, to be read from its beginning; none where it can't be opened.
+    fn open_rows(&mut self, path: &str) -> Option<Self::Rows>
+        ensures { means.opens_rows self.old path.now result self.new };
 
     /// Whether a store stands at a path, or its log alone.
     fn has_store(&self, path: &str) -> bool

@@ -4,7 +4,7 @@ ghost use Rattle.std.specs.Prelude.{◌≡◌, IsErrOf, None};
 ghost use Rattle.counted_io.specs.Bytes.{counted};
 ghost use Rattle.ua_server.specs.Importing.{WritesRows, counts_told, import_fault, import_of, import_refusal, import_told, perform_of, remote_told};
 ghost use Rattle.ua_server.specs.Host.{known_machine};
-ghost use Rattle.ua_server.specs.Program.{DoesImporting, scene_of};
+ghost use Rattle.ua_server.specs.Program.{DoesImporting, ImportsTo, scene_of};
 ghost use Rattle.ua_session.specs.Users.{IsUserName};
 
 use crate::host::Host;
@@ -145,7 +145,7 @@ fn import_over<A: Archive, C: Clock, R: Read, W: Write>(
 
 /// Writes the rows of the input into the archive, or brings them to the running server at an address, where the words name one:
 /// in a session of their user. The connection is given back then.
-pub(crate) fn import_by<H: Host, C: Clock, R: Read, W: Write, E: Write>(
+fn import_by<H: Host, C: Clock, R: Read, W: Write, E: Write>(
     world: &mut World<H::Archive, C, ErrorLog<E, C>>,
     words: ImportWords<'_>,
     host: &mut H,
@@ -156,11 +156,11 @@ pub(crate) fn import_by<H: Host, C: Clock, R: Read, W: Write, E: Write>(
     ensures read { IsErrOf result (ProgramFault.Connection ServeFault.Read) → ⊥ }
     ensures write { IsErrOf result (ProgramFault.Connection ServeFault.Write)
         → output.new.faults ≡ counted output.old.faults }
-    ensures imports { DoesImporting
+    ensures imports { ImportsTo
         (known_machine H.means H.Archive.state H.Source.effects H.Source.Reader.input
-        H.Source.Writer.output H.Reader.remaining H.Writer.contents)
-        C.gave world.old.server.settings words.entry world.old.server.replica.archive
-        world.new.server.replica.archive
+        H.Source.Writer.output H.Reader.remaining H.Writer.contents H.Rows.remaining)
+        words.entry.server C.gave world.old.server.settings words.entry
+        world.old.server.replica.archive world.new.server.replica.archive
         (scene_of (R.remaining input.old.inner) (W.contents output.old.inner) host.old
         world.old.clock world.old.log.errors)
         (scene_of (R.remaining input.new.inner) (W.contents output.new.inner) host.new
@@ -184,4 +184,35 @@ pub(crate) fn import_by<H: Host, C: Clock, R: Read, W: Write, E: Write>(
     let done = import_at(&world.server.settings, &asked, line, input, output);
     host.part(done.line.reader, done.line.writer);
     remote_told(done.ended)
+}
+
+/// Does the same with the rows of the file that the words name, which is read in pieces; without one they are those of the input.
+pub(crate) fn import_from<H: Host, C: Clock, R: Read, W: Write, E: Write>(
+    world: &mut World<H::Archive, C, ErrorLog<E, C>>,
+    words: ImportWords<'_>,
+    host: &mut H,
+    input: &mut Counted<R>,
+    output: &mut Counted<W>,
+) -> Result<(), ProgramFault>
+    requires user { IsUserName words.user.now }
+    ensures read { IsErrOf result (ProgramFault.Connection ServeFault.Read) → ⊥ }
+    ensures write { IsErrOf result (ProgramFault.Connection ServeFault.Write)
+        → output.new.faults ≡ counted output.old.faults }
+    ensures imports { DoesImporting
+        (known_machine H.means H.Archive.state H.Source.effects H.Source.Reader.input
+        H.Source.Writer.output H.Reader.remaining H.Writer.contents H.Rows.remaining)
+        C.gave world.old.server.settings words.entry world.old.server.replica.archive
+        world.new.server.replica.archive
+        (scene_of (R.remaining input.old.inner) (W.contents output.old.inner) host.old
+        world.old.clock world.old.log.errors)
+        (scene_of (R.remaining input.new.inner) (W.contents output.new.inner) host.new
+        world.new.clock world.new.log.errors) result }
+{
+    let Some(path) = words.file else {
+        return import_by(world, words, host, input, output);
+    };
+    let Some(rows) = host.open_rows(path) else {
+        return Err(ProgramFault::NoRows);
+    };
+    import_by(world, words, host, &mut Counted::new(rows), output)
 }

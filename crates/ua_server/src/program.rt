@@ -21,7 +21,7 @@ use crate::files::settings_at;
 use crate::hexed::HexFault;
 use crate::histories::{OptionFault, history_over};
 use crate::host::Host;
-use crate::imports::{import_by, import_refusal};
+use crate::imports::{import_from, import_refusal};
 use crate::log::ErrorLog;
 use crate::single::answer_at;
 use archive::{Archive, StoreFault};
@@ -87,6 +87,8 @@ pub enum ProgramFault {
     BadUser,
     /// Rows are to be written where the settings name no store, and the words no running server.
     NoStore,
+    /// The file of the rows can't be opened.
+    NoRows,
     /// Rows don't begin by their header.
     NoHeader,
     /// Rows can't be read.
@@ -152,6 +154,7 @@ impl ProgramFault {
             ProgramFault::NoText => "history ended: a value of a type that has no text",
             ProgramFault::BadUser => "--user: want a user of the settings who may write",
             ProgramFault::NoStore => "import refused: the settings name no store",
+            ProgramFault::NoRows => "rows refused: the file can't be opened",
             ProgramFault::NoHeader => "rows refused: want the header node,time,value,status",
             ProgramFault::UnreadRows => "import ended: the rows can't be read",
             ProgramFault::RowsRefused(_) => "rows refused",
@@ -186,6 +189,7 @@ impl ProgramFault {
             | ProgramFault::NoText
             | ProgramFault::BadUser
             | ProgramFault::NoStore
+            | ProgramFault::NoRows
             | ProgramFault::NoHeader
             | ProgramFault::UnreadRows => None,
             ProgramFault::Server(fault) => server_number(*fault),
@@ -219,6 +223,7 @@ impl ProgramFault {
             | ProgramFault::NoText
             | ProgramFault::BadUser
             | ProgramFault::NoStore
+            | ProgramFault::NoRows
             | ProgramFault::NoHeader
             | ProgramFault::UnreadRows
             | ProgramFault::RowsRefused(_)
@@ -441,7 +446,7 @@ fn sync_over<H: Host, W: Write>(
         → output.new.faults ≡ counted output.old.faults }
     ensures calls { CallsPeer
         (known_machine H.means H.Archive.state H.Source.effects H.Source.Reader.input
-        H.Source.Writer.output H.Reader.remaining H.Writer.contents)
+        H.Source.Writer.output H.Reader.remaining H.Writer.contents H.Rows.remaining)
         (compared_before asked.entry) asked.entry.peer.now
         (record {
           host = host.old;
@@ -548,7 +553,7 @@ fn do_command<H: Host, C: Clock, R: Read, W: Write, E: Write>(
         → output.new.faults ≡ counted output.old.faults }
     ensures does { DoesCommand
         (known_machine H.means H.Archive.state H.Source.effects H.Source.Reader.input
-        H.Source.Writer.output H.Reader.remaining H.Writer.contents)
+        H.Source.Writer.output H.Reader.remaining H.Writer.contents H.Rows.remaining)
         C.gave E.contents line.entry world.old.server.settings world.old.server.replica.archive
         world.new.server.replica.archive
         (scene_of (R.remaining input.old.inner) (W.contents output.old.inner) host.old
@@ -564,7 +569,7 @@ fn do_command<H: Host, C: Clock, R: Read, W: Write, E: Write>(
         Line::Dump { .. } => dump_over(&mut world.server, output),
         Line::Sync { asked, .. } => sync_over(&mut world.server, asked, host, output),
         Line::History { asked, .. } => history_over(&mut world.server, asked, output),
-        Line::Import { asked, .. } => import_by(world, asked, host, input, output),
+        Line::Import { asked, .. } => import_from(world, asked, host, input, output),
         Line::Check { store, .. } => check_over(&mut world.server, store, output),
     }
 }
@@ -586,7 +591,7 @@ fn do_over<H: Host, C: Clock + Copy, R: Read, W: Write, E: Write>(
         → output.new.faults ≡ counted output.old.faults }
     ensures does { DoesAndCloses
         (known_machine H.means H.Archive.state H.Source.effects H.Source.Reader.input
-        H.Source.Writer.output H.Reader.remaining H.Writer.contents)
+        H.Source.Writer.output H.Reader.remaining H.Writer.contents H.Rows.remaining)
         C.gave E.contents line.entry world.server.settings world.server.replica.archive
         (scene_of (R.remaining input.old.inner) (W.contents output.old.inner) host.old world.clock
         world.log.errors)
@@ -624,7 +629,7 @@ fn do_line<H: Host, C: Clock + Copy, R: Read, W: Write, E: Write>(
         → output.new.faults ≡ counted output.old.faults }
     ensures does { DoesLine
         (known_machine H.means H.Archive.state H.Source.effects H.Source.Reader.input
-        H.Source.Writer.output H.Reader.remaining H.Writer.contents)
+        H.Source.Writer.output H.Reader.remaining H.Writer.contents H.Rows.remaining)
         C.gave E.contents line.entry
         (scene_of (R.remaining input.old.inner) (W.contents output.old.inner) host.old clock errors)
         (scene_of (R.remaining input.new.inner) (W.contents output.new.inner) host.new result.clock
@@ -678,6 +683,7 @@ fn print_text<W: Write>(text: &[u8], output: &mut Counted<W>) -> Result<(), Prog
 /// | `NumberTwice` | the peer that was called holds another record of a number than this archive |
 /// | `BadOption`, `NoText` | an option of `history` says nothing of its kind; a value of the history has no text |
 /// | `BadUser`, `NoStore` | the user of an import isn't one who may write; neither do its settings name a store nor its words a server |
+/// | `NoRows` | the file of the rows of an import can't be opened |
 /// | `NoHeader`, `UnreadRows`, `RowsRefused` | the rows of an import don't begin by their header, can't be read, or some were refused |
 /// | `Server` | a running server that rows are brought to didn't do what it was asked: the connection to it met a fault, it refused, or what came is no answer |
 #[tactic(auto, using(crate::proofs::Printing::lines))]
@@ -696,7 +702,7 @@ pub fn run<S: AsStr, H: Host, C: Clock + Copy, R: Read, W: Write, E: Write>(
         → output.new.faults ≡ counted output.old.faults }
     ensures runs { Runs (findings_in (map S.text words.now))
         (known_machine H.means H.Archive.state H.Source.effects H.Source.Reader.input
-        H.Source.Writer.output H.Reader.remaining H.Writer.contents)
+        H.Source.Writer.output H.Reader.remaining H.Writer.contents H.Rows.remaining)
         C.gave E.contents
         (scene_of (R.remaining input.old.inner) (W.contents output.old.inner) host.old clock errors)
         (scene_of (R.remaining input.new.inner) (W.contents output.new.inner) host.new result.clock
@@ -740,7 +746,7 @@ pub(crate) fn tell<W: Write>(text: &[u8], errors: &mut Counted<W>) -> Result<(),
 /// |---|---|
 /// | 0 | nothing went wrong |
 /// | 1 | an address can't be listened at or called; a connection or an exchange ended by a fault, or a number was given to two records; a value has no text; rows can't be read or were refused |
-/// | 2 | the command line, the settings, an option or the input was refused, or the settings name no store |
+/// | 2 | the command line, the settings, an option or the input was refused, the settings name no store, or the file of rows can't be opened |
 /// | 3 | the store was refused, or it broke |
 pub fn report<W: Write>(ending: Result<(), ProgramFault>, errors: &mut Counted<W>) -> u8
     ensures status { result ≡ exit_status ending }
@@ -760,6 +766,7 @@ pub fn report<W: Write>(ending: Result<(), ProgramFault>, errors: &mut Counted<W
         | ProgramFault::BadOption(_)
         | ProgramFault::BadUser
         | ProgramFault::NoStore
+        | ProgramFault::NoRows
         | ProgramFault::NoHeader => 2,
         ProgramFault::Store(_) | ProgramFault::StoreBroken => 3,
         ProgramFault::Address

@@ -214,7 +214,7 @@ pub(crate) fn of_ending(
         return None;
     };
     match fault {
-        ProgramFault::File => said,
+        ProgramFault::File | ProgramFault::NoRows => said,
         ProgramFault::Settings(fault, Some(place)) => of_settings(*fault, place.as_str()),
         ProgramFault::Store(fault) => of_refusal(*fault, said),
         ProgramFault::StoreBroken => of_refusal(StoreFault::Broken, None),

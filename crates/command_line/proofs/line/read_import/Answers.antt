@@ -2,7 +2,7 @@ use Rattle.std.proofs.Common.{◌≡◌, List, Some, None, ◌∙◌, ap, sym, c
 use Rattle.std.specs.Prelude.{Option, option_copied}
 use Rattle.clap.specs.Matches.{first_value}
 use Rattle.clap.specs.Words.{Row, Text, first_of, found_of, rows_of}
-use Rattle.command_line.specs.Line.{IsImportCommand, NoLine, perform_in}
+use Rattle.command_line.specs.Line.{IsImportCommand, NoLine, file_in, perform_in}
 use Rattle.command_line.specs.declared.line.Line.TheVariants.{Import}
 use Rattle.clap.proofs.WalkLemmas.{first_value-rows}
 use Rattle.command_line.proofs.Lines.{mapped}
@@ -50,6 +50,8 @@ returns-in-Some-perform_in-clause-ok c =
         perform = sym (ap (λ (o : Option Text). perform_in o) word)
             ∙ sym c.perform_in.ensures ∙ c.in-Some-perform_in.is;
         server = c.get_str-server.ensures ∙ first_value-rows found (codes "server");
+        file = c.file_in.ensures ∙ ap (λ (o : Option Text). file_in o)
+            (c.get_str-file.ensures ∙ first_value-rows found (codes "file"));
       },
     )
 

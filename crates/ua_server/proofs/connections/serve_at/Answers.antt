@@ -138,7 +138,7 @@ returns-in_err-source-clause-listens g c =
     let known =
     known_machine g.H.Host.means g.H.Archive.Archive.state g.H.Source.Source.effects
     g.H.Source.Reader.NonBlockingRead.input g.H.Source.Writer.NonBlockingWrite.output
-    g.H.Reader.Read.remaining g.H.Writer.Write.contents in
+    g.H.Reader.Read.remaining g.H.Writer.Write.contents g.H.Rows.Read.remaining in
     let world = c.args.world.now in
     let old = serving_of c.args.host.now world in
     let new = serving_of c.listen_at.new.host world in
@@ -155,7 +155,7 @@ returns-in_err-source-clause-fault g c =
     let known =
     known_machine g.H.Host.means g.H.Archive.Archive.state g.H.Source.Source.effects
     g.H.Source.Reader.NonBlockingRead.input g.H.Source.Writer.NonBlockingWrite.output
-    g.H.Reader.Read.remaining g.H.Writer.Write.contents in
+    g.H.Reader.Read.remaining g.H.Writer.Write.contents g.H.Rows.Read.remaining in
     let p = err_from_is_err_and c.from_residual.result c.from_residual.ensures.1 in
     let P : Result (Unit {0}) ProgramFault → Type 0 = λ r. IfErr r IsServingFault in
     subst P (sym (p.1 ∙ ap Err p.2))

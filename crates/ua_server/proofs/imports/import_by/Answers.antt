@@ -15,7 +15,7 @@ returns-in_default-clause-imports g c =
     let known =
     known_machine g.H.Host.means g.H.Archive.Archive.state g.H.Source.Source.effects
     g.H.Source.Reader.NonBlockingRead.input g.H.Source.Writer.NonBlockingWrite.output
-    g.H.Reader.Read.remaining g.H.Writer.Write.contents in
+    g.H.Reader.Read.remaining g.H.Writer.Write.contents g.H.Rows.Read.remaining in
     let P : Option (Bor (List ℕ)) → Type 0 = λ server.
     ImportsTo known server g.C.Clock.gave c.args.world.now.server.settings c.args.words
     c.args.world.now.server.replica.archive c.import_over.new.server.replica.archive
@@ -33,7 +33,7 @@ returns-clause-imports g c =
     let known =
     known_machine g.H.Host.means g.H.Archive.Archive.state g.H.Source.Source.effects
     g.H.Source.Reader.NonBlockingRead.input g.H.Source.Writer.NonBlockingWrite.output
-    g.H.Reader.Read.remaining g.H.Writer.Write.contents in
+    g.H.Reader.Read.remaining g.H.Writer.Write.contents g.H.Rows.Read.remaining in
     let R = g.H.Reader.Read.remaining in
     let W = g.H.Writer.Write.contents in
     let done = c.import_at-done in

@@ -9,7 +9,7 @@ returns-in-Answer-clause-does g c =
     let known =
     known_machine g.H.Host.means g.H.Archive.Archive.state g.H.Source.Source.effects
     g.H.Source.Reader.NonBlockingRead.input g.H.Source.Writer.NonBlockingWrite.output
-    g.H.Reader.Read.remaining g.H.Writer.Write.contents in
+    g.H.Reader.Read.remaining g.H.Writer.Write.contents g.H.Rows.Read.remaining in
     let P : CommandLine → Type 0 = λ line.
     DoesCommand known g.C.Clock.gave g.E.Write.contents line c.args.world.now.server.settings
     c.args.world.now.server.replica.archive c.answer_over.new.server.replica.archive
@@ -27,7 +27,7 @@ returns-in-Serve-clause-does g c =
     let known =
     known_machine g.H.Host.means g.H.Archive.Archive.state g.H.Source.Source.effects
     g.H.Source.Reader.NonBlockingRead.input g.H.Source.Writer.NonBlockingWrite.output
-    g.H.Reader.Read.remaining g.H.Writer.Write.contents in
+    g.H.Reader.Read.remaining g.H.Writer.Write.contents g.H.Rows.Read.remaining in
     let P : CommandLine → Type 0 = λ line.
     DoesCommand known g.C.Clock.gave g.E.Write.contents line c.args.world.now.server.settings
     c.args.world.now.server.replica.archive c.serve_at.new.world.server.replica.archive
@@ -45,7 +45,7 @@ returns-in-Dump-clause-does g c =
     let known =
     known_machine g.H.Host.means g.H.Archive.Archive.state g.H.Source.Source.effects
     g.H.Source.Reader.NonBlockingRead.input g.H.Source.Writer.NonBlockingWrite.output
-    g.H.Reader.Read.remaining g.H.Writer.Write.contents in
+    g.H.Reader.Read.remaining g.H.Writer.Write.contents g.H.Rows.Read.remaining in
     let P : CommandLine → Type 0 = λ line.
     DoesCommand known g.C.Clock.gave g.E.Write.contents line c.args.world.now.server.settings
     c.args.world.now.server.replica.archive c.dump_over.new.server.replica.archive
@@ -63,7 +63,7 @@ returns-in-Sync-clause-does g c =
     let known =
     known_machine g.H.Host.means g.H.Archive.Archive.state g.H.Source.Source.effects
     g.H.Source.Reader.NonBlockingRead.input g.H.Source.Writer.NonBlockingWrite.output
-    g.H.Reader.Read.remaining g.H.Writer.Write.contents in
+    g.H.Reader.Read.remaining g.H.Writer.Write.contents g.H.Rows.Read.remaining in
     let P : CommandLine → Type 0 = λ line.
     DoesCommand known g.C.Clock.gave g.E.Write.contents line c.args.world.now.server.settings
     c.args.world.now.server.replica.archive c.sync_over.new.server.replica.archive
@@ -81,7 +81,7 @@ returns-in-History-clause-does g c =
     let known =
     known_machine g.H.Host.means g.H.Archive.Archive.state g.H.Source.Source.effects
     g.H.Source.Reader.NonBlockingRead.input g.H.Source.Writer.NonBlockingWrite.output
-    g.H.Reader.Read.remaining g.H.Writer.Write.contents in
+    g.H.Reader.Read.remaining g.H.Writer.Write.contents g.H.Rows.Read.remaining in
     let P : CommandLine → Type 0 = λ line.
     DoesCommand known g.C.Clock.gave g.E.Write.contents line c.args.world.now.server.settings
     c.args.world.now.server.replica.archive c.history_over.new.server.replica.archive
@@ -99,25 +99,25 @@ returns-in-Import-clause-does g c =
     let known =
     known_machine g.H.Host.means g.H.Archive.Archive.state g.H.Source.Source.effects
     g.H.Source.Reader.NonBlockingRead.input g.H.Source.Writer.NonBlockingWrite.output
-    g.H.Reader.Read.remaining g.H.Writer.Write.contents in
+    g.H.Reader.Read.remaining g.H.Writer.Write.contents g.H.Rows.Read.remaining in
     let P : CommandLine → Type 0 = λ line.
     DoesCommand known g.C.Clock.gave g.E.Write.contents line c.args.world.now.server.settings
-    c.args.world.now.server.replica.archive c.import_by.new.world.server.replica.archive
+    c.args.world.now.server.replica.archive c.import_from.new.world.server.replica.archive
     (scene_of (g.R.Read.remaining c.args.input.now.inner)
     (g.W.Write.contents c.args.output.now.inner) c.args.host.now c.args.world.now.clock
     c.args.world.now.log.errors)
-    (scene_of (g.R.Read.remaining c.import_by.new.input.inner)
-    (g.W.Write.contents c.import_by.new.output.inner) c.import_by.new.host
-    c.import_by.new.world.clock c.import_by.new.world.log.errors)
-    c.import_by.result in
-    subst P (sym c.in-Import.is) c.import_by.ensures.imports
+    (scene_of (g.R.Read.remaining c.import_from.new.input.inner)
+    (g.W.Write.contents c.import_from.new.output.inner) c.import_from.new.host
+    c.import_from.new.world.clock c.import_from.new.world.log.errors)
+    c.import_from.result in
+    subst P (sym c.in-Import.is) c.import_from.ensures.imports
 
 pub returns-in-Check-clause-does : goal.returns-in-Check-clause-does
 returns-in-Check-clause-does g c =
     let known =
     known_machine g.H.Host.means g.H.Archive.Archive.state g.H.Source.Source.effects
     g.H.Source.Reader.NonBlockingRead.input g.H.Source.Writer.NonBlockingWrite.output
-    g.H.Reader.Read.remaining g.H.Writer.Write.contents in
+    g.H.Reader.Read.remaining g.H.Writer.Write.contents g.H.Rows.Read.remaining in
     let P : CommandLine → Type 0 = λ line.
     DoesCommand known g.C.Clock.gave g.E.Write.contents line c.args.world.now.server.settings
     c.args.world.now.server.replica.archive c.check_over.new.server.replica.archive

@@ -16,7 +16,7 @@ returns-in-Ok-Work-clause-runs g c =
     let known =
     known_machine g.H.Host.means g.H.Archive.Archive.state g.H.Source.Source.effects
     g.H.Source.Reader.NonBlockingRead.input g.H.Source.Writer.NonBlockingWrite.output
-    g.H.Reader.Read.remaining g.H.Writer.Write.contents in
+    g.H.Reader.Read.remaining g.H.Writer.Write.contents g.H.Rows.Read.remaining in
     line-done (findings_in words) known g.C.Clock.gave g.E.Write.contents c.in-Ok-Work.line
     (scene_of (g.R.Read.remaining c.args.input.now.inner)
     (g.W.Write.contents c.args.output.now.inner) c.args.host.now c.args.clock
@@ -39,7 +39,7 @@ returns-in-Ok-Text-clause-runs g c =
     let known =
     known_machine g.H.Host.means g.H.Archive.Archive.state g.H.Source.Source.effects
     g.H.Source.Reader.NonBlockingRead.input g.H.Source.Writer.NonBlockingWrite.output
-    g.H.Reader.Read.remaining g.H.Writer.Write.contents in
+    g.H.Reader.Read.remaining g.H.Writer.Write.contents g.H.Rows.Read.remaining in
     text-shown (findings_in words) known g.C.Clock.gave g.E.Write.contents
     (scene_of (g.R.Read.remaining c.args.input.now.inner)
     (g.W.Write.contents c.args.output.now.inner) c.args.host.now c.args.clock

@@ -22,7 +22,7 @@ returns-clause-calls g c =
     let known =
     known_machine g.H.Host.means g.H.Archive.Archive.state g.H.Source.Source.effects
     g.H.Source.Reader.NonBlockingRead.input g.H.Source.Writer.NonBlockingWrite.output
-    g.H.Reader.Read.remaining g.H.Writer.Write.contents in
+    g.H.Reader.Read.remaining g.H.Writer.Write.contents g.H.Rows.Read.remaining in
     let ends = c.exchange_over-ending.ensures in
     let over =
     was-called known c.compared_before-compared.result c.args.server.now.replica.archive
