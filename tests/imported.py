@@ -8,8 +8,8 @@ such as are there already, and wrong ones of each kind. What is told of them and
 `history --csv` prints then what the model holds, and `history --changes` has to name the user. Then so many days (7, unless told)
 of twelve variables, a value each hundred seconds, are imported, printed, and imported again: what is printed has to be what was
 imported, and the dump the same after the second time. All that holds too of rows that are brought to a server that runs (`--server`),
-of so many hours (8, unless told) of twelve variables; and each way in which a server doesn't take them is told. Exit status 1 where one
-differs.
+of so many hours (8, unless told) of twelve variables; and each way in which a server doesn't take them is told. Rows that come from
+a file are done as those of standard input, which stays unread then. Exit status 1 where one differs.
 """
 import csv, io, os, random, signal, socket, subprocess, sys, tempfile, threading, time
 import running, usage
@@ -185,6 +185,28 @@ def refusals(program, settings):
     return wrong
 
 
+def named(program, folder):
+    """Whether rows are those of a file that is named, or of standard input where that is `-`, and a file that isn't there is told."""
+    settings, path = settings_in(folder, TYPES), os.path.join(folder, "rows.csv")
+    text, other = (rows_of([["ns=1;s=whole", moment(NOW - DAY + n), "5", ""]]) for n in (0, 10))
+    open(path, "w").write(text)
+    unopened = "uahist: rows refused: the file can't be opened\nuahist: no such file\n"
+    asked = [
+        (os.path.join(folder, "none.csv"), "", unopened, 2, 0),
+        (path, "1 row: 1 inserted\n", "", 0, 1),
+        (path, "1 row: 1 exist\n", "", 0, 1),
+        ("-", "1 row: 1 inserted\n", "", 0, 2),
+        (folder, "", "uahist: import ended: the rows can't be read\n", 1, 2),
+    ]
+    wrong = []
+    for file, out, said, status, count in asked:
+        done = running.run([program, "import", "--settings", settings, "--user", "ann", file], other.encode())
+        held = len(values(program, settings, "whole"))
+        if (done.out.decode(), done.said, done.status, held) != (out, said, status, count):
+            wrong.append(f"rows of {file}: {done.out!r} {done.said!r} {done.status}, and {held} are held")
+    return wrong
+
+
 def week(program, folder, days):
     """Whether days of twelve variables are printed as they were imported, and imported again without a change."""
     names = [f"v{n}" for n in range(12)]
@@ -309,6 +331,7 @@ def main():
     wrong, asked = [], 0
     with tempfile.TemporaryDirectory() as folder:
         wrong += refusals(program, settings_in(folder, TYPES))
+        wrong += named(program, folder)
         for seed in range(rounds):
             settings, held, chance = settings_in(folder, TYPES), {}, random.Random(seed)
             for _ in range(4):
