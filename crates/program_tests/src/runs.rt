@@ -8,14 +8,16 @@ use server_rows::network::{Client, Clients};
 use stamp::ReplicaNo;
 use std::alloc::Global;
 use std::net::SocketAddr;
+use ua_client::ClientFault;
 use ua_server::{
     Asked, ConstantClock, Counted, Door, HistoryWords, Host, ImportWords, Line, LineFault,
     Listening, PerformWord, ProgramFault, ServeFault, SyncWords, read_line, report, run,
 };
+use ua_settings::SettingsFault;
 use uuid::Uuid;
 
 /// Command lines, and what they are.
-static LINES: [(&[&str], Result<Line<'static>, LineFault>); 59] = [
+static LINES: [(&[&str], Result<Line<'static>, LineFault>); 69] = [
     (
         &[
             "uahist",
@@ -431,6 +433,49 @@ static LINES: [(&[&str], Result<Line<'static>, LineFault>); 59] = [
         &["uahist", "answer", "--connections", "1"],
         Err(LineFault::Words),
     ),
+    (&["uahist", "show"], Err(LineFault::Words)),
+    (
+        &["uahist", "check", "--settings=a", "--settings=b"],
+        Err(LineFault::Words),
+    ),
+    (
+        &["uahist", "check", "--settings=a", "--store=yes"],
+        Err(LineFault::Words),
+    ),
+    (
+        &["uahist", "check", "--settings=a", "--node=i=1"],
+        Err(LineFault::Words),
+    ),
+    (
+        &["uahist", "history", "--settings=a", "--node=i=1", "--csv=1"],
+        Err(LineFault::Words),
+    ),
+    (
+        &["uahist", "history", "--settings=a", "--node=i=1", "--to"],
+        Err(LineFault::Words),
+    ),
+    (
+        &["uahist", "history", "--settings=a", "i=1"],
+        Err(LineFault::Words),
+    ),
+    (
+        &[
+            "uahist",
+            "import",
+            "--settings=a",
+            "--user=ann",
+            "--user=ben",
+        ],
+        Err(LineFault::Words),
+    ),
+    (
+        &["uahist", "import", "--settings=a", "--user=ann", "--csv"],
+        Err(LineFault::Words),
+    ),
+    (
+        &["uahist", "import", "--settings=a", "--user=ann", "--server"],
+        Err(LineFault::Words),
+    ),
 ];
 
 /// Whether a line asks for this, or is refused so.
@@ -449,8 +494,12 @@ fn reads_lines(rt: HostRuntime) {
     }
 }
 
+/// What is said of words that are no command.
+const USAGE: &str =
+    "uahist: usage: uahist answer [--settings FILE] [--hex] [--now N] | serve --settings FILE [--connections N] | dump --settings FILE | sync --settings FILE --peer ADDRESS [--check] [--verify] | history --settings FILE --node ID [--from T] [--to T] [--changes] [--csv] [--html] | import --settings FILE --user NAME [--perform insert|replace|update] [--server ADDRESS] [FILE.csv] | check --settings FILE [--store]\n";
+
 /// Command lines, the input, the room of the output, what it has then, what is said, and the exit status.
-static RUNS: [(&[&str], &[u8], usize, &str, &str, u8); 62] = [
+static RUNS: [(&[&str], &[u8], usize, &str, &str, u8); 67] = [
     (&["uahist", "--version"], b"", 1000, "uahist 0.1.0\n", "", 0),
     (
         &["uahist", "--version"],
@@ -655,6 +704,54 @@ static RUNS: [(&[&str], &[u8], usize, &str, &str, u8); 62] = [
         2,
     ),
     (
+        &[
+            "uahist",
+            "history",
+            "--settings",
+            "good",
+            "--node=i=1",
+            "--to",
+            "noon",
+        ],
+        b"",
+        1000,
+        "",
+        "uahist: --to: want a time, as 2026-03-01T12:00:00Z\n",
+        2,
+    ),
+    (
+        &["uahist", "history", "--settings", "none", "--node=i=1"],
+        b"",
+        1000,
+        "",
+        "uahist: settings file can't be read\n",
+        2,
+    ),
+    (
+        &["uahist", "history", "--settings", "short", "--node=T"],
+        b"",
+        1000,
+        "",
+        "uahist: settings refused (2)\nuahist: [server] namespace\n",
+        2,
+    ),
+    (
+        &["uahist", "history", "--settings", "others", "--node=T"],
+        b"",
+        1000,
+        "",
+        "uahist: store refused (4)\n",
+        3,
+    ),
+    (
+        &["uahist", "history", "--settings", "good"],
+        b"",
+        1000,
+        "",
+        USAGE,
+        2,
+    ),
+    (
         &["uahist", "dump", "--settings", "unmade"],
         b"",
         1000,
@@ -743,14 +840,7 @@ static RUNS: [(&[&str], &[u8], usize, &str, &str, u8); 62] = [
         "uahist: connection ended (2)\n",
         1,
     ),
-    (
-        &["uahist", "serve"],
-        b"",
-        1000,
-        "",
-        "uahist: usage: uahist answer [--settings FILE] [--hex] [--now N] | serve --settings FILE [--connections N] | dump --settings FILE | sync --settings FILE --peer ADDRESS [--check] [--verify] | history --settings FILE --node ID [--from T] [--to T] [--changes] [--csv] [--html] | import --settings FILE --user NAME [--perform insert|replace|update] [--server ADDRESS] [FILE.csv] | check --settings FILE [--store]\n",
-        2,
-    ),
+    (&["uahist", "serve"], b"", 1000, "", USAGE, 2),
     (
         &["uahist", "answer", "--settings", "good", "--hex"],
         b"474554202F000000",
@@ -1016,7 +1106,7 @@ static RUNS: [(&[&str], &[u8], usize, &str, &str, u8); 62] = [
 ];
 
 /// The same of imports.
-static IMPORTS: [(&[&str], &[u8], usize, &str, &str, u8); 19] = [
+static IMPORTS: [(&[&str], &[u8], usize, &str, &str, u8); 27] = [
     (
         &[
             "uahist",
@@ -1194,6 +1284,125 @@ static IMPORTS: [(&[&str], &[u8], usize, &str, &str, u8); 19] = [
         2,
     ),
     (
+        &[
+            "uahist",
+            "import",
+            "--settings",
+            "kept",
+            "--user",
+            "anonymous",
+        ],
+        b"",
+        1000,
+        "",
+        "uahist: rows refused: want the header node,time,value,status\n",
+        2,
+    ),
+    (
+        &[
+            "uahist",
+            "import",
+            "--settings",
+            "short",
+            "--user",
+            "anonymous",
+        ],
+        b"node,time,value,status\n",
+        1000,
+        "",
+        "uahist: settings refused (2)\nuahist: [server] namespace\n",
+        2,
+    ),
+    (
+        &[
+            "uahist",
+            "import",
+            "--settings",
+            "others",
+            "--user",
+            "anonymous",
+        ],
+        b"node,time,value,status\n",
+        1000,
+        "",
+        "uahist: store refused (4)\n",
+        3,
+    ),
+    (
+        &[
+            "uahist",
+            "import",
+            "--settings",
+            "unmade",
+            "--user",
+            "anonymous",
+        ],
+        b"node,time,value,status\n",
+        1000,
+        "",
+        "uahist: store refused (2)\n",
+        3,
+    ),
+    (
+        &["uahist", "import", "--settings", "kept"],
+        b"node,time,value,status\n",
+        1000,
+        "",
+        USAGE,
+        2,
+    ),
+    (
+        &[
+            "uahist",
+            "import",
+            "--settings",
+            "good",
+            "--user",
+            "anonymous",
+            "--server",
+            "127.0.0.1:4846",
+        ],
+        b"node,time,value,status\n",
+        1000,
+        "",
+        "uahist: import ended: the server closed the connection\n",
+        1,
+    ),
+    (
+        &[
+            "uahist",
+            "import",
+            "--settings",
+            "good",
+            "--user",
+            "anonymous",
+            "--server",
+            "127.0.0.1:4847",
+        ],
+        b"node,time,value,status\n",
+        1000,
+        "",
+        "uahist: connection to the server ended (1)\n",
+        1,
+    ),
+    (
+        &[
+            "uahist",
+            "import",
+            "--settings",
+            "good",
+            "--user",
+            "anonymous",
+            "--server",
+            "127.0.0.1:4848",
+        ],
+        b"node,time,value,status\n",
+        1000,
+        "",
+        "uahist: connection to the server ended (2)\n",
+        1,
+    ),
+    (
         &["uahist", "import", "--settings", "none", "--user", "ann"],
         b"node,time,value,status\n",
         1000,
@@ -1331,7 +1540,7 @@ const TOLD_EMPTY: &str = "archive 00000000-0000-0000-0000-000000000000, replica 
     T: no values\n";
 
 /// The same of checks, and of a page.
-static CHECKS: [(&[&str], &[u8], usize, &str, &str, u8); 10] = [
+static CHECKS: [(&[&str], &[u8], usize, &str, &str, u8); 19] = [
     (
         &["uahist", "check", "--settings", "kept", "--store"],
         b"",
@@ -1404,6 +1613,71 @@ static CHECKS: [(&[&str], &[u8], usize, &str, &str, u8); 10] = [
         "uahist: settings file can't be read\n",
         2,
     ),
+    (&["uahist", "check", "--store"], b"", 1000, "", USAGE, 2),
+    (
+        &["uahist", "check", "--settings", "cut"],
+        b"",
+        1000,
+        "",
+        "uahist: settings refused (1)\nuahist: line 6\n",
+        2,
+    ),
+    (
+        &["uahist", "check", "--settings", "short"],
+        b"",
+        1000,
+        "",
+        "uahist: settings refused (2)\nuahist: [server] namespace\n",
+        2,
+    ),
+    (
+        &["uahist", "check", "--settings", "plant/empty"],
+        b"",
+        1000,
+        "",
+        "uahist: settings refused (3)\nuahist: [[user]] 1, password_file\n",
+        2,
+    ),
+    (
+        &["uahist", "check", "--settings", "other key"],
+        b"",
+        1000,
+        "",
+        "uahist: settings refused (4)\nuahist: [[variable]] 1, unit\n",
+        2,
+    ),
+    (
+        &["uahist", "check", "--settings", "other type"],
+        b"",
+        1000,
+        "",
+        "uahist: settings refused (5)\nuahist: [[variable]] 1, type\n",
+        2,
+    ),
+    (
+        &["uahist", "check", "--settings", "id twice"],
+        b"",
+        1000,
+        "",
+        "uahist: settings refused (5)\nuahist: [[variable]] 2, id\n",
+        2,
+    ),
+    (
+        &["uahist", "check", "--settings", "plant/unfiled"],
+        b"",
+        1000,
+        "",
+        "uahist: settings file can't be read\n",
+        2,
+    ),
+    (
+        &["uahist", "check", "--settings", "none", "--store"],
+        b"",
+        1000,
+        "",
+        "uahist: settings file can't be read\n",
+        2,
+    ),
     (
         &[
             "uahist",
@@ -1421,10 +1695,22 @@ static CHECKS: [(&[&str], &[u8], usize, &str, &str, u8); 10] = [
 ];
 
 /// Settings files that are kept in memory: their names, and their texts.
-static FILES: [(&str, &str); 37] = [
+static FILES: [(&str, &str); 40] = [
     (
         "valued",
         "[archive]\nid = '00000000000000000000000000000000'\nreplica = 1\n[server]\nlisten = ''\nurl = ''\napplication = ''\nnamespace = ''\nanonymous = true\n[[variable]]\nid = 'T'\nname = ''\ntype = 'Double'\n",
+    ),
+    (
+        "other key",
+        "[archive]\nid = '00000000000000000000000000000000'\nreplica = 1\n[server]\nlisten = ''\nurl = ''\napplication = ''\nnamespace = ''\nanonymous = true\n[[variable]]\nid = 'T'\nname = ''\ntype = 'Double'\nunit = 'bar'\n",
+    ),
+    (
+        "other type",
+        "[archive]\nid = '00000000000000000000000000000000'\nreplica = 1\n[server]\nlisten = ''\nurl = ''\napplication = ''\nnamespace = ''\nanonymous = true\n[[variable]]\nid = 'T'\nname = ''\ntype = 'double'\n",
+    ),
+    (
+        "id twice",
+        "[archive]\nid = '00000000000000000000000000000000'\nreplica = 1\n[server]\nlisten = ''\nurl = ''\napplication = ''\nnamespace = ''\nanonymous = true\n[[variable]]\nid = 'T'\nname = ''\ntype = 'Double'\n[[variable]]\nid = 'T'\nname = ''\ntype = 'Double'\n",
     ),
     (
         "kept",
@@ -1611,6 +1897,25 @@ static BUSY_SERVER: [Option<Client<'static>>; 1] = [Some(Client {
     room: 1000,
 })];
 
+/// A server that hangs up, one whose connection breaks, and one that takes nothing.
+static LOST_SERVERS: [Option<Client<'static>>; 3] = [
+    Some(Client {
+        bytes: b"",
+        breaks: false,
+        room: 1000,
+    }),
+    Some(Client {
+        bytes: b"",
+        breaks: true,
+        room: 1000,
+    }),
+    Some(Client {
+        bytes: b"",
+        breaks: false,
+        room: 0,
+    }),
+];
+
 /// A machine in memory, with the files above, that can be listened at on port 4840, and whom the callers reach there; a
 /// door of peers can be listened at on any other port. Each path but one opens an archive that holds nothing.
 #[derive(Drop)]
@@ -1708,6 +2013,9 @@ impl Host for Machine {
             4842 => QUIET_PEER[0]?,
             4843 => REFUSING_PEER[0]?,
             4844 => BUSY_SERVER[0]?,
+            4846 => LOST_SERVERS[0]?,
+            4847 => LOST_SERVERS[1]?,
+            4848 => LOST_SERVERS[2]?,
             _ => return None,
         };
         Some(peer.ends(self.0))
@@ -1821,6 +2129,46 @@ fn is_told(alloc: Global, ending: Result<(), ProgramFault>, said: &str, status: 
 fn tells_each_fault(rt: HostRuntime) {
     for (fault, said, status) in [
         (ProgramFault::StoreBroken, "uahist: store broken\n", 3),
+        (
+            ProgramFault::Settings(SettingsFault::OutOfMemory, None),
+            "uahist: settings refused (6)\n",
+            2,
+        ),
+        (
+            ProgramFault::Store(StoreFault::OutOfMemory),
+            "uahist: store refused (1)\n",
+            3,
+        ),
+        (
+            ProgramFault::Store(StoreFault::WrongReplica),
+            "uahist: store refused (3)\n",
+            3,
+        ),
+        (
+            ProgramFault::Store(StoreFault::Broken),
+            "uahist: store refused (5)\n",
+            3,
+        ),
+        (
+            ProgramFault::NoText,
+            "uahist: history ended: a value of a type that has no text\n",
+            1,
+        ),
+        (
+            ProgramFault::Server(ClientFault::TooLarge),
+            "uahist: import ended: a request is too long\n",
+            1,
+        ),
+        (
+            ProgramFault::Server(ClientFault::OutOfMemory),
+            "uahist: import ended: out of memory\n",
+            1,
+        ),
+        (
+            ProgramFault::Server(ClientFault::Connection(ServeFault::OutOfMemory)),
+            "uahist: connection to the server ended (4)\n",
+            1,
+        ),
         (
             ProgramFault::Connection(ServeFault::Read),
             "uahist: connection ended (1)\n",
