@@ -1,10 +1,10 @@
 //! What is told of what an archive holds.
 
 use HistoryUpdateType::{Delete, Insert};
-use archive::{Archive, LearnFault, ListArchive, StoreFault};
+use archive::{Archive, Failure, LearnFault, ListArchive, ScriptedArchive, StoreFault};
 use counted_io::Counted;
 use records::{Moment, Record};
-use settings_check::print_store;
+use settings_check::{CheckFault, print_store};
 use stamp::ReplicaNo;
 use std::alloc::Global;
 use std::test::Fail;
@@ -133,5 +133,61 @@ fn is_right(alloc: Global) -> Result<bool, Fail> {
 #[test]
 fn stores_are_told(rt: HostRuntime) -> Result<(), Fail> {
     assert!(rt; is_right(rt.alloc())?);
+    Ok(())
+}
+
+/// Which call of an archive fails, how, and what ends the check then.
+static FAULTS: [(u64, Failure, StoreFault); 4] = [
+    (1, Failure::OutOfMemory, StoreFault::OutOfMemory),
+    (1, Failure::Refused, StoreFault::Refused),
+    (1, Failure::BrokenBefore, StoreFault::Broken),
+    (2, Failure::BrokenAfter, StoreFault::Broken),
+];
+
+/// Whether a check of an archive ends by this fault, and nothing is printed.
+fn ends_by<A: Archive>(
+    alloc: Global,
+    archive: &mut A,
+    settings: &Settings,
+    fault: StoreFault,
+) -> bool {
+    let mut output = Counted::new(Vec::new(alloc));
+    let ended = print_store(alloc, archive, settings, &mut output);
+    let printed = output.into_inner();
+    ended == Err(CheckFault::Store(fault)) && printed.is_empty()
+}
+
+/// The same of an archive whose call fails so.
+fn is_refused(alloc: Global, settings: &Settings, row: &(u64, Failure, StoreFault)) -> bool {
+    let (call, failure, fault) = *row;
+    let Some(one) = ReplicaNo::new(1) else {
+        return false;
+    };
+    let mut archive = ScriptedArchive::new(alloc, Uuid::nil(), one, call, failure);
+    ends_by(alloc, &mut archive, settings, fault)
+}
+
+/// The first of these checks that ends otherwise.
+fn first_other(alloc: Global, settings: &Settings) -> Option<usize> {
+    let mut place = 0;
+    for row in &FAULTS {
+        if !is_refused(alloc, settings, row) {
+            return Some(place);
+        }
+        place = place.saturating_add(1usize);
+    }
+    None
+}
+
+/// The same where the settings are these.
+fn first_other_of_all(alloc: Global) -> Result<Option<usize>, Fail> {
+    let settings = Settings::read(alloc, SETTINGS)?;
+    Ok(first_other(alloc, &settings))
+}
+
+#[test]
+fn faults_of_stores_end_it(rt: HostRuntime) -> Result<(), Fail> {
+    let other = first_other_of_all(rt.alloc())?;
+    assert!(rt; other == None, "{other:?}");
     Ok(())
 }
