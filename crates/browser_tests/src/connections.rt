@@ -2,11 +2,13 @@
 
 use crate::portions::{Written, empty_archive, learn, learn_many, printed, report_of};
 use Coming::{ByBytes, Crowded, Whole};
-use archive::{Archive, StoreFault};
+use archive::{Archive, Failure, ScriptedArchive, StoreFault};
 use history_report::Form;
+use stamp::ReplicaNo;
 use std::alloc::{AllocError, Global};
 use std::test::Fail;
 use ua_settings::Settings;
+use uuid::Uuid;
 use web_connection::{WebConnection, WebStep};
 use web_page::{LastCalls, Overview};
 
@@ -275,7 +277,7 @@ static ANSWERED: [Row; 10] = [
 ];
 
 /// Requests that are refused.
-static REFUSED: [Row; 8] = [
+static REFUSED: [Row; 19] = [
     (
         true,
         "GET /history?node=ns%3D1%3Bs%3Dm HTTP/1.1\r\nHost: a\r\n\r\n",
@@ -294,7 +296,7 @@ static REFUSED: [Row; 8] = [
         true,
         "GET /level HTTP/1.1\r\nHost: a\r\n\r\n",
         "HTTP/1.1 404 Not Found\r\n",
-        "</html>\n",
+        "\n<p>Expected /, /history, /history.csv or /status.json.</p></body>\n</html>\n",
         0,
     ),
     (
@@ -322,17 +324,158 @@ static REFUSED: [Row; 8] = [
         true,
         "POST / HTTP/1.1\r\nHost: a\r\n\r\n",
         "HTTP/1.1 405 Method Not Allowed\r\n",
-        "</html>\n",
+        "\n<p>Expected GET or HEAD.</p></body>\n</html>\n",
         0,
     ),
     (
         true,
         "GET /history?node=ns%3D1%3Bs%3Dlist HTTP/1.1\r\nHost: a\r\n\r\n",
         "HTTP/1.1 500 Internal Server Error\r\n",
-        "</html>\n",
+        "\n<p>A value of this history is of a type that isn't written as text.</p></body>\n</html>\n",
+        0,
+    ),
+    (
+        true,
+        "GET /history HTTP/1.1\r\nHost: a\r\n\r\n",
+        "HTTP/1.1 400 Bad Request\r\n",
+        "\n<p>node: expected a node id, as ns%3D1%3Bs%3DTemperature or i%3D2258.</p></body>\n</html>\n",
+        0,
+    ),
+    (
+        true,
+        "GET /history.csv?node=n HTTP/1.1\r\nHost: a\r\n\r\n",
+        "HTTP/1.1 400 Bad Request\r\n",
+        "\n<p>node: expected a node id, as ns%3D1%3Bs%3DTemperature or i%3D2258.</p></body>\n</html>\n",
+        0,
+    ),
+    (
+        true,
+        "GET /history.csv?node=ns%3D1%3Bs%3Dn&from=noon HTTP/1.1\r\nHost: a\r\n\r\n",
+        "HTTP/1.1 400 Bad Request\r\n",
+        "\n<p>from: expected a time, as 2026-03-01T12:00:00Z.</p></body>\n</html>\n",
+        0,
+    ),
+    (
+        true,
+        "GET /history?node=ns%3D1%3Bs%3Dn&to=noon HTTP/1.1\r\nHost: a\r\n\r\n",
+        "HTTP/1.1 400 Bad Request\r\n",
+        "\n<p>to: expected a time, as 2026-03-01T12:00:00Z.</p></body>\n</html>\n",
+        0,
+    ),
+    (
+        true,
+        "GET /history.csv?node=ns%3D1%3Bs%3Dn&changes=1 HTTP/1.1\r\nHost: a\r\n\r\n",
+        "HTTP/1.1 400 Bad Request\r\n",
+        "\n<p>changes: expected true or false.</p></body>\n</html>\n",
+        0,
+    ),
+    (
+        true,
+        "GET /history?node=ns%3D1%3Bs%3Dn&page=2 HTTP/1.1\r\nHost: a\r\n\r\n",
+        "HTTP/1.1 400 Bad Request\r\n",
+        "\n<p>Expected node, from, to and changes for a history, else nothing.</p></body>\n</html>\n",
+        0,
+    ),
+    (
+        true,
+        "GET /?x HTTP/1.1\r\nHost: a\r\n\r\n",
+        "HTTP/1.1 400 Bad Request\r\n",
+        "\n<p>Expected node, from, to and changes for a history, else nothing.</p></body>\n</html>\n",
+        0,
+    ),
+    (
+        true,
+        "GET /status.json?x HTTP/1.1\r\nHost: a\r\n\r\n",
+        "HTTP/1.1 400 Bad Request\r\n",
+        "\n<p>Expected node, from, to and changes for a history, else nothing.</p></body>\n</html>\n",
+        0,
+    ),
+    (
+        true,
+        "GET /history?node=ns%3D1%3Bs%3Dn&node=ns%3D1%3Bs%3Dn HTTP/1.1\r\nHost: a\r\n\r\n",
+        "HTTP/1.1 400 Bad Request\r\n",
+        "\n<p>Expected each of node, from, to and changes once.</p></body>\n</html>\n",
+        0,
+    ),
+    (
+        true,
+        "GET / HTTP/1.1\r\n\r\n",
+        "HTTP/1.1 400 Bad Request\r\n",
+        "\n<p>Expected a request of HTTP/1.1, with one Host field.</p></body>\n</html>\n",
+        0,
+    ),
+    (
+        true,
+        "GET / HTTP/1.1\r\nHost: a\r\nContent-Length: 1\r\n\r\n",
+        "HTTP/1.1 413 Content Too Large\r\n",
+        "\n<p>Expected a request without a body.</p></body>\n</html>\n",
         0,
     ),
 ];
+
+/// A head of 65 fields, which is refused before its end comes.
+static LONG: [Row; 1] = [(
+    true,
+    "GET / HTTP/1.1\r\nHost: a\r\nX: y\r\nX: y\r\nX: y\r\nX: y\r\nX: y\r\nX: y\r\nX: y\r\nX: y\r\n\
+     X: y\r\nX: y\r\nX: y\r\nX: y\r\nX: y\r\nX: y\r\nX: y\r\nX: y\r\n\
+     X: y\r\nX: y\r\nX: y\r\nX: y\r\nX: y\r\nX: y\r\nX: y\r\nX: y\r\n\
+     X: y\r\nX: y\r\nX: y\r\nX: y\r\nX: y\r\nX: y\r\nX: y\r\nX: y\r\n\
+     X: y\r\nX: y\r\nX: y\r\nX: y\r\nX: y\r\nX: y\r\nX: y\r\nX: y\r\n\
+     X: y\r\nX: y\r\nX: y\r\nX: y\r\nX: y\r\nX: y\r\nX: y\r\nX: y\r\n\
+     X: y\r\nX: y\r\nX: y\r\nX: y\r\nX: y\r\nX: y\r\nX: y\r\nX: y\r\n\
+     X: y\r\nX: y\r\nX: y\r\nX: y\r\nX: y\r\nX: y\r\nX: y\r\nX: y\r\n\r\n",
+    "HTTP/1.1 431 Request Header Fields Too Large\r\n",
+    "\n<p>Expected at most 16 KiB and 64 fields in the head of a request.</p></body>\n</html>\n",
+    0,
+)];
+
+/// Requests of an archive whose store is broken.
+static BROKEN: [Row; 5] = [
+    (
+        true,
+        "GET / HTTP/1.1\r\nHost: a\r\n\r\n",
+        "HTTP/1.1 503 Service Unavailable\r\n",
+        "\n<p>The archive can't be read now.</p></body>\n</html>\n",
+        0,
+    ),
+    (
+        true,
+        "HEAD / HTTP/1.1\r\nHost: a\r\n\r\n",
+        "HTTP/1.1 503 Service Unavailable\r\n",
+        "\r\n\r\n",
+        0,
+    ),
+    (
+        true,
+        "GET /status.json HTTP/1.1\r\nHost: a\r\n\r\n",
+        "HTTP/1.1 503 Service Unavailable\r\n",
+        "\n<p>The archive can't be read now.</p></body>\n</html>\n",
+        0,
+    ),
+    (
+        true,
+        "GET /history?node=ns%3D1%3Bs%3Dn HTTP/1.1\r\nHost: a\r\n\r\n",
+        "HTTP/1.1 503 Service Unavailable\r\n",
+        "\n<p>The archive can't be read now.</p></body>\n</html>\n",
+        0,
+    ),
+    (
+        true,
+        "GET /history.csv?node=ns%3D1%3Bs%3Dn HTTP/1.1\r\nHost: a\r\n\r\n",
+        "HTTP/1.1 503 Service Unavailable\r\n",
+        "\n<p>The archive can't be read now.</p></body>\n</html>\n",
+        0,
+    ),
+];
+
+/// A request of more modifications at one moment than a page shows.
+static CROWDED: [Row; 1] = [(
+    true,
+    "GET /history?node=ns%3D1%3Bs%3Dn&changes=true HTTP/1.1\r\nHost: a\r\n\r\n",
+    "HTTP/1.1 500 Internal Server Error\r\n",
+    "\n<p>More than 500 modifications stand at one moment: ask for them by /history.csv.</p></body>\n</html>\n",
+    0,
+)];
 
 /// Requests whose credentials let nobody in.
 static DENIED: [Row; 3] = [
@@ -365,35 +508,35 @@ static NAMELESS: [Row; 5] = [
         false,
         "GET / HTTP/1.1\r\nHost: a\r\n\r\n",
         UNAUTHORIZED,
-        "</html>\n",
+        CREDENTIALS,
         0,
     ),
     (
         false,
         "GET /status.json HTTP/1.1\r\nHost: a\r\n\r\n",
         UNAUTHORIZED,
-        "</html>\n",
+        CREDENTIALS,
         0,
     ),
     (
         false,
         "GET /history?node=ns%3D1%3Bs%3Dn HTTP/1.1\r\nHost: a\r\n\r\n",
         UNAUTHORIZED,
-        "</html>\n",
+        CREDENTIALS,
         0,
     ),
     (
         false,
         "GET /history.csv?node=ns%3D1%3Bs%3Dn HTTP/1.1\r\nHost: a\r\n\r\n",
         UNAUTHORIZED,
-        "</html>\n",
+        CREDENTIALS,
         0,
     ),
     (
         false,
         "GET /history.csv?node=ns%3D1%3Bs%3Dm HTTP/1.1\r\nHost: a\r\n\r\n",
         UNAUTHORIZED,
-        "</html>\n",
+        CREDENTIALS,
         0,
     ),
 ];
@@ -409,6 +552,10 @@ static STEPS: [Row; 1] = [(
 
 /// What the answer to who isn't let in begins by.
 const UNAUTHORIZED: &str = "HTTP/1.1 401 Unauthorized\r\n";
+
+/// What its page ends by.
+const CREDENTIALS: &str =
+    "\n<p>Expected a name and a password by the scheme Basic.</p></body>\n</html>\n";
 
 /// Whether a text tells nothing of the plant.
 fn tells_nothing(text: &str) -> bool {
@@ -475,11 +622,44 @@ fn first_other<A: Archive>(
     None
 }
 
-/// Whether these requests are answered so.
-fn are_answered(alloc: Global, rows: &[Row], way: (WebStep, Coming)) -> Result<(), Fail> {
-    match first_other_over(alloc, empty_archive(alloc), rows, way) {
+/// A test that fails at the request that is answered otherwise.
+fn judged(other: Option<&'static str>) -> Result<(), Fail> {
+    match other {
         None => Ok(()),
         Some(request) => Err(Fail::from(request)),
+    }
+}
+
+/// Whether these requests are answered so.
+fn are_answered(alloc: Global, rows: &[Row], way: (WebStep, Coming)) -> Result<(), Fail> {
+    judged(first_other_over(alloc, empty_archive(alloc), rows, way))
+}
+
+/// An archive whose store breaks once it has taken the plant's 41 values.
+fn breaking_archive(alloc: Global) -> Result<ScriptedArchive, StoreFault> {
+    match ReplicaNo::new(7) {
+        Some(own) => Ok(ScriptedArchive::new(alloc, Uuid::nil(), own, 42, Failure::BrokenBefore)),
+        None => Err(StoreFault::WrongReplica),
+    }
+}
+
+/// The first request of a crowded moment that is answered otherwise over an archive, which takes 501 modifications at one moment.
+fn first_other_crowded<A: Archive>(alloc: Global, archive: &mut A) -> Option<&'static str> {
+    if learn_many(alloc, archive, 1, 501, 501).is_ok() {
+        first_other(alloc, archive, &CROWDED, (WebStep::Ended, ByBytes))
+    } else {
+        Some("a plant")
+    }
+}
+
+/// The same over an archive that was made.
+fn first_other_crowded_over<A: Archive + Drop>(
+    alloc: Global,
+    made: Result<A, StoreFault>,
+) -> Option<&'static str> {
+    match made {
+        Ok(mut archive) => first_other_crowded(alloc, &mut archive),
+        Err(_) => Some("an archive"),
     }
 }
 
@@ -519,6 +699,24 @@ fn requests_are_answered(rt: HostRuntime) -> Result<(), Fail> {
 #[test]
 fn requests_are_refused(rt: HostRuntime) -> Result<(), Fail> {
     are_answered(rt.alloc(), &REFUSED, (WebStep::Ended, ByBytes))
+}
+
+#[test]
+fn long_heads_are_refused(rt: HostRuntime) -> Result<(), Fail> {
+    are_answered(rt.alloc(), &LONG, (WebStep::Ended, Crowded))
+}
+
+#[test]
+fn a_broken_store_is_told(rt: HostRuntime) -> Result<(), Fail> {
+    let alloc = rt.alloc();
+    let way = (WebStep::Ended, ByBytes);
+    judged(first_other_over(alloc, breaking_archive(alloc), &BROKEN, way))
+}
+
+#[test]
+fn a_crowded_moment_is_told(rt: HostRuntime) -> Result<(), Fail> {
+    let alloc = rt.alloc();
+    judged(first_other_crowded_over(alloc, empty_archive(alloc)))
 }
 
 #[test]
