@@ -14,7 +14,7 @@ use ua_settings::{Settings, SettingsFault};
 /// 2026-03-01T12:00:00Z.
 const NOON: i64 = 134_168_400_000_000_000;
 
-/// A plant with an Int32, a String and an array; ann may write, bob only read.
+/// A plant with an Int32, a String, an array, and a variable of each other kind of text; ann may write, bob only read.
 const PLANT: &str = "[archive]
 id = '00000000000000000000000000000000'
 replica = 1
@@ -47,6 +47,26 @@ id = 'A'
 name = 'Alarms'
 type = 'Int32'
 array = true
+[[variable]]
+id = 'B'
+name = ''
+type = 'Boolean'
+[[variable]]
+id = 'D'
+name = ''
+type = 'Double'
+[[variable]]
+id = 'M'
+name = ''
+type = 'DateTime'
+[[variable]]
+id = 'G'
+name = ''
+type = 'Guid'
+[[variable]]
+id = 'Y'
+name = ''
+type = 'ByteString'
 ";
 
 /// The plant's settings.

@@ -111,7 +111,7 @@ const FIVE: &[u8] = b"node,time,value,status\n\
     ns=1;s=T,2026-03-01T12:00:02.5Z,-6,Good\n";
 
 /// Runs, each into a server of its own.
-static RUNS: [Run; 7] = [
+static RUNS: [Run; 8] = [
     (
         Status::GOOD,
         &[
@@ -131,6 +131,26 @@ static RUNS: [Run; 7] = [
         b"node,time,value,status\nns=1;s=T,@5,5,\n",
         Ok((1, 0, 0, 0, 1)),
         "row 1: 801F0000 Bad_UserAccessDenied\n1 row: 1 refused\n",
+    ),
+    (
+        Status::GOOD,
+        &[
+            Status::BAD_OUT_OF_MEMORY,
+            Status::BAD_RESOURCE_UNAVAILABLE,
+            Status::BAD_ENCODING_LIMITS_EXCEEDED,
+            Status::BAD_TYPE_MISMATCH,
+            Status::BAD_NO_ENTRY_EXISTS,
+            Status::BAD_SERVICE_UNSUPPORTED,
+        ],
+        b"node,time,value,status\nns=1;s=T,@1,5,\nns=1;s=T,@2,5,\nns=1;s=T,@3,5,\nns=1;s=T,@4,5,\nns=1;s=T,@5,5,\nns=1;s=T,@6,5,\n",
+        Ok((6, 0, 0, 0, 6)),
+        "row 1: 80030000 Bad_OutOfMemory\n\
+         row 2: 80040000 Bad_ResourceUnavailable\n\
+         row 3: 80080000 Bad_EncodingLimitsExceeded\n\
+         row 4: 80740000 Bad_TypeMismatch\n\
+         row 5: 80A00000 Bad_NoEntryExists\n\
+         row 6: 800B0000\n\
+         6 rows: 6 refused\n",
     ),
     (
         Status::GOOD,

@@ -39,9 +39,17 @@ const WRONG: &[u8] = b"node,time,value,status\n\
     ns=1;s=T,@0,5,\n\
     ns=1;s=A,@5,5,\n\
     \xff,@5,5,\n\
-    ns=1;s=T,@5,,\n";
+    ns=1;s=T,@5,,\n\
+    ns=1;s=T,@5,2147483648,\n\
+    ns=1;s=B,@5,TRUE,\n\
+    ns=1;s=D,@5,one,\n\
+    ns=1;s=M,@5,noon,\n\
+    ns=1;s=G,@5,5,\n\
+    ns=1;s=Y,@5,5,\n\
+    ns=1;s=A,@5,\"[1,]\",\n\
+    ns=1;s=A,@5,\"[2147483648]\",\n";
 
-/// What is told of them; the last one has no value, which fits each type.
+/// What is told of them; the eleventh has no value, which fits each type.
 const WHY: &str = "row 1: node: expected a node id, as ns=1;s=Temperature or i=2258\n\
     row 2: 80340000 Bad_NodeIdUnknown\n\
     row 3: 80720000 Bad_HistoryOperationUnsupported\n\
@@ -52,7 +60,15 @@ const WHY: &str = "row 1: node: expected a node id, as ns=1;s=Temperature or i=2
     row 8: 80230000 Bad_InvalidTimestamp\n\
     row 9: value: expected a JSON array of values, as [1, 2] or [\"on\", \"off\"]\n\
     row 10: expected UTF-8\n\
-    11 rows: 1 inserted, 10 refused\n";
+    row 12: value: expected a whole number of the type's range\n\
+    row 13: value: expected true or false\n\
+    row 14: value: expected a number, inf, -inf or NaN\n\
+    row 15: value: expected a time, as 2026-03-01T12:00:00.5Z or @134168400000000000\n\
+    row 16: value: expected a Guid, as 72962b91-fa75-4ae6-8d28-b404dc7daf63\n\
+    row 17: value: expected bytes, two hex digits each\n\
+    row 18: value: expected a JSON array of values, as [1, 2] or [\"on\", \"off\"]\n\
+    row 19: value: expected a whole number of the type's range\n\
+    19 rows: 1 inserted, 18 refused\n";
 
 /// Runs, one after the other.
 static RUNS: [Run; 11] = [
@@ -85,7 +101,7 @@ static RUNS: [Run; 11] = [
         "2 rows: 1 inserted, 1 exist\n",
         7,
     ),
-    (Insert, WRONG, Ok((11, 1, 0, 0, 10)), WHY, 8),
+    (Insert, WRONG, Ok((19, 1, 0, 0, 18)), WHY, 8),
     (
         Insert,
         b"ns=1;s=T,2026-03-01T12:00:04Z,9,\n",
