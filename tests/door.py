@@ -470,7 +470,7 @@ def sync():
     assert updates(line, [insert(1, 5), insert(2, 6)]) == [(0, [INSERTED])] * 2
     words = [program, "sync", "--settings", other.settings, "--peer"]
     told = run([*words, f"127.0.0.1:{server.port}"])
-    tell((told.status, told.out, told.said) == (1, b"", "uahist: exchange ended (1)\n"),
+    tell((told.status, told.out, told.said) == (1, b"", "uahist: exchange ended (1)\nuahist: what came is no frame, or the peer hung up: is it the address of its door?\n"),
          "sync --peer with the clients' address ends in: exchange ended (1), status 1", (told.status, told.out, told.said))
     tell(other.dump() == "", "and learned nothing", other.dump())
     told = run([*words, f"127.0.0.1:{server.door}"])

@@ -10,7 +10,7 @@ PORTS = itertools.cycle(random.sample(range(10_000, 30_000), 20_000))
 STATED = [
     (0, r""),
     (0, r"connection ended \([1-4]\)\n"),  # of serve
-    (2, r"usage: uahist answer .*\n"),
+    (2, r"usage: uahist answer [^\n]*\nuahist: [^\n]+\n"),
     (2, r"memory ran out before the command began\n"),
     (2, r"settings file can't be read\n(uahist: [^\n]{1,80}\n)?"),
     (2, r"settings refused \([1-6]\)\n(uahist: [^\n]{1,180}\n){0,2}"),
@@ -19,7 +19,7 @@ STATED = [
     (2, r"bad hex\n"),
     (1, r"(door's |page's |)address refused\nuahist: [^\n]{1,80}\n"),
     (1, r"peer's address refused \(\d+\)\nuahist: [^\n]{1,80}\n"),
-    (1, r"exchange ended \(\d+\)\n"),
+    (1, r"exchange ended \(\d+\)\nuahist: [^\n]{1,80}\n"),
     (1, r"a number was given to two records \(\d+\)\nuahist: [^\n]{1,80}\n"),
     (2, r"--(node|from|to): want a .*\n"),
     (1, r"history ended: a value of a type that has no text\n"),

@@ -5,4 +5,5 @@ mod line;
 
 pub use line::{
     Asked, HistoryWords, ImportWords, Line, LineFault, PerformWord, SyncWords, VERSION, read_line,
+    why_refused,
 };

@@ -1,6 +1,6 @@
 //! The command line.
 
-ghost use Rattle.std.specs.Prelude.{◌≡◌, [], map, IfOk, OnErr, IsErrOf, None, Some, true, false, codes, option_copied};
+ghost use Rattle.std.specs.Prelude.{◌≡◌, [], map, IfOk, IfSome, OnErr, IsErrOf, None, Some, true, false, codes, option_copied};
 ghost use Rattle.clap.specs.Words.{app_of, kind_of, rule_of, rows_of, found_of, subcommand_of, subcommand_rows_of, first_of};
 ghost use Rattle.clap.specs.declared.builder.command.Command.TheViews.{out-Command};
 ghost use Rattle.clap.specs.declared.error.ErrorKind.TheVariants as clap;
@@ -795,6 +795,34 @@ fn read_matches<'a>(matches: &ArgMatches<'a>) -> Result<Line<'a>, LineFault>
     match matches.subcommand_matches("check") {
         None => Err(LineFault::Words),
         Some(check) => read_check(check),
+    }
+}
+
+/// What is said of a refusal, unless memory was wanting.
+fn refusal_said(alloc: Global, refusal: &Refusal) -> Option<String>
+    ensures { kind_of refusal.now ≡ clap.OutOfMemory → result ≡ None }
+{
+    if let ErrorKind::OutOfMemory = refusal.kind() {
+        return None;
+    }
+    let mut text = String::new(alloc);
+    match write!(text, "{refusal}") {
+        Ok(()) => Some(text),
+        Err(_) => None,
+    }
+}
+
+/// What `clap` says of words that it refuses, the program's name first, as `error: unexpected argument '--port' found` and more
+/// lines; none of words that it takes, or where memory ran out.
+pub fn why_refused<'a, S: AsStr>(alloc: Global, words: &'a [S]) -> Option<String>
+    ensures { IfSome result (λ text. takes uahist (map S.text words.now) ≡ true → ⊥) }
+{
+    let Ok(command) = command(alloc) else {
+        return None;
+    };
+    match command.try_get_matches_from(words) {
+        Ok(_) => None,
+        Err(refusal) => refusal_said(alloc, &refusal),
     }
 }
 

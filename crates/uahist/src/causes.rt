@@ -3,10 +3,14 @@
 
 use archive::StoreFault;
 use counted_io::{Counted, ServeFault};
+use std::alloc::{AllocError, Global};
 use std::io::{ErrorKind, Write};
 use ua_client::ClientFault;
 use ua_server::ProgramFault;
 use ua_settings::SettingsFault;
+
+/// What is said of words that the parser takes, and that say nothing to do.
+const NO_COMMAND: &str = "want a command, and behind --perform insert, replace or update";
 
 /// What keys of the settings hold, for those whose value may be wrong.
 static WANTED: [(&str, &str); 23] = [
@@ -204,6 +208,23 @@ fn of_server(fault: ClientFault) -> Option<&'static str> {
     }
 }
 
+/// Why a call of a peer met the end of the exchange, by its number, here or there.
+fn of_exchange(number: u32) -> Option<&'static str> {
+    match number {
+        1 => Some("what came is no frame, or the peer hung up: is it the address of its door?"),
+        2 => Some("the peer is of another archive: compare [archive] id"),
+        3 => Some("a record was refused: a disk is full, or two records have one number"),
+        4 => Some("out of memory, here or there"),
+        5 => Some("the peer has this machine's number: compare [archive] replica"),
+        6 => Some("a read or a write of a disk failed, here or there"),
+        7 => Some("there were too many frames"),
+        8 => Some("the peer speaks an older format of exchanges: compare the versions"),
+        9 => Some("a record is ahead of a clock: compare the clocks, and [door] ahead"),
+        10 => Some("a record is of a replica that a [door] doesn't take: compare its replicas"),
+        _ => Some("the number is the peer's own"),
+    }
+}
+
 /// What is told of an ending behind its own line, by what the system said last where the machine couldn't do something. An
 /// address of which it said nothing wasn't asked for: its text spells none.
 pub(crate) fn of_ending(
@@ -225,11 +246,45 @@ pub(crate) fn of_ending(
             said.or(Some("not an address: want one as 127.0.0.1:4840"))
         }
         ProgramFault::Server(fault) => of_server(*fault),
+        ProgramFault::Exchange(fault) => of_exchange(u32::from(fault.number())),
+        ProgramFault::Peer(number) => of_exchange(*number),
         ProgramFault::DoorNetwork(_) => Some("not a network: want one as 10.1.0.0/16"),
         ProgramFault::NumberTwice(_) => {
             Some("an old copy of a store was put back, or two machines have one number")
         }
         _ => None,
+    }
+}
+
+/// What the parser of the command line says, up to its first empty line, as one line.
+fn mistake_in(alloc: Global, said: &str) -> Result<String, AllocError> {
+    let mut told = String::new(alloc);
+    for line in said.lines() {
+        let words = line.trim();
+        if words.is_empty() {
+            return Ok(told);
+        }
+        if !told.is_empty() {
+            told.push(' ')?;
+        }
+        told.push_str(words.strip_prefix("error: ").unwrap_or(words))?;
+    }
+    Ok(told)
+}
+
+/// Tells which of the words of a command line is wrong, by what the parser says of them; where it says nothing they name no
+/// command, or a way to import that there isn't.
+pub(crate) fn tell_mistake<W: Write>(
+    alloc: Global,
+    said: Option<String>,
+    errors: &mut Counted<W>,
+) -> Result<(), ServeFault> {
+    let Some(said) = said else {
+        return tell(NO_COMMAND, errors);
+    };
+    match mistake_in(alloc, said.as_str()) {
+        Ok(mistake) => tell(mistake.as_str(), errors),
+        Err(_) => Err(ServeFault::OutOfMemory),
     }
 }
 
