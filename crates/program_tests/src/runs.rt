@@ -499,7 +499,7 @@ const USAGE: &str =
     "uahist: usage: uahist answer [--settings FILE] [--hex] [--now N] | serve --settings FILE [--connections N] | dump --settings FILE | sync --settings FILE --peer ADDRESS [--check] [--verify] | history --settings FILE --node ID [--from T] [--to T] [--changes] [--csv] [--html] | import --settings FILE --user NAME [--perform insert|replace|update] [--server ADDRESS] [FILE.csv] | check --settings FILE [--store]\n";
 
 /// Command lines, the input, the room of the output, what it has then, what is said, and the exit status.
-static RUNS: [(&[&str], &[u8], usize, &str, &str, u8); 67] = [
+static RUNS: [(&[&str], &[u8], usize, &str, &str, u8); 57] = [
     (&["uahist", "--version"], b"", 1000, "uahist 0.1.0\n", "", 0),
     (
         &["uahist", "--version"],
@@ -631,125 +631,6 @@ static RUNS: [(&[&str], &[u8], usize, &str, &str, u8); 67] = [
         "525844461F0000000200000000000000000000000000000000010000000000\n",
         "",
         0,
-    ),
-    (
-        &["uahist", "history", "--settings", "good", "--node", "i=1"],
-        b"",
-        1000,
-        "time                          value                     status\n",
-        "",
-        0,
-    ),
-    (
-        &[
-            "uahist",
-            "history",
-            "--settings",
-            "kept",
-            "--node",
-            "ns=1;s=T",
-            "--from",
-            "2026-03-01T00:00:00Z",
-            "--to",
-            "@5",
-            "--csv",
-        ],
-        b"",
-        1000,
-        "node,time,value,status\n",
-        "",
-        0,
-    ),
-    (
-        &[
-            "uahist",
-            "history",
-            "--settings",
-            "good",
-            "--node",
-            "i=1",
-            "--changes",
-            "--csv",
-        ],
-        b"",
-        20,
-        "node,time,value,stat",
-        "uahist: connection ended (2)\n",
-        1,
-    ),
-    (
-        &["uahist", "history", "--settings", "good", "--node", "T"],
-        b"",
-        1000,
-        "",
-        "uahist: --node: want a node id, as ns=1;s=Temperature\n",
-        2,
-    ),
-    (
-        &[
-            "uahist",
-            "history",
-            "--settings",
-            "good",
-            "--node=i=1",
-            "--to",
-            "noon",
-            "--from",
-            "noon",
-        ],
-        b"",
-        1000,
-        "",
-        "uahist: --from: want a time, as 2026-03-01T12:00:00Z\n",
-        2,
-    ),
-    (
-        &[
-            "uahist",
-            "history",
-            "--settings",
-            "good",
-            "--node=i=1",
-            "--to",
-            "noon",
-        ],
-        b"",
-        1000,
-        "",
-        "uahist: --to: want a time, as 2026-03-01T12:00:00Z\n",
-        2,
-    ),
-    (
-        &["uahist", "history", "--settings", "none", "--node=i=1"],
-        b"",
-        1000,
-        "",
-        "uahist: settings file can't be read\n",
-        2,
-    ),
-    (
-        &["uahist", "history", "--settings", "short", "--node=T"],
-        b"",
-        1000,
-        "",
-        "uahist: settings refused (2)\nuahist: [server] namespace\n",
-        2,
-    ),
-    (
-        &["uahist", "history", "--settings", "others", "--node=T"],
-        b"",
-        1000,
-        "",
-        "uahist: store refused (4)\n",
-        3,
-    ),
-    (
-        &["uahist", "history", "--settings", "good"],
-        b"",
-        1000,
-        "",
-        USAGE,
-        2,
     ),
     (
         &["uahist", "dump", "--settings", "unmade"],
@@ -1101,6 +982,129 @@ static RUNS: [(&[&str], &[u8], usize, &str, &str, u8); 67] = [
         1000,
         "",
         "uahist: settings refused (3)\nuahist: [[user]] 1, password_file\n",
+        2,
+    ),
+];
+
+/// The same of histories.
+static HISTORIES: [(&[&str], &[u8], usize, &str, &str, u8); 10] = [
+    (
+        &["uahist", "history", "--settings", "good", "--node", "i=1"],
+        b"",
+        1000,
+        "time                          value                     status\n",
+        "",
+        0,
+    ),
+    (
+        &[
+            "uahist",
+            "history",
+            "--settings",
+            "kept",
+            "--node",
+            "ns=1;s=T",
+            "--from",
+            "2026-03-01T00:00:00Z",
+            "--to",
+            "@5",
+            "--csv",
+        ],
+        b"",
+        1000,
+        "node,time,value,status\n",
+        "",
+        0,
+    ),
+    (
+        &[
+            "uahist",
+            "history",
+            "--settings",
+            "good",
+            "--node",
+            "i=1",
+            "--changes",
+            "--csv",
+        ],
+        b"",
+        20,
+        "node,time,value,stat",
+        "uahist: connection ended (2)\n",
+        1,
+    ),
+    (
+        &["uahist", "history", "--settings", "good", "--node", "T"],
+        b"",
+        1000,
+        "",
+        "uahist: --node: want a node id, as ns=1;s=Temperature\n",
+        2,
+    ),
+    (
+        &[
+            "uahist",
+            "history",
+            "--settings",
+            "good",
+            "--node=i=1",
+            "--to",
+            "noon",
+            "--from",
+            "noon",
+        ],
+        b"",
+        1000,
+        "",
+        "uahist: --from: want a time, as 2026-03-01T12:00:00Z\n",
+        2,
+    ),
+    (
+        &[
+            "uahist",
+            "history",
+            "--settings",
+            "good",
+            "--node=i=1",
+            "--to",
+            "noon",
+        ],
+        b"",
+        1000,
+        "",
+        "uahist: --to: want a time, as 2026-03-01T12:00:00Z\n",
+        2,
+    ),
+    (
+        &["uahist", "history", "--settings", "none", "--node=i=1"],
+        b"",
+        1000,
+        "",
+        "uahist: settings file can't be read\n",
+        2,
+    ),
+    (
+        &["uahist", "history", "--settings", "short", "--node=T"],
+        b"",
+        1000,
+        "",
+        "uahist: settings refused (2)\nuahist: [server] namespace\n",
+        2,
+    ),
+    (
+        &["uahist", "history", "--settings", "others", "--node=T"],
+        b"",
+        1000,
+        "",
+        "uahist: store refused (4)\n",
+        3,
+    ),
+    (
+        &["uahist", "history", "--settings", "good"],
+        b"",
+        1000,
+        "",
+        USAGE,
         2,
     ),
 ];
@@ -2061,6 +2065,16 @@ fn is_run(
 #[test]
 fn runs_and_reports(rt: HostRuntime) {
     for (words, input, room, printed, said, status) in RUNS {
+        assert!(rt;
+            is_run(rt.alloc(), words, input, room, printed, said, status),
+            "{said}"
+        );
+    }
+}
+
+#[test]
+fn histories_and_reports(rt: HostRuntime) {
+    for (words, input, room, printed, said, status) in HISTORIES {
         assert!(rt;
             is_run(rt.alloc(), words, input, room, printed, said, status),
             "{said}"
