@@ -68,12 +68,12 @@ drop_mapped (suc k) (h ∷ hs) = drop_mapped k hs
 
 -- ---- what is past a value of the body
 
-past_back : (d : Direction) (x y : Held) → is_past d x.time y.time ≡ true
+pub past_back : (d : Direction) (x y : Held) → is_past d x.time y.time ≡ true
     → is_past d y.time x.time ≡ false
 past_back Forward x y e = grind (arith, nat_tests, ints, e)
 past_back Backward x y e = grind (arith, nat_tests, ints, e)
 
-past_on : (d : Direction) (limit : Option ℤ) (x y : Held) → is_past_any d limit x.time ≡ true
+pub past_on : (d : Direction) (limit : Option ℤ) (x y : Held) → is_past_any d limit x.time ≡ true
     → is_past d x.time y.time ≡ true → is_past_any d limit y.time ≡ true
 past_on d None x y e k = refl
 past_on Forward (Some t) x y e k = grind (arith, nat_tests, ints, e, k)

@@ -7,5 +7,7 @@ pub mod Finding
 pub mod Showing
 pub mod Node
 pub mod Chains
+pub mod Carrying
+pub mod Gathering
 pub mod Wholes
 pub mod Short

@@ -49,10 +49,9 @@ fn next(time: Moment) -> Moment
     }
 }
 
-/// The moment right before one.
+/// The moment right before one; the earliest of all has none.
 fn previous(time: Moment) -> Moment
-    requires { first_time ≤ℤ time }
-    ensures { result ≡ time -ℤ pos 1 }
+    ensures { first_time ≤ℤ time → result ≡ time -ℤ pos 1 }
 {
     if time.pico > 0 {
         Moment {
@@ -61,7 +60,7 @@ fn previous(time: Moment) -> Moment
         }
     } else {
         Moment {
-            ticks: time.ticks - 1,
+            ticks: time.ticks.saturating_sub(1),
             pico: 9999,
         }
     }
@@ -139,8 +138,7 @@ pub(crate) fn body(details: &ReadRawModifiedDetails) -> Span
 impl Span {
     /// Its moments that are beyond a limit.
     fn beyond(&self, direction: Direction, limit: Moment) -> Span
-        requires { first_time ≤ℤ limit }
-        ensures { (t : ℤ) → t ≤ℤ greatest_time
+        ensures { first_time ≤ℤ limit → (t : ℤ) → t ≤ℤ greatest_time
             → is_between result.from result.to t
             ≡ (is_between self.now.from self.now.to t && is_past direction limit t) }
     {
@@ -266,17 +264,16 @@ pub(crate) fn given_after(details: &ReadRawModifiedDetails, position: &Option<Po
     given_before(position) + page_size(details, position) as u32
 }
 
-/// The times of the body that are still to come.
-pub(crate) fn span_after(details: &ReadRawModifiedDetails, position: &Option<Position>) -> Span
-    requires given { IsTrue (is_given details.now.start_time.0 || is_given details.now.end_time.0) }
-    requires place { IfSome position.now (λ p. first_time ≤ℤ p.time) }
-    ensures { (t : ℤ) → first_time ≤ℤ t → t ≤ℤ greatest_time
+/// The times of the body that are beyond a moment, where one is given.
+pub(crate) fn span_beyond(details: &ReadRawModifiedDetails, limit: Option<Moment>) -> Span
+    requires { IsTrue (is_given details.now.start_time.0 || is_given details.now.end_time.0) }
+    ensures { IfSome limit (λ t. first_time ≤ℤ t)
+        → (t : ℤ) → first_time ≤ℤ t → t ≤ℤ greatest_time
         → is_between result.from result.to t
-        ≡ (in_body details.now t
-        && is_past_any (direction details.now) (limit_at details.now position.now) t) }
+        ≡ (in_body details.now t && is_past_any (direction details.now) limit t) }
 {
     let span = body(details);
-    match limit_at(details, position) {
+    match limit {
         None => span,
         Some(limit) => span.beyond(direction(details), limit),
     }

@@ -4,6 +4,7 @@
 
 mod asked;
 mod bounds;
+mod fault;
 mod item;
 mod laws;
 mod modified;
@@ -11,6 +12,7 @@ mod node;
 mod point;
 mod query;
 mod raw;
+mod scope;
 mod showing;
 
 pub use laws::{
@@ -18,7 +20,7 @@ pub use laws::{
     pages_of_modifications_join, pages_of_raw_values_join, pages_show_the_whole_read,
     what_grows_goes_on,
 };
-pub use node::{is_short_value, read_node};
+pub use node::{is_short_value, read_node, read_node_within};
 pub use point::{PagePoint, Phase, Position, put_continuation, read_continuation};
 pub use query::Query;
 pub use showing::with_stamps;

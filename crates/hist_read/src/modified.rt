@@ -1,19 +1,26 @@
 //! Pages of modifications.
 
-ghost use Rattle.std.specs.Prelude.{◌≡◌, ◌+◌, ◌||◌, IsTrue, false};
+ghost use Rattle.std.specs.Prelude.{◌≡◌, ◌+◌, ◌<◌, ◌||◌, IsTrue, IfOk, true, false, min, map, take, length, Option};
+ghost use Rattle.ua_binary.specs.Format.{saturated};
 ghost use Rattle.stamp.specs.Numbers.{number_of};
 ghost use Rattle.records.specs.Contents.{cut};
-ghost use Rattle.archive.specs.Store.{Asks, IsAskedWithin};
+ghost use Rattle.archive.specs.Reading.{place_of};
+ghost use Rattle.archive.specs.Store.{IsAskedWithin};
+ghost use Rattle.archive.specs.declared.reading.LogPlace.{LogPlace};
 ghost use Rattle.hist_read.specs.Asking.{is_given};
-ghost use Rattle.hist_read.specs.Reads.{page, page_size, is_spent, next_place, place_at, modified_position};
-ghost use Rattle.hist_read.specs.Pages.{IsModifiedPage};
+ghost use Rattle.hist_read.specs.Reads.{page, page_size, is_spent, next_place, place_at, modified, modified_position};
+ghost use Rattle.hist_read.specs.Pages.{portion, IsModifiedPage};
+ghost use Rattle.hist_read.specs.Carrying.{value_length, values_length};
+ghost use Rattle.hist_read.specs.Gathering.{value_in, entries_behind, AreGathered, EntriesGatherOn, AreTooLong, AreModifiedTooLong};
+ghost use Rattle.hist_read.specs.Finding.{Finds};
 
 use crate::asked::{body, direction, given_after, goes_on, page_size};
+use crate::fault::PageFault;
 use crate::point::{Phase, Position};
-use archive::{Archive, LogPlace, StoreFault};
+use crate::scope::{PORTION, Scope, value_size};
+use archive::{Archive, LogPlace};
 use records::Entry;
-use stamp::{Stamp, Vector};
-use std::alloc::Global;
+use stamp::Stamp;
 use ua_binary::NodeId;
 use ua_services::ReadRawModifiedDetails;
 
@@ -88,29 +95,168 @@ fn page(
     ModifiedPage { entries, next }
 }
 
-/// Reads a page of modifications.
-pub(crate) fn read_modified<A: Archive>(
-    alloc: Global,
+/// Modifications that stand one behind the other, as far as the archive was asked for them.
+#[derive(Drop)]
+struct GatheredEntries {
+    entries: Vec<Entry>,
+    /// How many are wanted.
+    most: usize,
+    /// How many bytes their values have, or 2^64 - 1 where there are more.
+    size: usize,
+    /// The place that the others stand behind.
+    end: Option<LogPlace>,
+}
+
+/// How many bytes the value of a modification has, without its status and times, or 2^64 - 1 where there are more.
+fn entry_size(entry: &Entry) -> usize
+    ensures { result ≡ saturated (value_length (value_in entry.now)) }
+{
+    match &entry.value {
+        None => 0,
+        Some(value) => value_size(value),
+    }
+}
+
+/// And of several.
+fn size_of(entries: &[Entry]) -> usize
+    ensures { result ≡ saturated (values_length (map value_in entries.now)) }
+{
+    let mut size: usize = 0;
+    for entry in entries {
+        size = size.saturating_add(entry_size(entry));
+    }
+    size
+}
+
+/// The place of a modification.
+fn place_of(entry: &Entry) -> LogPlace
+    ensures { result ≡ place_of entry.now }
+{
+    LogPlace {
+        time: entry.time,
+        stamp: Stamp {
+            tick: entry.tick,
+            origin: entry.origin,
+        },
+    }
+}
+
+/// Gathers the next modifications, and tells whether more are wanted. `TooLong` where the page shows each of those that were
+/// gathered, and their values are more than may be carried.
+fn gather<A: Archive>(
+    archive: &mut A,
+    node: &NodeId,
+    details: &ReadRawModifiedDetails,
+    scope: &Scope,
+    gathered: &mut GatheredEntries,
+) -> Result<bool, PageFault>
+    requires given { IsTrue (is_given details.now.start_time.0 || is_given details.now.end_time.0) }
+    requires size { gathered.old.size
+        ≡ saturated (values_length (map value_in gathered.old.entries.items)) }
+    ensures finds { (start : Option LogPlace)
+        → Finds (A.state archive.old) (A.state archive.new) scope.now.longest result
+        (λ more.
+        AreGathered (cut (A.state archive.old).content (number_of scope.now.within)) node.now
+        details.now start gathered.old
+        → EntriesGatherOn (cut (A.state archive.old).content (number_of scope.now.within)) node.now
+        details.now start more gathered.new)
+        (λ limit.
+        AreGathered (cut (A.state archive.old).content (number_of scope.now.within)) node.now
+        details.now start gathered.old
+        → AreTooLong value_in gathered.old.most
+        (entries_behind (cut (A.state archive.old).content (number_of scope.now.within)) node.now
+        details.now start) limit) }
+    ensures asked { IsAskedWithin (min portion gathered.old.most) (A.asked archive.old)
+        (A.asked archive.new) }
+    ensures size { IfOk result
+        (λ _. gathered.new.size
+        ≡ saturated (values_length (map value_in gathered.new.entries.items))) }
+    ensures most { gathered.new.most ≡ gathered.old.most }
+    ensures grows { IfOk result
+        (λ more.
+        more ≡ true → (length gathered.old.entries.items < length gathered.new.entries.items)
+        × (length gathered.new.entries.items < gathered.new.most)) }
+{
+    let span = body(details);
+    let limit = PORTION.min(gathered.most.saturating_sub(gathered.entries.len()));
+    let onward = direction(details);
+    let mut next = archive.log(
+        scope.alloc,
+        node,
+        span.from,
+        span.to,
+        gathered.end,
+        onward,
+        limit,
+        &scope.within,
+    )?;
+    let is_full = limit <= next.len();
+    if let Some(last) = next.last() {
+        gathered.end = Some(place_of(last));
+    }
+    gathered.size = gathered.size.saturating_add(size_of(&next));
+    gathered.entries.append(&mut next)?;
+    let count = gathered.entries.len();
+    if count < gathered.most && scope.is_exceeded(gathered.size) {
+        return Err(PageFault::TooLong);
+    }
+    Ok(is_full && count < gathered.most)
+}
+
+/// The modifications that follow a place, one more than the page has at most. They are asked for a few at a time, and no longer
+/// than what was found may be carried.
+fn find_entries<A: Archive>(
     archive: &mut A,
     node: &NodeId,
     details: &ReadRawModifiedDetails,
     position: &Option<Position>,
-    within: &Vector,
-) -> Result<ModifiedPage, StoreFault>
+    scope: &Scope,
+) -> Result<Vec<Entry>, PageFault>
     requires { IsTrue (is_given details.now.start_time.0 || is_given details.now.end_time.0) }
-    ensures asks { Asks (A.state archive.old) (A.state archive.new) result
-        (IsModifiedPage
-        (cut (A.state archive.old).content (number_of within.now)) node.now details.now
+    ensures finds { Finds (A.state archive.old) (A.state archive.new) scope.now.longest result
+        (λ v. v.items
+        ≡ take (page_size details.now position.now + 1)
+        (modified
+        (cut (A.state archive.old).content (number_of scope.now.within)) node.now details.now
+        position.now))
+        (AreModifiedTooLong
+        (cut (A.state archive.old).content (number_of scope.now.within)) node.now details.now
         position.now) }
-    ensures asked { IsAskedWithin (page_size details.now position.now + 1) (A.asked archive.old)
-        (A.asked archive.new) }
+    ensures asked { IsAskedWithin (min portion (page_size details.now position.now + 1))
+        (A.asked archive.old) (A.asked archive.new) }
 {
-    let onward = direction(details);
-    let span = body(details);
-    let after = place_at(position);
-    let limit = page_size(details, position) + 1;
-    let entries = archive.log(
-        alloc, node, span.from, span.to, after, onward, limit, within,
-    )?;
+    let mut gathered = GatheredEntries {
+        entries: Vec::new(scope.alloc),
+        most: page_size(details, position) + 1,
+        size: 0,
+        end: place_at(position),
+    };
+    let mut more = gather(archive, node, details, scope, &mut gathered)?;
+    while more {
+        more = gather(archive, node, details, scope, &mut gathered)?;
+    }
+    Ok(gathered.entries)
+}
+
+/// Reads a page of modifications.
+pub(crate) fn read_modified<A: Archive>(
+    archive: &mut A,
+    node: &NodeId,
+    details: &ReadRawModifiedDetails,
+    position: &Option<Position>,
+    scope: &Scope,
+) -> Result<ModifiedPage, PageFault>
+    requires { IsTrue (is_given details.now.start_time.0 || is_given details.now.end_time.0) }
+    ensures finds { Finds (A.state archive.old) (A.state archive.new) scope.now.longest result
+        (IsModifiedPage
+        (cut (A.state archive.old).content (number_of scope.now.within)) node.now details.now
+        position.now)
+        (AreModifiedTooLong
+        (cut (A.state archive.old).content (number_of scope.now.within)) node.now details.now
+        position.now) }
+    ensures asked { IsAskedWithin (min portion (page_size details.now position.now + 1))
+        (A.asked archive.old) (A.asked archive.new) }
+{
+    let entries = find_entries(archive, node, details, position, scope)?;
     Ok(page(entries, details, position))
 }

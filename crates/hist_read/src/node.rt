@@ -1,6 +1,6 @@
 //! Reads of a node's history.
 
-ghost use Rattle.std.specs.Prelude.{◌≡◌, ◌↔◌, ◌<◌, ◌+◌, ◌^◌, nat_le, length, map, All, IsTrue, ◌||◌, ◌≤ℤ◌, List, IfOk, IfErr, IfSome, Option, option_map, Ok, Err, true, false};
+ghost use Rattle.std.specs.Prelude.{◌≡◌, ◌↔◌, ◌<◌, ◌+◌, ◌^◌, nat_le, length, map, min, All, IsTrue, ◌||◌, ◌≤ℤ◌, List, IfOk, IfErr, IfSome, Option, option_map, Some, Ok, Err, true, false};
 ghost use Rattle.std.specs.Option.{option_copied};
 ghost use Rattle.stamp.specs.Numbers.{number_of, IsVector};
 ghost use Rattle.ua_binary.specs.Binary.{node_of, IsNodeId, IsShortNode, IsCounted};
@@ -18,14 +18,19 @@ ghost use Rattle.hist_read.specs.Asking.{is_given, first_time};
 ghost use Rattle.hist_read.specs.Point.{point_in, point_of, point, IsPoint, IsNext};
 ghost use Rattle.hist_read.specs.Reads.{page_size, most_items};
 ghost use Rattle.hist_read.specs.Node.{is_enough, IsOfRead, resume_place, checked_read, refused_read, status_for, point_at, page_result, page_from, read_node};
+ghost use Rattle.ua_services.specs.declared.history.HistoryReadResult.{HistoryReadResult as Told};
+ghost use Rattle.hist_read.specs.Pages.{portion};
+ghost use Rattle.hist_read.specs.Carrying.{IsReadTooLong, TellsWithin};
 ghost use Rattle.hist_read.specs.Finding.{Finds};
 
+use crate::fault::PageFault;
 use crate::modified::read_modified;
 use crate::point::{PagePoint, Position, first_number, put_continuation, read_continuation};
 use crate::query::Query;
 use crate::raw::read_raw;
+use crate::scope::Scope;
 use crate::showing::{show_entries, show_items};
-use archive::{Archive, StepError, StoreFault};
+use archive::{Archive, StoreFault};
 use stamp::Vector;
 use std::alloc::{AllocError, Global};
 use ua_binary::{Bytes, Listing, NodeId, NodeIdRef, Status, array_size};
@@ -178,17 +183,16 @@ fn point_of(alloc: Global, place: &PagePoint<'_>) -> Result<Bytes, AllocError>
 /// The continuation point of the place where a page ended, if another one follows. Pages of what an
 /// archive holds end at places that can be written; another place gets no point.
 fn next_point(
-    alloc: Global,
     id: Uuid,
     node: &NodeId,
     details: &ReadRawModifiedDetails,
     next: Option<Position>,
-    within: &Vector,
+    scope: &Scope,
 ) -> Result<Option<Bytes>, AllocError>
     requires node { IsShortNode node.now }
     ensures point { IfOk result
         (λ b. IfSome next (IsNext details.now)
-        → b ≡ option_map (point_at id node.now details.now within.now) next) }
+        → b ≡ option_map (point_at id node.now details.now scope.now.within) next) }
     ensures counted { IfOk result (λ b. IsCounted b) }
 {
     let Some(position) = next else {
@@ -199,41 +203,42 @@ fn next_point(
         node: node.as_ref(),
         details: *details,
         position,
-        vector: *within,
+        vector: scope.within,
     };
     if !place.is_well_formed() {
         return Ok(None);
     }
-    Ok(Some(point_of(alloc, &place)?))
+    Ok(Some(point_of(scope.alloc, &place)?))
 }
 
 /// Reads a page of raw values of what a vector covers, and shows it.
 fn raw_result<A: Archive>(
-    alloc: Global,
     archive: &mut A,
     node: &NodeId,
     query: &Query,
     position: &Option<Position>,
-    within: &Vector,
-) -> Result<HistoryReadResult, StepError>
+    scope: &Scope,
+) -> Result<HistoryReadResult, PageFault>
     requires node { IsShortNode node.now }
     requires given { IsTrue
         (is_given query.now.details.start_time.0 || is_given query.now.details.end_time.0) }
     requires place { IfSome position.now (λ p. first_time ≤ℤ p.time) }
     requires raw { query.now.details.is_read_modified ≡ false }
     ensures counted { IfOk result (λ r. IsCounted r.continuation_point) }
-    ensures finds { Finds (A.state archive.old) (A.state archive.new) result
+    ensures finds { Finds (A.state archive.old) (A.state archive.new) scope.now.longest result
         (λ r. r
-        ≡ page_result (cut (A.state archive.old).content (number_of within.now)) within.now
-        (A.state archive.old).id node.now query.now position.now) }
-    ensures asked { IsAskedWithin (page_size query.now.details position.now + 1)
-        (A.asked archive.old)
-        (A.asked archive.new) }
+        ≡ page_result (cut (A.state archive.old).content (number_of scope.now.within))
+        scope.now.within (A.state archive.old).id node.now query.now position.now)
+        (IsReadTooLong
+        (page_result (cut (A.state archive.old).content (number_of scope.now.within))
+        scope.now.within (A.state archive.old).id node.now query.now position.now)) }
+    ensures asked { IsAskedWithin (min portion (page_size query.now.details position.now + 1))
+        (A.asked archive.old) (A.asked archive.new) }
 {
     let id = archive.id();
-    let page = read_raw(alloc, archive, node, &query.details, position, within)?;
-    let continuation_point = next_point(alloc, id, node, &query.details, page.next, within)?;
-    let values = show_items(alloc, query.stamps, page.items)?;
+    let page = read_raw(archive, node, &query.details, position, scope)?;
+    let continuation_point = next_point(id, node, &query.details, page.next, scope)?;
+    let values = show_items(scope.alloc, query.stamps, page.items)?;
     Ok(HistoryReadResult {
         status: status_for(&values),
         continuation_point,
@@ -243,30 +248,31 @@ fn raw_result<A: Archive>(
 
 /// Reads a page of modifications of what a vector covers, and shows it.
 fn modified_result<A: Archive>(
-    alloc: Global,
     archive: &mut A,
     node: &NodeId,
     query: &Query,
     position: &Option<Position>,
-    within: &Vector,
-) -> Result<HistoryReadResult, StepError>
+    scope: &Scope,
+) -> Result<HistoryReadResult, PageFault>
     requires node { IsShortNode node.now }
     requires given { IsTrue
         (is_given query.now.details.start_time.0 || is_given query.now.details.end_time.0) }
     requires modified { query.now.details.is_read_modified ≡ true }
     ensures counted { IfOk result (λ r. IsCounted r.continuation_point) }
-    ensures finds { Finds (A.state archive.old) (A.state archive.new) result
+    ensures finds { Finds (A.state archive.old) (A.state archive.new) scope.now.longest result
         (λ r. r
-        ≡ page_result (cut (A.state archive.old).content (number_of within.now)) within.now
-        (A.state archive.old).id node.now query.now position.now) }
-    ensures asked { IsAskedWithin (page_size query.now.details position.now + 1)
-        (A.asked archive.old)
-        (A.asked archive.new) }
+        ≡ page_result (cut (A.state archive.old).content (number_of scope.now.within))
+        scope.now.within (A.state archive.old).id node.now query.now position.now)
+        (IsReadTooLong
+        (page_result (cut (A.state archive.old).content (number_of scope.now.within))
+        scope.now.within (A.state archive.old).id node.now query.now position.now)) }
+    ensures asked { IsAskedWithin (min portion (page_size query.now.details position.now + 1))
+        (A.asked archive.old) (A.asked archive.new) }
 {
     let id = archive.id();
-    let page = read_modified(alloc, archive, node, &query.details, position, within)?;
-    let continuation_point = next_point(alloc, id, node, &query.details, page.next, within)?;
-    let (values, infos) = show_entries(alloc, query.stamps, page.entries)?;
+    let page = read_modified(archive, node, &query.details, position, scope)?;
+    let continuation_point = next_point(id, node, &query.details, page.next, scope)?;
+    let (values, infos) = show_entries(scope.alloc, query.stamps, page.entries)?;
     Ok(HistoryReadResult {
         status: status_for(&values),
         continuation_point,
@@ -276,30 +282,31 @@ fn modified_result<A: Archive>(
 
 /// Reads a page of what a vector covers, and shows it.
 fn page_result<A: Archive>(
-    alloc: Global,
     archive: &mut A,
     node: &NodeId,
     query: &Query,
     position: &Option<Position>,
-    within: &Vector,
-) -> Result<HistoryReadResult, StepError>
+    scope: &Scope,
+) -> Result<HistoryReadResult, PageFault>
     requires node { IsShortNode node.now }
     requires given { IsTrue
         (is_given query.now.details.start_time.0 || is_given query.now.details.end_time.0) }
     requires place { IfSome position.now (λ p. first_time ≤ℤ p.time) }
     ensures counted { IfOk result (λ r. IsCounted r.continuation_point) }
-    ensures finds { Finds (A.state archive.old) (A.state archive.new) result
+    ensures finds { Finds (A.state archive.old) (A.state archive.new) scope.now.longest result
         (λ r. r
-        ≡ page_result (cut (A.state archive.old).content (number_of within.now)) within.now
-        (A.state archive.old).id node.now query.now position.now) }
-    ensures asked { IsAskedWithin (page_size query.now.details position.now + 1)
-        (A.asked archive.old)
-        (A.asked archive.new) }
+        ≡ page_result (cut (A.state archive.old).content (number_of scope.now.within))
+        scope.now.within (A.state archive.old).id node.now query.now position.now)
+        (IsReadTooLong
+        (page_result (cut (A.state archive.old).content (number_of scope.now.within))
+        scope.now.within (A.state archive.old).id node.now query.now position.now)) }
+    ensures asked { IsAskedWithin (min portion (page_size query.now.details position.now + 1))
+        (A.asked archive.old) (A.asked archive.new) }
 {
     if query.details.is_read_modified {
-        modified_result(alloc, archive, node, query, position, within)
+        modified_result(archive, node, query, position, scope)
     } else {
-        raw_result(alloc, archive, node, query, position, within)
+        raw_result(archive, node, query, position, scope)
     }
 }
 
@@ -330,28 +337,38 @@ fn page_from<A: Archive>(
     node: &NodeId,
     query: &Query,
     behind: &Option<Behind>,
-) -> Result<HistoryReadResult, StepError>
+    longest: Option<usize>,
+) -> Result<HistoryReadResult, PageFault>
     requires node { IsShortNode node.now }
     requires given { IsTrue
         (is_given query.now.details.start_time.0 || is_given query.now.details.end_time.0) }
     requires place { IfSome behind.now (λ p. first_time ≤ℤ p.0.time) }
     ensures counted { IfOk result (λ r. IsCounted r.continuation_point) }
-    ensures finds { Finds (A.state archive.old) (A.state archive.new) result
+    ensures finds { Finds (A.state archive.old) (A.state archive.new) longest result
         (λ r. r
         ≡ page_from (A.state archive.old).content
-        (A.state archive.old).id node.now query.now behind.now) }
+        (A.state archive.old).id node.now query.now behind.now)
+        (IsReadTooLong
+        (page_from (A.state archive.old).content
+        (A.state archive.old).id node.now query.now behind.now)) }
     ensures asked { IsAskedWithin
-        (page_size query.now.details (option_map (λ b. b.0) behind.now) + 1)
+        (min portion (page_size query.now.details (option_map (λ b. b.0) behind.now) + 1))
         (A.asked archive.old) (A.asked archive.new) }
 {
     let own = own_vector(archive)?;
+    let mut scope = Scope {
+        alloc,
+        within: own,
+        longest,
+    };
     match behind {
-        None => page_result(alloc, archive, node, query, &None, &own),
+        None => page_result(archive, node, query, &None, &scope),
         Some((position, vector)) => {
             if !is_covered(vector, &own) {
                 return Ok(refused(Status::BAD_CONTINUATION_POINT_INVALID));
             }
-            page_result(alloc, archive, node, query, &Some(*position), vector)
+            scope.within = *vector;
+            page_result(archive, node, query, &Some(*position), &scope)
         }
     }
 }
@@ -415,21 +432,25 @@ fn short_page<A: Archive>(
     node: &NodeId,
     query: &Query,
     behind: &Option<Behind>,
-) -> Result<HistoryReadResult, StepError>
+    longest: Option<usize>,
+) -> Result<HistoryReadResult, PageFault>
     requires node { IsShortNode node.now }
     requires given { IsTrue
         (is_given query.now.details.start_time.0 || is_given query.now.details.end_time.0) }
     requires place { IfSome behind.now (λ p. first_time ≤ℤ p.0.time) }
-    ensures finds { Finds (A.state archive.old) (A.state archive.new) result
+    ensures finds { Finds (A.state archive.old) (A.state archive.new) longest result
         (λ r. r
         ≡ page_from (A.state archive.old).content
-        (A.state archive.old).id node.now query.now behind.now) }
+        (A.state archive.old).id node.now query.now behind.now)
+        (IsReadTooLong
+        (page_from (A.state archive.old).content
+        (A.state archive.old).id node.now query.now behind.now)) }
     ensures asked { IsAskedWithin
-        (page_size query.now.details (option_map (λ b. b.0) behind.now) + 1)
+        (min portion (page_size query.now.details (option_map (λ b. b.0) behind.now) + 1))
         (A.asked archive.old) (A.asked archive.new) }
     ensures short { IfOk result IsShortHistoryRead }
 {
-    let read = page_from(alloc, archive, node, query, behind)?;
+    let read = page_from(alloc, archive, node, query, behind, longest)?;
     if is_short_history(&read.history_data) {
         Ok(read)
     } else {
@@ -449,9 +470,58 @@ fn short_page<A: Archive>(
 /// `BAD_OUT_OF_MEMORY`, as is want of memory here, or by `BAD_RESOURCE_UNAVAILABLE`. A bad status has neither
 /// items nor a point, and no call changes the content. Of a broken archive each read that isn't refused
 /// before is `BAD_RESOURCE_UNAVAILABLE`. An empty page is `GOOD_NO_DATA`. Each result can be written. A page
-/// has at most 1,000 items, or as many as are asked for, and a query asks the archive for one row more at most.
+/// has at most 1,000 items, or as many as are asked for, and one row more at most is looked at.
 /// The node's id has less than 2^31 bytes.
+///
+/// Of a result that has more than `longest` bytes in a response (Part 4, 5.11.3), where that is given, `None` may be told: the
+/// archive is asked for 32 rows at a time, and no more once the values that a page shows are more bytes than these.
 #[tactic(auto, using(crate::proofs::Sizes::page_most))]
+pub fn read_node_within<A: Archive>(
+    alloc: Global,
+    archive: &mut A,
+    node: &NodeId,
+    query: &Query,
+    continuation: Option<&[u8]>,
+    longest: Option<usize>,
+) -> Option<HistoryReadResult>
+    requires { IsShortNode node.now }
+    ensures refused { IfErr
+        (checked_read (A.state archive.old).id node.now query.now.details
+        (option_copied continuation.entry))
+        (λ code. (result ≡ Some (refused_read code)) × (archive.new ≡ archive.old)) }
+    ensures acts { (used : List StepResult) × (read : Told)
+        × Refines (A.state archive.old) (A.state archive.new) used
+        (read_node (A.state archive.old).id node.now query.now
+        (option_copied continuation.entry)) read
+        × TellsWithin longest result read }
+    ensures ended { (A.state archive.old).broken ≡ true
+        → IfOk
+        (checked_read (A.state archive.old).id node.now query.now.details
+        (option_copied continuation.entry))
+        (λ _. result ≡ Some (refused_read BAD_RESOURCE_UNAVAILABLE)) }
+    ensures short { IfSome result IsShortHistoryRead }
+    ensures asked { IsAskedWithin (min portion (most_items query.now.details + 1))
+        (A.asked archive.old) (A.asked archive.new) }
+    ensures page { IfOk
+        (checked_read (A.state archive.old).id node.now query.now.details
+        (option_copied continuation.entry))
+        (λ behind.
+        IsAskedWithin (min portion (page_size query.now.details (option_map (λ b. b.0) behind) + 1))
+        (A.asked archive.old) (A.asked archive.new)) }
+{
+    let id = archive.id();
+    let behind = match judge(id, node, &query.details, continuation) {
+        Ok(behind) => behind,
+        Err(status) => return Some(refused(status)),
+    };
+    match short_page(alloc, archive, node, query, &behind, longest) {
+        Ok(result) => Some(result),
+        Err(PageFault::Step(setback)) => Some(refused(setback.status())),
+        Err(PageFault::TooLong) => None,
+    }
+}
+
+/// Reads a node's history, as `read_node_within` does, however long the result is.
 pub fn read_node<A: Archive>(
     alloc: Global,
     archive: &mut A,
@@ -473,22 +543,17 @@ pub fn read_node<A: Archive>(
         (checked_read (A.state archive.old).id node.now query.now.details
         (option_copied continuation.entry)) (λ _. result ≡ refused_read BAD_RESOURCE_UNAVAILABLE) }
     ensures short { IsShortHistoryRead result }
-    ensures asked { IsAskedWithin (most_items query.now.details + 1) (A.asked archive.old)
-        (A.asked archive.new) }
+    ensures asked { IsAskedWithin (min portion (most_items query.now.details + 1))
+        (A.asked archive.old) (A.asked archive.new) }
     ensures page { IfOk
         (checked_read (A.state archive.old).id node.now query.now.details
         (option_copied continuation.entry))
         (λ behind.
-        IsAskedWithin (page_size query.now.details (option_map (λ b. b.0) behind) + 1)
+        IsAskedWithin (min portion (page_size query.now.details (option_map (λ b. b.0) behind) + 1))
         (A.asked archive.old) (A.asked archive.new)) }
 {
-    let id = archive.id();
-    let behind = match judge(id, node, &query.details, continuation) {
-        Ok(behind) => behind,
-        Err(status) => return refused(status),
-    };
-    match short_page(alloc, archive, node, query, &behind) {
-        Ok(result) => result,
-        Err(setback) => refused(setback.status()),
+    match read_node_within(alloc, archive, node, query, continuation, None) {
+        Some(result) => result,
+        None => unreachable!(),
     }
 }

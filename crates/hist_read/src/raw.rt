@@ -1,22 +1,28 @@
 //! Pages of raw values.
 
-ghost use Rattle.std.specs.Prelude.{◌≡◌, ◌≤◌, ◌+◌, ◌<◌, ◌||◌, ◌&&◌, ◌++◌, ◌^◌, IsTrue, IfOk, IfSome, IfNone, pos, ◌≤ℤ◌, true, false, take, length, Ok, Some, None};
+ghost use Rattle.std.specs.Prelude.{◌≡◌, ◌≤◌, ◌+◌, ◌-◌, ◌<◌, ◌||◌, ◌++◌, IsTrue, IfOk, IfSome, ℤ, ◌≤ℤ◌, true, false, min, map, take, length, Option};
 ghost use Rattle.std.specs.Option.{option_to_list};
+ghost use Rattle.ua_binary.specs.Format.{saturated};
 ghost use Rattle.stamp.specs.Numbers.{number_of};
 ghost use Rattle.records.specs.Contents.{cut};
-ghost use Rattle.archive.specs.Store.{Asks, IsAskedWithin};
-ghost use Rattle.hist_read.specs.Asking.{is_given, has_both, first_time, origin_time};
-ghost use Rattle.hist_read.specs.Reads.{is_near_alone, body_part, far_value, value_items, item_time, last_time, time_before, open_bound, page_size, page, is_spent, next_place, raw_position};
-ghost use Rattle.hist_read.specs.Pages.{IsFound, IsFoundBehind, body_limit, has_far, far_item, far_of, row_of, IsRawPage};
+ghost use Rattle.archive.specs.Store.{IsAskedWithin};
+ghost use Rattle.hist_read.specs.Asking.{is_given, first_time};
+ghost use Rattle.hist_read.specs.Reads.{is_near_alone, body_part, value_items, last_time, time_before, open_bound, page_size, page, is_spent, next_place, raw_position};
+ghost use Rattle.hist_read.specs.Pages.{portion, values_beyond, IsFound, IsFoundBehind, body_limit, has_far, far_item, far_of, row_of, IsRawPage};
+ghost use Rattle.hist_read.specs.Carrying.{values_length};
+ghost use Rattle.hist_read.specs.Gathering.{IsGathered, GathersOn, AreTooLong, IsBodyTooLong};
 ghost use Rattle.hist_read.specs.Finding.{Finds};
 
-use crate::asked::{direction, given_after, goes_on, has_both, origin, page_size, span_after};
+use crate::asked::{
+    direction, given_after, goes_on, has_both, limit_at, origin, page_size, span_beyond,
+};
 use crate::bounds::{far_value, near};
+use crate::fault::PageFault;
 use crate::item::Item;
 use crate::point::{Phase, Position};
-use archive::{Archive, Direction, StepError, StoreFault};
+use crate::scope::{PORTION, Scope, value_size};
+use archive::{Archive, Direction};
 use records::{Held, Moment};
-use stamp::Vector;
 use std::alloc::{AllocError, Global};
 use ua_binary::NodeId;
 use ua_services::ReadRawModifiedDetails;
@@ -57,86 +63,184 @@ fn body_limit(details: &ReadRawModifiedDetails, position: &Option<Position>) -> 
     page_size(details, position) + 1
 }
 
-/// The values behind the near bound, one more than the page has at most.
+/// Values that stand one behind the other, as far as the archive was asked for them.
+#[derive(Drop)]
+struct Gathered {
+    values: Vec<Held>,
+    /// How many are wanted.
+    most: usize,
+    /// How many bytes the values have, or 2^64 - 1 where there are more.
+    size: usize,
+    /// Where they end: the moment that the others are beyond.
+    end: Option<Moment>,
+}
+
+/// How many bytes values have, without their status and times, or 2^64 - 1 where there are more.
+fn size_of(values: &[Held]) -> usize
+    ensures { result ≡ saturated (values_length (map (λ h. h.value) values.now)) }
+{
+    let mut size: usize = 0;
+    for held in values {
+        size = size.saturating_add(value_size(&held.value));
+    }
+    size
+}
+
+/// Gathers the next values, and tells whether more are wanted. `TooLong` where the page shows each value that was gathered,
+/// and these are more than may be carried.
+fn gather<A: Archive>(
+    archive: &mut A,
+    node: &NodeId,
+    details: &ReadRawModifiedDetails,
+    scope: &Scope,
+    gathered: &mut Gathered,
+) -> Result<bool, PageFault>
+    requires given { IsTrue (is_given details.now.start_time.0 || is_given details.now.end_time.0) }
+    requires size { gathered.old.size
+        ≡ saturated (values_length (map (λ h. h.value) gathered.old.values.items)) }
+    ensures finds { (start : Option ℤ)
+        → Finds (A.state archive.old) (A.state archive.new) scope.now.longest result
+        (λ more.
+        IsGathered (cut (A.state archive.old).content (number_of scope.now.within)) node.now
+        details.now start gathered.old
+        → GathersOn (cut (A.state archive.old).content (number_of scope.now.within)) node.now
+        details.now start more gathered.new)
+        (λ limit.
+        IsGathered (cut (A.state archive.old).content (number_of scope.now.within)) node.now
+        details.now start gathered.old
+        → AreTooLong (λ h. h.value) (gathered.old.most - 1)
+        (values_beyond (cut (A.state archive.old).content (number_of scope.now.within)) node.now
+        details.now start) limit) }
+    ensures asked { IsAskedWithin (min portion gathered.old.most) (A.asked archive.old)
+        (A.asked archive.new) }
+    ensures size { IfOk result
+        (λ _. gathered.new.size
+        ≡ saturated (values_length (map (λ h. h.value) gathered.new.values.items))) }
+    ensures most { gathered.new.most ≡ gathered.old.most }
+    ensures grows { IfOk result
+        (λ more.
+        more ≡ true → (length gathered.old.values.items < length gathered.new.values.items)
+        × (length gathered.new.values.items < gathered.new.most)) }
+{
+    let span = span_beyond(details, gathered.end);
+    let limit = PORTION.min(gathered.most.saturating_sub(gathered.values.len()));
+    let onward = direction(details);
+    let mut next = archive.range(
+        scope.alloc,
+        node,
+        span.from,
+        span.to,
+        onward,
+        limit,
+        &scope.within,
+    )?;
+    let is_full = limit <= next.len();
+    if let Some(last) = next.last() {
+        gathered.end = Some(last.time);
+    }
+    gathered.size = gathered.size.saturating_add(size_of(&next));
+    gathered.values.append(&mut next)?;
+    let count = gathered.values.len();
+    if count + 1 < gathered.most && scope.is_exceeded(gathered.size) {
+        return Err(PageFault::TooLong);
+    }
+    Ok(is_full && count < gathered.most)
+}
+
+/// The values behind the near bound, one more than the page has at most. They are asked for a few at a time, and no longer than
+/// what was found may be carried.
 fn find_body<A: Archive>(
-    alloc: Global,
     archive: &mut A,
     node: &NodeId,
     details: &ReadRawModifiedDetails,
     position: &Option<Position>,
-    within: &Vector,
-) -> Result<Vec<Held>, StoreFault>
+    scope: &Scope,
+) -> Result<Vec<Held>, PageFault>
     requires given { IsTrue (is_given details.now.start_time.0 || is_given details.now.end_time.0) }
     requires place { IfSome position.now (λ p. first_time ≤ℤ p.time) }
-    ensures asks { Asks (A.state archive.old) (A.state archive.new) result
+    ensures finds { Finds (A.state archive.old) (A.state archive.new) scope.now.longest result
         (λ v. v.items
         ≡ take (page_size details.now position.now + 1)
         (body_part
-        (cut (A.state archive.old).content (number_of within.now)) node.now details.now
-        position.now)) }
-    ensures asked { IsAskedWithin (page_size details.now position.now + 1) (A.asked archive.old)
-        (A.asked archive.new) }
+        (cut (A.state archive.old).content (number_of scope.now.within)) node.now details.now
+        position.now))
+        (IsBodyTooLong
+        (cut (A.state archive.old).content (number_of scope.now.within)) node.now details.now
+        position.now) }
+    ensures asked { IsAskedWithin (min portion (page_size details.now position.now + 1))
+        (A.asked archive.old) (A.asked archive.new) }
 {
-    let onward = direction(details);
-    let span = span_after(details, position);
-    let limit = body_limit(details, position);
-    archive.range(alloc, node, span.from, span.to, onward, limit, within)
+    let mut gathered = Gathered {
+        values: Vec::new(scope.alloc),
+        most: body_limit(details, position),
+        size: 0,
+        end: limit_at(details, position),
+    };
+    let mut more = gather(archive, node, details, scope, &mut gathered)?;
+    while more {
+        more = gather(archive, node, details, scope, &mut gathered)?;
+    }
+    Ok(gathered.values)
 }
 
 /// The values behind the near bound, and the one at the far limit.
 fn find_values<A: Archive>(
-    alloc: Global,
     archive: &mut A,
     node: &NodeId,
     details: &ReadRawModifiedDetails,
     position: &Option<Position>,
-    within: &Vector,
-) -> Result<(Vec<Held>, Option<Held>), StoreFault>
+    scope: &Scope,
+) -> Result<(Vec<Held>, Option<Held>), PageFault>
     requires given { IsTrue (is_given details.now.start_time.0 || is_given details.now.end_time.0) }
     requires place { IfSome position.now (λ p. first_time ≤ℤ p.time) }
-    ensures asks { Asks (A.state archive.old) (A.state archive.new) result
+    ensures finds { Finds (A.state archive.old) (A.state archive.new) scope.now.longest result
         (IsFoundBehind
-        (cut (A.state archive.old).content (number_of within.now)) node.now details.now
+        (cut (A.state archive.old).content (number_of scope.now.within)) node.now details.now
+        position.now)
+        (IsBodyTooLong
+        (cut (A.state archive.old).content (number_of scope.now.within)) node.now details.now
         position.now) }
-    ensures asked { IsAskedWithin (page_size details.now position.now + 1) (A.asked archive.old)
-        (A.asked archive.new) }
+    ensures asked { IsAskedWithin (min portion (page_size details.now position.now + 1))
+        (A.asked archive.old) (A.asked archive.new) }
 {
-    let body = find_body(alloc, archive, node, details, position, within)?;
+    let body = find_body(archive, node, details, position, scope)?;
     if !has_far(details) || !has_both(details) {
         return Ok((body, None));
     }
-    let far = far_value(alloc, archive, node, details, within)?;
+    let far = far_value(scope.alloc, archive, node, details, &scope.within)?;
     Ok((body, far))
 }
 
 /// What the archive has of a page.
 pub(crate) fn find<A: Archive>(
-    alloc: Global,
     archive: &mut A,
     node: &NodeId,
     details: &ReadRawModifiedDetails,
     position: &Option<Position>,
-    within: &Vector,
-) -> Result<Found, StoreFault>
+    scope: &Scope,
+) -> Result<Found, PageFault>
     requires given { IsTrue (is_given details.now.start_time.0 || is_given details.now.end_time.0) }
     requires place { IfSome position.now (λ p. first_time ≤ℤ p.time) }
-    ensures asks { Asks (A.state archive.old) (A.state archive.new) result
+    ensures finds { Finds (A.state archive.old) (A.state archive.new) scope.now.longest result
         (IsFound
-        (cut (A.state archive.old).content (number_of within.now)) node.now details.now
+        (cut (A.state archive.old).content (number_of scope.now.within)) node.now details.now
+        position.now)
+        (IsBodyTooLong
+        (cut (A.state archive.old).content (number_of scope.now.within)) node.now details.now
         position.now) }
-    ensures asked { IsAskedWithin (page_size details.now position.now + 1) (A.asked archive.old)
-        (A.asked archive.new) }
+    ensures asked { IsAskedWithin (min portion (page_size details.now position.now + 1))
+        (A.asked archive.old) (A.asked archive.new) }
 {
     if position.is_some() || !details.return_bounds {
-        let (body, far) = find_values(alloc, archive, node, details, position, within)?;
+        let (body, far) = find_values(archive, node, details, position, scope)?;
         return Ok(Found {
             near: None,
             body,
             far,
         });
     }
-    let near = near(alloc, archive, node, details, within)?;
-    let (body, far) = find_values(alloc, archive, node, details, position, within)?;
+    let near = near(scope.alloc, archive, node, details, &scope.within)?;
+    let (body, far) = find_values(archive, node, details, position, scope)?;
     Ok(Found {
         near: Some(near),
         body,
@@ -300,23 +404,25 @@ fn page(
 
 /// Reads a page of raw values.
 pub(crate) fn read_raw<A: Archive>(
-    alloc: Global,
     archive: &mut A,
     node: &NodeId,
     details: &ReadRawModifiedDetails,
     position: &Option<Position>,
-    within: &Vector,
-) -> Result<RawPage, StepError>
+    scope: &Scope,
+) -> Result<RawPage, PageFault>
     requires given { IsTrue (is_given details.now.start_time.0 || is_given details.now.end_time.0) }
     requires place { IfSome position.now (λ p. first_time ≤ℤ p.time) }
-    ensures finds { Finds (A.state archive.old) (A.state archive.new) result
+    ensures finds { Finds (A.state archive.old) (A.state archive.new) scope.now.longest result
         (IsRawPage
-        (cut (A.state archive.old).content (number_of within.now)) node.now details.now
+        (cut (A.state archive.old).content (number_of scope.now.within)) node.now details.now
+        position.now)
+        (IsBodyTooLong
+        (cut (A.state archive.old).content (number_of scope.now.within)) node.now details.now
         position.now) }
-    ensures asked { IsAskedWithin (page_size details.now position.now + 1) (A.asked archive.old)
-        (A.asked archive.new) }
+    ensures asked { IsAskedWithin (min portion (page_size details.now position.now + 1))
+        (A.asked archive.old) (A.asked archive.new) }
 {
-    let found = find(alloc, archive, node, details, position, within)?;
-    let items = row(alloc, found, details, position)?;
+    let found = find(archive, node, details, position, scope)?;
+    let items = row(scope.alloc, found, details, position)?;
     Ok(page(items, details, position))
 }

@@ -17,9 +17,9 @@ use Rattle.ua_binary.specs.declared.values.Ticks.{Ticks}
 use Rattle.records.specs.Contents.{Content}
 use Rattle.archive.specs.Store.{Store, StepResult}
 use Rattle.archive.specs.Steps.{Fallible, Refines, give, each}
-use Rattle.historian.specs.Answers.{Answer, Response}
+use Rattle.historian.specs.Answers.{Answer, Response, IsTooLarge}
 use Rattle.historian.specs.Reading.{Served, answer_items}
-use Rattle.historian.specs.Telling.{Appends, ComesWritten, IsCutShort, Written}
+use Rattle.historian.specs.Telling.{Appends, AppendsAll, AppendsOne, ComesWritten, IsCutShort, IsLeftOut, Written}
 use Rattle.historian.proofs.Items.{acts-refused, acts-wanting, acts-items}
 
 abbrev pub Put : Type 0
@@ -40,6 +40,22 @@ flat_more spelling old values value =
     ∙ ap (λ l. old ++ l) (sym
     (flat_map-append spelling values (value ∷ [])
     ∙ ap (λ l. flat_map spelling values ++ l) (append-nil (spelling value))))
+
+-- they have at least as many bytes as those before the last, and at least as many as the last
+more-before : {Y : Type 0} (spelling : Y → List ℕ) (old : List ℕ) (values : List Y) (value : Y)
+    → length (old ++ flat_map spelling values)
+    ≤ length (old ++ flat_map spelling (values ++ (value ∷ [])))
+more-before spelling old values value =
+    let both = ap length (flat_more spelling old values value) in
+    let sum = length-append (old ++ flat_map spelling values) (spelling value) in
+    omega (arith, both, sum)
+
+more-last : {Y : Type 0} (spelling : Y → List ℕ) (old : List ℕ) (values : List Y) (value : Y)
+    → length (spelling value) ≤ length (old ++ flat_map spelling (values ++ (value ∷ [])))
+more-last spelling old values value =
+    let both = ap length (flat_more spelling old values value) in
+    let sum = length-append (old ++ flat_map spelling values) (spelling value) in
+    omega (arith, both, sum)
 
 -- one of them, where there is one
 pub some_of : {X : Type 0} (xs : List X) (i : ℕ) → i < length xs → X
@@ -71,6 +87,15 @@ still-starved (Ok _) (Ok _) now new bytes before puts = tt
 still-starved (Ok _) (Err fault) now new bytes before puts = puts.0
 still-starved (Err fault) one now new bytes before puts = before
 
+-- what they are left out for holds of more, too
+left-out-more : {E Y : Type 0} (format : Format E Y) (old : List ℕ) (values : List Y) (value : Y)
+    (status : Status) → IsLeftOut (old ++ flat_map format.canon values) status
+    → IsLeftOut (old ++ flat_map format.canon (values ++ (value ∷ []))) status
+left-out-more format old values value status (inl memory) = inl memory
+left-out-more format old values value status (inr large) =
+    let longer = more-before format.canon old values value in
+    inr (large.0, omega (arith, large.1, longer))
+
 -- too many bytes stand there, so it isn't written
 pub skips-more : {E Y : Type 0} (format : Format E Y) (old now : List ℕ) (values : List Y)
     (value : Y) → 16777216 < length now → Appends format values old now
@@ -79,9 +104,7 @@ skips-more format old now values value many before = inr (many, by before)
   where
     longer : length (old ++ flat_map format.canon values)
         ≤ length (old ++ flat_map format.canon (values ++ (value ∷ [])))
-    longer = let both = ap length (flat_more format.canon old values value) in
-        let sum = length-append (old ++ flat_map format.canon values) (format.canon value) in
-        omega (arith, both, sum)
+    longer = more-before format.canon old values value
 
     by : Appends format values old now
         → length now ≤ length (old ++ flat_map format.canon (values ++ (value ∷ [])))
@@ -94,6 +117,33 @@ pub skips : {E Y : Type 0} (format : Format E Y) (put : Put) (old now : List ℕ
 skips format (Ok _) old now values value many before =
     skips-more format old now values value many before
 skips format (Err fault) old now values value many before = tt
+
+-- the last fault is told, or that all were written
+pub appends-more : {E Y : Type 0} (format : Format E Y) (put one : Result (Unit {0}) Status)
+    (old now new : List ℕ) (values : List Y) (value : Y) → length now ≤ 16777216
+    → AppendsAll format values put old now → AppendsOne format value one now new
+    → AppendsAll format (values ++ (value ∷ [])) (result_and one put) old new
+appends-more format (Ok _) (Ok _) old now new values value few before is =
+    puts-more format (Ok tt) (Ok tt) old now new values value few before is.0 is.1
+appends-more format (Err status) (Ok _) old now new values value few before is =
+    left-out-more format old values value status before
+appends-more format put (Err status) old now new values value few before is = by is.1
+  where
+    by : IsLeftOut (format.canon value) status
+        → IsLeftOut (old ++ flat_map format.canon (values ++ (value ∷ []))) status
+    by (inl memory) = inl memory
+    by (inr large) =
+        let longer = more-last format.canon old values value in
+        inr (large.0, omega (arith, large.1, longer))
+
+-- one isn't read, since too many bytes stand there, or one before has too many
+pub appends-skips : {E Y : Type 0} (format : Format E Y) (put : Result (Unit {0}) Status)
+    (old now : List ℕ) (values : List Y) (value : Y) → OnOk put (16777216 < length now)
+    → AppendsAll format values put old now → AppendsAll format (values ++ (value ∷ [])) put old now
+appends-skips format (Ok _) old now values value many before =
+    skips-more format old now values value many before
+appends-skips format (Err status) old now values value many before =
+    left-out-more format old values value status before
 
 -- ---- all items
 
@@ -137,24 +187,45 @@ writes-all format head values count first headed counted valued ended empty h n 
     e ∙ (ap (λ l. l ++ (signed w32).canon (negsuc 0)) v
     ∙ same-bytes format head values count first headed counted empty h n same)
 
--- it is too large to be sent
+-- its items are too many bytes, so it is too large to be sent
+pub is-over : {E Y : Type 0} (format : Format E Y) (head : List ℕ) (values : List Y) (count : ℕ)
+    (first headed counted : List ℕ) → first ≡ [] → headed ≡ first ++ head
+    → counted ≡ headed ++ (signed w32).canon (pos count) → length values ≡ count
+    → 16777216 < length (counted ++ flat_map format.canon values)
+    → 16777216 < length (bytes_of format head values)
+is-over format head values count first headed counted empty h n same many =
+    let whole = counted ++ flat_map format.canon values in
+    let sum = length-append whole ((signed w32).canon (negsuc 0)) in
+    let all = ap length
+    (same-bytes format head values count first headed counted empty h n same) in
+    omega (arith, many, sum, all)
+
+-- so many of them were written that it is
 pub is-too-large : {E Y : Type 0} (format : Format E Y) (head : List ℕ) (values : List Y) (count : ℕ)
     (first headed counted now : List ℕ) → first ≡ [] → headed ≡ first ++ head
     → counted ≡ headed ++ (signed w32).canon (pos count) → length values ≡ count
     → 16777216 < length now → Appends format values counted now
     → 16777216 < length (bytes_of format head values)
 is-too-large format head values count first headed counted now empty h n same many written =
-    let whole = counted ++ flat_map format.canon values in
-    let sum = length-append whole ((signed w32).canon (negsuc 0)) in
-    let all = ap length
-    (same-bytes format head values count first headed counted empty h n same) in
     let front = by written in
-    omega (arith, many, sum, all, front)
+    is-over format head values count first headed counted empty h n same (omega (arith, many, front))
   where
     by : Appends format values counted now
         → length now ≤ length (counted ++ flat_map format.canon values)
     by (inl whole) = let same = ap length whole.0 in omega (arith, same)
     by (inr cut) = cut.1
+
+-- memory for the bytes was wanting, or they are too many
+pub left-out : (now : Ticks) (handle : ℕ) (told : Response) (result : Result (Unit {0}) Status)
+    (status fault : Status) (bytes whole : List ℕ) → result ≡ Err status → status ≡ fault
+    → IsLeftOut whole fault → (16777216 < length whole → IsTooLarge now handle told)
+    → Written now handle told result bytes
+left-out now handle told result status fault bytes whole is from why over =
+    subst (λ (r : Result (Unit {0}) Status). Written now handle told r bytes) (sym is) (by why)
+  where
+    by : IsLeftOut whole fault → Written now handle told (Err status) bytes
+    by (inl memory) = inr (inl (from ∙ memory))
+    by (inr large) = inr (inr (from ∙ large.0, over large.1))
 
 -- memory for the bytes was wanting
 pub starved : (now : Ticks) (handle : ℕ) (told : Response) (result : Result (Unit {0}) Status)

@@ -123,3 +123,23 @@ abbrev pub Responds : Store → Store → (Content → Fallible MessageOutcome) 
 Responds old new service sessions now handle result bytes =
     (used : List StepResult) × (told : Response) × Refines old new used service (told, sessions)
     × Written now handle told result bytes
+
+-- why these bytes are in no response: memory was wanting, or they are too many for one
+abbrev pub IsLeftOut : List ℕ → Status → Type 0
+IsLeftOut bytes status =
+    (status ≡ BAD_OUT_OF_MEMORY)
+    ⊎ ((status ≡ BAD_RESPONSE_TOO_LARGE) × (16777216 < length bytes))
+
+-- this value, which has a spelling, was appended in this format; or nothing was, and it is told why
+abbrev pub AppendsOne : {E A : Type 0} → Format E A → A → Result (Unit {0}) Status → List ℕ
+    → List ℕ → Type 0
+AppendsOne format value (Ok _) old new = (new ≡ old ++ format.canon value) × format.Fits value
+AppendsOne format value (Err status) old new =
+    (new ≡ old) × IsLeftOut (format.canon value) status
+
+-- these values were appended so, or enough of them; or it is told why the response isn't written
+abbrev pub AppendsAll : {E A : Type 0} → Format E A → List A → Result (Unit {0}) Status → List ℕ
+    → List ℕ → Type 0
+AppendsAll format values (Ok _) old new = Appends format values old new
+AppendsAll format values (Err status) old new =
+    IsLeftOut (old ++ flat_map format.canon values) status

@@ -1,20 +1,20 @@
 //! HistoryRead (Part 4, 5.11.3).
 
-ghost use Rattle.std.specs.Prelude.{◌≡◌, ◌∷◌, [], List, map, length, is_some, IfOk, IfErr, OnOk};
+ghost use Rattle.std.specs.Prelude.{◌≡◌, ◌≤◌, ◌<◌, ◌∷◌, [], List, map, length, Some, None, is_some, IfOk, IfSome, OnOk, IsTrue, IsFalse};
 ghost use Rattle.std.specs.Option.{option_copied};
 ghost use Rattle.ua_binary.specs.Binary.{node_of, qualified_of, IsShortNode};
-ghost use Rattle.ua_binary.specs.Format.{Puts};
 ghost use Rattle.ua_binary.specs.Rules.{checked};
 ghost use Rattle.ua_services.specs.History.{HistoryAsked, history_read_fields, history_asked, history_fields, history_read_result, IsShortHistoryRead};
 ghost use Rattle.ua_services.specs.declared.history.HistoryReadResult.{HistoryReadResult as Told};
 ghost use Rattle.archive.specs.Store.{StepResult};
 ghost use Rattle.archive.specs.Steps.{Refines, each};
 ghost use Rattle.hist_read.specs.Node.{refused_read};
+ghost use Rattle.hist_read.specs.Carrying.{TellsWithin};
 ghost use Rattle.historian.specs.declared.service.Service.TheVariants as service;
 ghost use Rattle.historian.specs.Reading.{history_rules, released, read_history_of, query_of, read_history};
 ghost use Rattle.historian.specs.Requests.{call_in};
 ghost use Rattle.historian.specs.Services.{site_of, answered_call};
-ghost use Rattle.historian.specs.Telling.{Appends, ComesWritten, Responds};
+ghost use Rattle.historian.specs.Telling.{AppendsOne, AppendsAll, ComesWritten, Responds};
 
 use crate::browsing::list_refusal;
 use crate::reading::judge_value;
@@ -23,9 +23,9 @@ use crate::responses::{LONGEST_RESPONSE, put_head};
 use crate::server::Server;
 use crate::service::ServiceRequest;
 use archive::Archive;
-use hist_read::{Query, read_node};
+use hist_read::{Query, read_node_within};
 use std::alloc::Global;
-use ua_binary::{BinaryFault, Status, Ticks, put_count, put_i32};
+use ua_binary::{Status, Ticks, put_count, put_i32};
 use ua_services::{
     HistoryData, HistoryReadDetails, HistoryReadRequest, HistoryReadResult, HistoryReadValueId,
     TimestampsToReturn, put_history_read_result,
@@ -86,79 +86,114 @@ fn released(release: bool, read: HistoryReadResult) -> HistoryReadResult
     }
 }
 
-/// Reads the history of a node.
+/// What is told of a read that is too long for a response: nothing of it, where continuation points may only be given back.
+fn too_long(release: bool) -> Option<HistoryReadResult>
+    ensures told { (read : Told) → TellsWithin (Some 16777216) None read
+        → TellsWithin (Some 16777216) result (released release read) }
+    ensures short { IfSome result IsShortHistoryRead }
+{
+    if release {
+        Some(nothing(Status::GOOD))
+    } else {
+        None
+    }
+}
+
+/// Reads the history of a node; `None` where what is told of it is longer than any response. At most the bytes of a response
+/// are read, and what one question to the archive gives.
 fn read_history_of<A: Archive>(
     space: &Space,
     archive: &mut A,
     terms: HistoryTerms,
     item: HistoryReadValueId<'_>,
-) -> HistoryReadResult
-    ensures acts { (used : List StepResult)
+) -> Option<HistoryReadResult>
+    ensures acts { (used : List StepResult) × (value : Told)
         × Refines (A.state archive.old) (A.state archive.new) used
         (read_history_of (A.state archive.old).id space.now terms.query terms.release
-        (history_read_fields item.entry)) result }
-    ensures short { IsShortHistoryRead result }
+        (history_read_fields item.entry)) value
+        × TellsWithin (Some 16777216) result value }
+    ensures short { IfSome result IsShortHistoryRead }
 {
     if let Err(status) = judge_history(space, item) {
-        return nothing(status);
+        return Some(nothing(status));
     }
     let Ok(node) = item.node_id.to_owned(terms.alloc) else {
-        return nothing(Status::BAD_OUT_OF_MEMORY);
+        return Some(nothing(Status::BAD_OUT_OF_MEMORY));
     };
-    let read = read_node(
+    let longest = Some(LONGEST_RESPONSE);
+    let Some(read) = read_node_within(
         terms.alloc,
         archive,
         &node,
         &terms.query,
         item.continuation_point,
-    );
-    released(terms.release, read)
+        longest,
+    ) else {
+        return too_long(terms.release);
+    };
+    Some(released(terms.release, read))
 }
 
-/// Appends what is told of the history of a node.
-#[tactic(auto, unfolding(ua_services::specs::History::history_read_result))]
+/// Appends what is told of the history of a node. Nothing is appended where memory for it runs out, or where it is longer than
+/// any response: `BAD_RESPONSE_TOO_LARGE`.
 fn put_history<A: Archive>(
     space: &Space,
     archive: &mut A,
     terms: HistoryTerms,
     item: HistoryReadValueId<'_>,
     out: &mut Vec<u8>,
-) -> Result<(), BinaryFault>
+) -> Result<(), Status>
     ensures { (used : List StepResult) × (value : Told)
         × Refines (A.state archive.old) (A.state archive.new) used
         (read_history_of (A.state archive.old).id space.now terms.query terms.release
         (history_read_fields item.entry)) value
-        × Puts BinaryFault.OutOfMemory result out.old.items out.new.items
-        (history_read_result.canon (history_fields value))
-        × IfOk result (λ _. history_read_result.Fits (history_fields value)) }
+        × AppendsOne history_read_result (history_fields value) result out.old.items
+        out.new.items }
 {
-    let read = read_history_of(space, archive, terms, item);
-    put_history_read_result(out, &read)
+    let Some(read) = read_history_of(space, archive, terms, item) else {
+        return Err(Status::BAD_RESPONSE_TOO_LARGE);
+    };
+    put_history_read_result(out, &read)?;
+    Ok(())
 }
 
-/// Appends what is told of the histories of nodes, in order, until these are too many bytes for a response. All of them are
-/// read until then, also where memory for the bytes runs out.
+/// Whether one more may be read behind so many bytes: they aren't too many for a response, and no read before was too long.
+fn may_go_on(written: usize, put: Result<(), Status>) -> bool
+    ensures few { IsTrue result → written ≤ 16777216 }
+    ensures many { IsFalse result → OnOk put (16777216 < written) }
+{
+    if written > LONGEST_RESPONSE {
+        return false;
+    }
+    match put {
+        Ok(()) => true,
+        Err(status) => status != Status::BAD_RESPONSE_TOO_LARGE,
+    }
+}
+
+/// Appends what is told of the histories of nodes, in order, until these are too many bytes for a response:
+/// `BAD_RESPONSE_TOO_LARGE` where one alone is, of which nothing is appended. All of them are read until then, also where
+/// memory for the bytes runs out. The last fault is told.
 fn put_histories<A: Archive>(
     space: &Space,
     archive: &mut A,
     terms: HistoryTerms,
     items: &[HistoryReadValueId<'_>],
     out: &mut Vec<u8>,
-) -> Result<(), BinaryFault>
-    ensures told { (used : List StepResult) × (values : List Told)
+) -> Result<(), Status>
+    ensures { (used : List StepResult) × (values : List Told)
         × (length values ≡ length items.now)
         × Refines (A.state archive.old) (A.state archive.new) used
         (each (read_history_of (A.state archive.old).id space.now terms.query terms.release)
         (map history_read_fields items.now)) values
-        × OnOk result (Appends history_read_result (map history_fields values)
-        out.old.items out.new.items) }
-    ensures err { IfErr result (λ fault. fault ≡ BinaryFault.OutOfMemory) }
+        × AppendsAll history_read_result (map history_fields values) result out.old.items
+        out.new.items }
 {
     let mut put = Ok(());
     for item in items {
-        if out.len() <= LONGEST_RESPONSE {
+        if may_go_on(out.len(), put) {
             let one = put_history(space, archive, terms, *item, out);
-            put = put.and(one);
+            put = one.and(put);
         }
     }
     put
@@ -231,7 +266,8 @@ fn put_read_history<A: Archive>(
 /// `BAD_NODE_ID_UNKNOWN`, `BAD_HISTORY_OPERATION_UNSUPPORTED` where it isn't archived, `BAD_INDEX_RANGE_INVALID`,
 /// `BAD_DATA_ENCODING_UNSUPPORTED`, and then those of `read_node`. Where continuation points are only given back, a node
 /// is read as ever, and nothing of it is shown. Each history is written into the response as it is read, until the response
-/// is too large to be sent: `BAD_RESPONSE_TOO_LARGE`, and what is left isn't read.
+/// is too large to be sent: `BAD_RESPONSE_TOO_LARGE`, and what is left isn't read. Nor is what is left of a node whose history
+/// alone is too large: at most a response's bytes of it are read, and what one question to the archive gives.
 pub(crate) fn read_history<A: Archive>(
     server: &mut Server<A>,
     sessions: &Sessions,

@@ -19,7 +19,6 @@ ghost use Rattle.archive.specs.Store.{Store, Asks, StepResult};
 ghost use Rattle.archive.specs.Steps.{Refines, step, each};
 ghost use Rattle.archive.specs.declared.reading.Direction.TheVariants as direction;
 ghost use Rattle.hist_read.specs.Asking.{first_time};
-ghost use Rattle.hist_read.specs.Finding.{Finds};
 ghost use Rattle.hist_read.specs.Reads.{greatest_time};
 ghost use Rattle.historian.specs.declared.service.Service.TheVariants as service;
 ghost use Rattle.historian.specs.Reading.{is_null_or_empty, is_default, value_rules, valued, latest, item_told, value_step, FindsItem, read_item, read};

@@ -1,10 +1,9 @@
 use Rattle.std.proofs.Common.{◌≡◌, ◌∙◌, ◌+◌, ◌≤◌, ◌<◌, ◌∷◌, ◌++◌, [], ℕ, List, get_or, length, map, take, Ok, Err, refl, sym, ap, subst, append-nil, arith, inl}
-use Rattle.std.specs.Prelude.{Bool, Result, OnOk, IfOk, IfErr}
+use Rattle.std.specs.Prelude.{Bool, Result, OnOk}
 use Rattle.std.specs.Result.{result_and}
 use Rattle.std.proofs.lemmas.List.{length-append, map-append, take_all}
 use Rattle.ua_binary.specs.declared.codes.Status.{Status}
 use Rattle.ua_binary.specs.declared.codes.TheConstants.Status.{BAD_OUT_OF_MEMORY}
-use Rattle.ua_binary.specs.declared.fault.BinaryFault.TheVariants.{OutOfMemory}
 use Rattle.ua_binary.specs.Rules.{checked}
 use Rattle.ua_services.specs.History.{HistoryReadFields, HistoryFields, history_read_fields, history_fields, history_read_result}
 use Rattle.ua_services.specs.declared.history.HistoryReadResult.{HistoryReadResult}
@@ -15,12 +14,12 @@ use Rattle.archive.specs.Steps.{Refines, each}
 use Rattle.hist_read.specs.Node.{refused_read}
 use Rattle.hist_read.specs.declared.query.Query.{Query}
 use Rattle.historian.specs.Reading.{history_rules, read_history_of}
-use Rattle.historian.specs.Telling.{Appends}
+use Rattle.historian.specs.Telling.{AppendsAll}
 use Rattle.historian.proofs.Items.{each-next-by, acts-none, acts-starved}
 use Rattle.historian.proofs.ReadingParts.{history_by}
-use Rattle.historian.proofs.Streaming.{Put, puts-more, still-starved, skips, some_of}
+use Rattle.historian.proofs.Streaming.{appends-more, appends-skips, some_of}
 use Rattle.historian.proofs.histories.put_histories.Goals as goal
-use Rattle.historian.proofs.histories.put_histories.Goals.{then-len-le-LONGEST_RESPONSE, else-len-le-LONGEST_RESPONSE}
+use Rattle.historian.proofs.histories.put_histories.Goals.{then-may_go_on, else-may_go_on}
 
 -- a history that isn't read is told as one that is refused, or for which memory is wanting
 unread : (s : Store) (id : List ℕ) (space : Layout) (query : Query) (release : Bool)
@@ -51,7 +50,6 @@ loop-item-init g c =
     record {
       id = refl;
       told = (none.0, [], refl, none.1, inl (sym (append-nil c.args.out.now.items), tt));
-      err = tt;
     }
 
 pub loop-item-preserved : goal.loop-item-preserved
@@ -62,28 +60,28 @@ loop-item-preserved g c =
     let read : List ℕ → _ =
     λ id. read_history_of id c.args.space.now c.args.terms.query c.args.terms.release in
     let (used, values, count, acts, shown) = c.loop-item.invariant.told in
-    elim c.if-len-le-LONGEST_RESPONSE.branch [
-      | then-len-le-LONGEST_RESPONSE w ↦
+    elim c.if-may_go_on.branch [
+      | then-may_go_on w ↦
           let e = g.A.Archive.state w.put_history-one.new.archive in
-          let (mark, value, act, puts, is) = w.put_history-one.ensures in
+          let (mark, value, act, puts) = w.put_history-one.ensures in
           let more = values ++ (value ∷ []) in
           let all = each-next-by a b e a.id b.id history_read_fields read c.args.items.now
           c.loop-item.item-index _ _ values more value c.loop-item.invariant.id
           (used, acts) (mark, act) c.loop-item-test.true refl refl in
           let few : length c.loop-item.out.items ≤ 16777216 = omega (
             arith,
-            w.if-len-le-LONGEST_RESPONSE.true,
+            c.may_go_on.ensures.few w.if-may_go_on.true,
             c.len.ensures,
             c.loop-item.out.ok,
           ) in
-          let both : Put → List HistoryFields → Type 0 = λ put vs.
-          OnOk put (Appends history_read_result vs old w.put_history-one.new.out.items) in
-          let put = result_and c.loop-item.put w.put_history-one.result in
+          let both : Result (Unit {0}) Status → List HistoryFields → Type 0 = λ put vs.
+          AppendsAll history_read_result vs put old w.put_history-one.new.out.items in
+          let put = result_and w.put_history-one.result c.loop-item.put in
           let shown' : both put (map history_fields more) =
           subst (both put) (sym (map-append history_fields values (value ∷ [])))
-          (puts-more history_read_result c.loop-item.put w.put_history-one.result old
+          (appends-more history_read_result c.loop-item.put w.put_history-one.result old
           c.loop-item.out.items w.put_history-one.new.out.items (map history_fields values)
-          (history_fields value) few shown puts is) in
+          (history_fields value) few shown puts) in
           rw (w.archive-is, w.out-is, w.put-is) (record {
             id = act.passes.id ∙ c.loop-item.invariant.id;
             told = (
@@ -91,16 +89,11 @@ loop-item-preserved g c =
               more,
               length-append values (value ∷ []) ∙ ap (λ n. n + 1) count,
               all.1,
-              subst (λ (r : Put). both r (map history_fields more)) (sym w.and-put.ensures) shown',
+              subst (λ (r : Result (Unit {0}) Status). both r (map history_fields more))
+                  {x = put} (sym w.and-put.ensures) shown',
             );
-            err = subst (λ (put : Put). IfErr put (λ fault. fault ≡ OutOfMemory))
-                (sym w.and-put.ensures)
-                (still-starved c.loop-item.put w.put_history-one.result c.loop-item.out.items
-                w.put_history-one.new.out.items
-                (history_read_result.canon (history_fields value)) c.loop-item.invariant.err
-                puts);
           })
-      | else-len-le-LONGEST_RESPONSE w ↦
+      | else-may_go_on w ↦
           let items = c.args.items.now in
           let other = some_of items c.loop-item.item-index c.loop-item-test.true in
           let item = get_or items c.loop-item.item-index other in
@@ -110,18 +103,16 @@ loop-item-preserved g c =
           let all = each-next-by a b b a.id b.id history_read_fields read items
           c.loop-item.item-index other item values more value c.loop-item.invariant.id
           (used, acts) act c.loop-item-test.true refl refl in
-          let many : 16777216 < length c.loop-item.out.items = omega (
-            arith,
-            w.if-len-le-LONGEST_RESPONSE.false,
-            c.len.ensures,
-            c.loop-item.out.ok,
-          ) in
-          let shown' : OnOk c.loop-item.put (Appends history_read_result
-          (map history_fields more) old c.loop-item.out.items) =
-          subst (λ (vs : List HistoryFields). OnOk c.loop-item.put
-          (Appends history_read_result vs old c.loop-item.out.items))
+          let many : OnOk c.loop-item.put (16777216 < length c.loop-item.out.items) =
+          subst (λ n. OnOk c.loop-item.put (16777216 < n))
+          (omega (arith, c.len.ensures, c.loop-item.out.ok))
+          (c.may_go_on.ensures.many w.if-may_go_on.false) in
+          let shown' : AppendsAll history_read_result (map history_fields more) c.loop-item.put old
+          c.loop-item.out.items =
+          subst (λ (vs : List HistoryFields). AppendsAll history_read_result vs c.loop-item.put old
+          c.loop-item.out.items)
           (sym (map-append history_fields values (value ∷ [])))
-          (skips history_read_result c.loop-item.put old c.loop-item.out.items
+          (appends-skips history_read_result c.loop-item.put old c.loop-item.out.items
           (map history_fields values) (history_fields value) many shown) in
           rw (w.archive-is, w.out-is, w.put-is) (record {
             id = c.loop-item.invariant.id;
@@ -132,12 +123,11 @@ loop-item-preserved g c =
               all.1,
               shown',
             );
-            err = c.loop-item.invariant.err;
           })
     ]
 
-pub returns-clause-told : goal.returns-clause-told
-returns-clause-told g c =
+pub returns : goal.returns
+returns g c =
     let a = g.A.Archive.state c.args.archive.now in
     let b = g.A.Archive.state c.loop-item.archive in
     let (used, values, count, acts, shown) = c.loop-item.invariant.told in
@@ -153,6 +143,3 @@ returns-clause-told g c =
           c.args.terms.release) (map history_read_fields items)) values) all acts,
       shown,
     )
-
-pub returns-clause-err : goal.returns-clause-err
-returns-clause-err g c = c.loop-item.invariant.err

@@ -1,12 +1,10 @@
 use Rattle.std.proofs.Common.{◌≡◌, List, map, length, take}
-use Rattle.std.specs.Prelude.{OnOk, IfErr}
-use Rattle.ua_binary.specs.declared.fault.BinaryFault.TheVariants.{OutOfMemory}
 use Rattle.ua_services.specs.History.{history_read_fields, history_fields, history_read_result}
 use Rattle.ua_services.specs.declared.history.HistoryReadResult.{HistoryReadResult}
 use Rattle.archive.specs.Store.{StepResult}
 use Rattle.archive.specs.Steps.{Refines, each}
 use Rattle.historian.specs.Reading.{read_history_of}
-use Rattle.historian.specs.Telling.{Appends}
+use Rattle.historian.specs.Telling.{AppendsAll}
 use Rattle.historian.proofs.histories.put_histories.Given as goal
 
 abbrev pub invariant-loop-item : goal.invariant-loop-item
@@ -17,7 +15,5 @@ invariant-loop-item g l = record {
       × Refines (g.A.Archive.state l.fn.archive) (g.A.Archive.state l.archive) used
       (each (read_history_of (g.A.Archive.state l.fn.archive).id l.space l.terms.query
       l.terms.release) (map history_read_fields (take l.item-index l.items))) values
-      × OnOk l.put
-      (Appends history_read_result (map history_fields values) l.fn.out.items l.out.items);
-  err : IfErr l.put (λ fault. fault ≡ OutOfMemory);
+      × AppendsAll history_read_result (map history_fields values) l.put l.fn.out.items l.out.items;
 }

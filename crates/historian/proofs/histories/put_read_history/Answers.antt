@@ -1,6 +1,6 @@
-use Rattle.std.proofs.Common.{◌≡◌, ◌∙◌, ◌<◌, ◌≤◌, inr, ℕ, List, map, length, vec_len, arith, Ok, Err, Some, None, refl, sym, ap, subst}
+use Rattle.std.proofs.Common.{◌≡◌, ◌∙◌, ◌<◌, ◌≤◌, ◌++◌, inr, ℕ, List, map, length, vec_len, arith, Ok, Err, Some, None, refl, sym, ap, subst}
 use Rattle.std.specs.Prelude.{Option, Result}
-use Rattle.std.specs.List.{AllByRecursion}
+use Rattle.std.specs.List.{AllByRecursion, flat_map}
 use Rattle.std.proofs.lemmas.List.{length-map}
 use Rattle.std.proofs.lemmas.Result.{err_from_is_err_and}
 use Rattle.ua_binary.specs.Binary.{array}
@@ -22,7 +22,7 @@ use Rattle.historian.specs.Telling.{ComesWritten}
 use Rattle.historian.specs.Reading.{unless_refused, answer_items, read_history_of, query_of, read_history}
 use Rattle.historian.proofs.Items.{few_taken}
 use Rattle.historian.proofs.ReadingParts.{histories_by}
-use Rattle.historian.proofs.Streaming.{bytes_of, is-whole, is-too-large, writes-all, starved, written-refused, written-wanting, written-items}
+use Rattle.historian.proofs.Streaming.{bytes_of, is-whole, is-over, is-too-large, left-out, writes-all, starved, written-refused, written-wanting, written-items}
 use Rattle.historian.proofs.histories.put_read_history.Goals as goal
 
 -- a HistoryRead that isn't refused asks for items
@@ -149,7 +149,7 @@ returns-in_err-put_histories-clause-comes g c =
     let taken : list_refusal 100 (length nodes) ≡ None =
     ap (list_refusal 100) (asked_count asked c.len.result c.len.ensures)
     ∙ sym c.list_refusal.ensures ∙ c.in_default.is in
-    let (used, values, count, all, shown) = c.put_histories.ensures.told in
+    let (used, values, count, all, shown) = c.in_err-put_histories.ensures in
     let counted : length values ≡ c.len-2.result = omega (
       arith,
       count,
@@ -167,8 +167,15 @@ returns-in_err-put_histories-clause-comes g c =
     (subst (λ s. P s asked.nodes.items) c.space.ensures
     (subst (P c.space.result.now) c.deref.ensures.value (used, all)))
     (let p = err_from_is_err_and c.from_residual-in_err-put_histories.result c.from_residual-in_err-put_histories.ensures.1 in
-    starved now handle (Ok (Histories values)) c.from_residual-in_err-put_histories.result p.0 c.in_err-put_histories.field-0.0
-    c.put_histories.new.out.items p.1 p.2 c.in_err-put_histories.ensures.err)
+    left-out now handle (Ok (Histories values)) c.from_residual-in_err-put_histories.result p.0 c.in_err-put_histories.field-0.0
+    c.put_histories.new.out.items
+    (c.put_count.new.out.items ++ flat_map history_read_result.canon (map history_fields values))
+    p.1 p.2 shown (λ many.
+    subst (λ (bytes : List ℕ). 16777216 < length bytes) (same now handle values)
+    (is-over history_read_result (head 667 now handle GOOD) (map history_fields values)
+    c.len-2.result c.args.body.now.items c.put_head.new.out.items c.put_count.new.out.items
+    c.requires c.in_ok-put_head.ensures.ok c.in_ok-put_count.ensures
+    (length-map values history_fields ∙ counted) many)))
 
 pub returns-then-len-gt-LONGEST_RESPONSE-clause-comes :
     goal.returns-then-len-gt-LONGEST_RESPONSE-clause-comes
@@ -185,7 +192,7 @@ returns-then-len-gt-LONGEST_RESPONSE-clause-comes g c =
     let taken : list_refusal 100 (length nodes) ≡ None =
     ap (list_refusal 100) (asked_count asked c.len.result c.len.ensures)
     ∙ sym c.list_refusal.ensures ∙ c.in_default.is in
-    let (used, values, count, all, shown) = c.in_ok-put_histories.ensures.told in
+    let (used, values, count, all, shown) = c.in_ok-put_histories.ensures in
     let counted : length values ≡ c.len-2.result = omega (
       arith,
       count,
@@ -232,7 +239,7 @@ returns-in_err-put_i32-clause-comes g c =
     let taken : list_refusal 100 (length nodes) ≡ None =
     ap (list_refusal 100) (asked_count asked c.len.result c.len.ensures)
     ∙ sym c.list_refusal.ensures ∙ c.in_default.is in
-    let (used, values, count, all, shown) = c.in_ok-put_histories.ensures.told in
+    let (used, values, count, all, shown) = c.in_ok-put_histories.ensures in
     let counted : length values ≡ c.len-2.result = omega (
       arith,
       count,
@@ -268,7 +275,7 @@ returns-clause-comes g c =
     let taken : list_refusal 100 (length nodes) ≡ None =
     ap (list_refusal 100) (asked_count asked c.len.result c.len.ensures)
     ∙ sym c.list_refusal.ensures ∙ c.in_default.is in
-    let (used, values, count, all, shown) = c.in_ok-put_histories.ensures.told in
+    let (used, values, count, all, shown) = c.in_ok-put_histories.ensures in
     let counted : length values ≡ c.len-2.result = omega (
       arith,
       count,

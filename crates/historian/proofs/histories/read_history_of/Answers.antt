@@ -1,50 +1,93 @@
-use Rattle.std.proofs.Common.{◌∙◌, List, ◌∷◌, refl, sym, ap, subst}
+use Rattle.std.proofs.Common.{◌≡◌, ◌∙◌, List, ◌∷◌, Some, Ok, refl, sym, ap, subst}
+use Rattle.std.specs.Prelude.{Bool, Option}
 use Rattle.ua_binary.specs.declared.values.NodeId.{NodeId}
-use Rattle.ua_services.specs.History.{history_read_fields}
+use Rattle.ua_binary.specs.Rules.{checked}
+use Rattle.ua_services.specs.History.{HistoryReadFields, history_read_fields}
+use Rattle.ua_services.specs.declared.history.HistoryReadResult.{HistoryReadResult}
+use Rattle.ua_space.specs.declared.layout.Layout.{Layout}
+use Rattle.records.specs.Contents.{Content}
 use Rattle.archive.specs.Steps.{Refines, and_then, give}
-use Rattle.archive.specs.Store.{StepResult, Done, NoMemory}
+use Rattle.archive.specs.Store.{Store, StepResult, Done, NoMemory}
+use Rattle.hist_read.specs.Carrying.{TellsWithin}
 use Rattle.hist_read.specs.Node.{read_node}
-use Rattle.historian.specs.Reading.{read_history_of, released}
+use Rattle.hist_read.specs.declared.query.Query.{Query}
+use Rattle.historian.specs.Reading.{history_rules, read_history_of, released}
 use Rattle.historian.proofs.ReadingParts.{history_by}
 use Rattle.historian.proofs.Items.{acts-none, acts-starved, acts-past, acts-made}
 use Rattle.historian.proofs.histories.read_history_of.Goals as goal
+
+-- a node that was read, and what is told of that
+past : (a b : Store) (space : Layout) (query : Query) (release : Bool) (item : HistoryReadFields)
+    (node : NodeId) (read : HistoryReadResult)
+    → checked (history_rules space item) ≡ Ok tt → node ≡ item.0
+    → ((used : List StepResult) × Refines a b used (read_node a.id node query item.1.1.1) read)
+    → (used : List StepResult)
+    × Refines a b used (read_history_of a.id space query release item) (released release read)
+past a b space query release item node read passed same acts =
+    let P : NodeId → Type 0 = λ id. (used : List StepResult)
+    × Refines a b used (read_node a.id id query item.1.1.1) read in
+    let rest = λ (R : Content). and_then (read_node a.id item.0 query item.1.1.1 R)
+    (λ p. give (released release p.0, p.1)) in
+    acts-past a b (read_history_of a.id space query release item) rest (released release read)
+    (acts-made a b (read_node a.id item.0 query item.1.1.1) rest (released release) read
+    (released release read) (subst P same acts) (λ R marks. refl) refl)
+    (λ R marks. ap (λ r. history_by a.id query release item R r (Done ∷ marks)) passed)
 
 pub returns-in-Err-clause-acts : goal.returns-in-Err-clause-acts
 returns-in-Err-clause-acts g c =
     let s = g.A.Archive.state c.args.archive.now in
     let item = history_read_fields c.args.item in
-    acts-none s (read_history_of s.id c.args.space.now c.args.terms.query c.args.terms.release item)
+    let acts = acts-none s
+    (read_history_of s.id c.args.space.now c.args.terms.query c.args.terms.release item)
     c.nothing.result (λ R marks.
     ap (λ r. history_by s.id c.args.terms.query c.args.terms.release item R r marks)
     (sym c.judge_history.ensures.told ∙ c.in-Err.is)
-    ∙ ap (λ x. give (x, R) marks) (sym c.nothing.ensures.told))
+    ∙ ap (λ x. give (x, R) marks) (sym c.nothing.ensures.told)) in
+    (acts.0, c.nothing.result, acts.1, refl)
 
 pub returns-in_default-to_owned-clause-acts : goal.returns-in_default-to_owned-clause-acts
 returns-in_default-to_owned-clause-acts g c =
     let s = g.A.Archive.state c.args.archive.now in
     let item = history_read_fields c.args.item in
-    acts-starved s (read_history_of s.id c.args.space.now c.args.terms.query c.args.terms.release item)
+    let acts = acts-starved s
+    (read_history_of s.id c.args.space.now c.args.terms.query c.args.terms.release item)
     c.nothing-in_default-to_owned.result (λ R later.
     ap (λ r. history_by s.id c.args.terms.query c.args.terms.release item R r (NoMemory ∷ later))
     (sym c.judge_history.ensures.told ∙ c.in_default.is)
-    ∙ ap (λ x. give (x, R) later) (sym c.nothing-in_default-to_owned.ensures.told))
+    ∙ ap (λ x. give (x, R) later) (sym c.nothing-in_default-to_owned.ensures.told)) in
+    (acts.0, c.nothing-in_default-to_owned.result, acts.1, refl)
+
+pub returns-in_default-read_node_within-clause-acts :
+    goal.returns-in_default-read_node_within-clause-acts
+returns-in_default-read_node_within-clause-acts g c =
+    let a = g.A.Archive.state c.args.archive.now in
+    let b = g.A.Archive.state c.read_node_within.new.archive in
+    let release = c.args.terms.release in
+    let (used, value, acts, within) = c.read_node_within.ensures.acts in
+    let all = past a b c.args.space.now c.args.terms.query release
+    (history_read_fields c.args.item) _ value
+    (sym c.judge_history.ensures.told ∙ c.in_default.is) c.in-Ok.ensures (used, acts) in (
+      all.0,
+      released release value,
+      all.1,
+      c.too_long.ensures.told value
+          (subst (λ (o : Option HistoryReadResult). TellsWithin (Some 16777216) o value)
+          c.in_default-read_node_within.is within),
+    )
 
 pub returns-clause-acts : goal.returns-clause-acts
 returns-clause-acts g c =
     let a = g.A.Archive.state c.args.archive.now in
-    let b = g.A.Archive.state c.read_node-read.new.archive in
-    let item = history_read_fields c.args.item in
-    let query = c.args.terms.query in
-    let P : NodeId → Type 0 = λ id. (used : List StepResult)
-    × Refines a b used (read_node a.id id query item.1.1.1) c.read_node-read.result in
-    let read : P item.0 = subst P c.in-Ok.ensures c.read_node-read.ensures.acts in
-    let told = acts-made a b (read_node a.id item.0 query item.1.1.1)
-    (λ R. and_then (read_node a.id item.0 query item.1.1.1 R)
-    (λ p. give (released c.args.terms.release p.0, p.1)))
-    (released c.args.terms.release) c.read_node-read.result c.released.result read
-    (λ R marks. refl) c.released.ensures.told in
-    acts-past a b (read_history_of a.id c.args.space.now query c.args.terms.release item)
-    (λ R. and_then (read_node a.id item.0 query item.1.1.1 R)
-    (λ p. give (released c.args.terms.release p.0, p.1))) c.released.result told (λ R marks.
-    ap (λ r. history_by a.id query c.args.terms.release item R r (Done ∷ marks))
-    (sym c.judge_history.ensures.told ∙ c.in_default.is))
+    let b = g.A.Archive.state c.read_node_within.new.archive in
+    let release = c.args.terms.release in
+    let (used, value, acts, within) = c.read_node_within.ensures.acts in
+    let all = past a b c.args.space.now c.args.terms.query release
+    (history_read_fields c.args.item) _ value
+    (sym c.judge_history.ensures.told ∙ c.in_default.is) c.in-Ok.ensures (used, acts) in (
+      all.0,
+      released release value,
+      all.1,
+      c.released.ensures.told ∙ ap (released release)
+          (subst (λ (o : Option HistoryReadResult). TellsWithin (Some 16777216) o value)
+          c.in-Some.is within),
+    )
