@@ -1,17 +1,21 @@
 //! Reads over lists in memory: their pages, long ones, and a script of failures.
 
+ghost use Rattle.std.specs.Prelude.{IsTrue};
+ghost use Rattle.ua_binary.specs.Binary.{IsShortNode};
+
 use HistoryUpdateType::Insert;
 use archive::{Failure, LearnFault, ListArchive, ScriptedArchive};
-use history_rows::archives::{learn, list_archive, scripted_archive};
+use hist_read::{Query, read_node_within};
+use history_rows::archives::{learn, list_archive, node, scripted_archive};
 use history_rows::reads::{
     are_of_what_was_held, are_told, asked, first_other_modified, first_other_of_five,
     first_other_of_one, goes_on_as_before, learn_values, read, refuses_foreign_points,
 };
 use records::HistoryUpdateType;
-use std::alloc::Global;
+use std::alloc::{AllocError, Global};
 use std::test::Fail;
-use ua_binary::{Bytes, Status};
-use ua_services::{HistoryData, ReadRawModifiedDetails, TimestampsToReturn};
+use ua_binary::{Bytes, NodeId, Status};
+use ua_services::{HistoryData, HistoryReadResult, ReadRawModifiedDetails, TimestampsToReturn};
 
 #[test]
 fn raw_reads_have_their_pages(rt: HostRuntime) -> Result<(), Fail> {
@@ -115,6 +119,78 @@ fn pages_and_reads_have_a_greatest_length(rt: HostRuntime) -> Result<(), Fail> {
         assert!(rt;
             has_two(rt.alloc(), &mut archive, details, *first, *second),
             "{end} {most}"
+        );
+    }
+    Ok(())
+}
+
+// ---- reads of at most so many bytes
+
+fn is_short(node: &NodeId) -> bool
+    ensures { IsTrue result → IsShortNode node.now }
+{
+    match node {
+        NodeId::Named(_, name) => name.len() < 0x8000_0000,
+        _ => false,
+    }
+}
+
+/// A read of the node, of at most so many bytes.
+fn read_within(
+    alloc: Global,
+    archive: &mut ListArchive,
+    details: ReadRawModifiedDetails,
+    longest: Option<usize>,
+) -> Result<Option<HistoryReadResult>, AllocError> {
+    let stamps = TimestampsToReturn::Source;
+    let query = Query { details, stamps };
+    let node = node(alloc)?;
+    if is_short(&node) {
+        Ok(read_node_within(alloc, archive, &node, &query, None, longest))
+    } else {
+        Err(AllocError)
+    }
+}
+
+/// Whether a read within a limit tells what it tells without one, or nothing.
+fn is_told_within(
+    alloc: Global,
+    archive: &mut ListArchive,
+    details: ReadRawModifiedDetails,
+    longest: Option<usize>,
+    is_told: bool,
+) -> bool {
+    let Ok(within) = read_within(alloc, archive, details, longest) else {
+        return false;
+    };
+    match read(alloc, archive, details, TimestampsToReturn::Source, None) {
+        Ok(whole) => within == if is_told { Some(whole) } else { None },
+        Err(_) => false,
+    }
+}
+
+/// The most bytes of a read of a hundred values of five bytes each, and whether it is told.
+static LIMITS: [(Option<usize>, bool); 5] = [
+    (None, true),
+    (Some(500), true),
+    (Some(499), false),
+    (Some(160), false),
+    (Some(0), false),
+];
+
+#[test]
+fn a_read_that_is_too_long_is_none(rt: HostRuntime) -> Result<(), Fail> {
+    let mut archive = long_archive(rt.alloc(), 100)?;
+    for (longest, is_told) in &LIMITS {
+        let raw = asked(false, 1, 1000, 0, false);
+        let modified = asked(true, 1, 1000, 0, false);
+        assert!(rt;
+            is_told_within(rt.alloc(), &mut archive, raw, *longest, *is_told),
+            "{longest:?}"
+        );
+        assert!(rt;
+            is_told_within(rt.alloc(), &mut archive, modified, *longest, *is_told),
+            "{longest:?} of modifications"
         );
     }
     Ok(())
