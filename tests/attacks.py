@@ -119,10 +119,16 @@ def code(answer):
 
 def costs(server, what, line, sent):
     """Tells what one request takes of memory and of a processor, and gives its answer."""
+    return weighs(server, what, line, sent)[0]
+
+
+def weighs(server, what, line, sent):
+    """The same, and gives how many MB it took too."""
     before, begin = server.forget_peak(), server.seconds()
     answer, size = message(line, sent)
-    note(f"{what}: {len(sent)} bytes sent, {(peak(server.process.pid) - before) / 1024:.0f} MB more, {server.seconds() - begin:.1f} s of a processor; {size} bytes answer, {code(answer)}")
-    return answer
+    more = (peak(server.process.pid) - before) / 1024
+    note(f"{what}: {len(sent)} bytes sent, {more:.0f} MB more, {server.seconds() - begin:.1f} s of a processor; {size} bytes answer, {code(answer)}")
+    return answer, more
 
 
 def updated(line, details, pieces=65_000):
@@ -238,6 +244,10 @@ def large_exchange():
     line = one.line()
     for k in range(count):
         assert updated(line, [insert(node("B", 1), [value_at(u8(15) + opcua.blob(bytes(1_048_400)), NOW + k)])]) == [[INSERTED]]
+    message(line, line.client.history_read([node("B", 1)], NOW, NOW + count))  # the store keeps pages that were read
+    for what, modified in (("values", False), ("modifications", True)):
+        answer, more = weighs(one, f"a HistoryRead of {count} {what} of 1 MiB", line, line.client.history_read([node("B", 1)], NOW, NOW + count, modified=modified))
+        tell(status(answer) == ANSWER_TOO_LARGE and more < 64, "it is refused by 80B90000 before all of them are read", (code(answer), more))
     line.socket.close()
     before = one.forget_peak()
     done = weighed([program, "sync", "--settings", two.settings, "--peer", f"127.0.0.1:{one.port}"], most=900)
