@@ -247,7 +247,7 @@ def large_exchange():
     message(line, line.client.history_read([node("B", 1)], NOW, NOW + count))  # the store keeps pages that were read
     for what, modified in (("values", False), ("modifications", True)):
         answer, more = weighs(one, f"a HistoryRead of {count} {what} of 1 MiB", line, line.client.history_read([node("B", 1)], NOW, NOW + count, modified=modified))
-        tell(status(answer) == ANSWER_TOO_LARGE and more < 64, "it is refused by 80B90000 before all of them are read", (code(answer), more))
+        tell(status(answer) == ANSWER_TOO_LARGE and more < 64 + 16, "it is refused by 80B90000 before all of them are read", (code(answer), more))
     line.socket.close()
     before = one.forget_peak()
     done = weighed([program, "sync", "--settings", two.settings, "--peer", f"127.0.0.1:{one.port}"], most=900)
