@@ -287,6 +287,10 @@ def long_turns():
     with Polls(server) as polls:
         costs(server, "a Read of 1,000 times a variable whose newest 4,000 values are deleted", writer, writer.client.read([(U, 13)] * 1000))
     note(polls.told())
+    updated(writer, [insert(T, [value_at(int32(n), NOW - 1) for n in range(1000)], 3)])
+    with Polls(server) as polls:
+        costs(server, "a HistoryRead of 100 pages of the 1,000 modifications of one moment", writer, writer.client.history_read([T] * 100, NOW - 10, NOW, 1000, modified=True))
+    note(polls.told())
     lines, stop = [server.line(None) for _ in range(20)], time.monotonic() + 6
 
     def reads(line):

@@ -5,7 +5,7 @@ use archive::StoreFault;
 use sql_archive::{FileArchive, SqlArchive};
 use stamp::ReplicaNo;
 use std::fs::{File, OpenOptions};
-use std::io::ErrorKind;
+use std::io::{ErrorKind, Write};
 use std::os::unix::fs::{MetadataExt, OpenOptionsExt, PermissionsExt};
 use std::{fs, io};
 use uuid::Uuid;
@@ -15,6 +15,21 @@ const LEAST_LOG: u64 = 568;
 
 /// The rights of a store that is made: its owner's alone. Its log takes them over.
 const OWNERS: u32 = 0o600;
+
+/// The bytes of a page of a store that is made. A change writes some five pages and syncs them, so smaller ones than SQLite's
+/// usual 4,096 make it cheaper.
+const PAGE: usize = 1024;
+
+/// The header of a database of SQLite that holds nothing, of one page of 1,024 bytes, and with a log beside it.
+const HEADER: [u8; 100] = [
+    83, 81, 76, 105, 116, 101, 32, 102, 111, 114, 109, 97, 116, 32, 51, 0, 4, 0, 2, 2, 0, 64, 32,
+    32, 0, 0, 0, 0, 0, 0, 0, 1, 0, 0, 0, 0, 0, 0, 0, 0, 0, 0, 0, 1, 0, 0, 0, 4, 0, 0, 0, 0, 0, 0,
+    0, 0, 0, 0, 0, 1, 0, 0, 0, 0, 0, 0, 0, 0, 0, 0, 0, 0, 0, 0, 0, 0, 0, 0, 0, 0, 0, 0, 0, 0, 0, 0,
+    0, 0, 0, 0, 0, 0, 0, 0, 0, 0, 0, 46, 118, 136,
+];
+
+/// A leaf of a tree of rows, which stands behind the header: of no cell, so its cells begin where the page ends.
+const LEAF: [u8; 8] = [13, 0, 0, 0, 0, 4, 0, 0];
 
 /// How many bytes a file has, 0 where none stands at the path.
 fn length(rt: &HostRuntime, path: &str) -> io::Result<u64> {
@@ -58,6 +73,25 @@ fn make(rt: &HostRuntime, path: &str) -> io::Result<File> {
         .open(rt, path)
 }
 
+/// Writes a database that holds nothing: one page, of its header and of a leaf without rows.
+fn write_empty(file: &mut File) -> io::Result<()> {
+    let mut page = [0; PAGE];
+    page[..100].copy_from_slice(&HEADER);
+    page[100..108].copy_from_slice(&LEAF);
+    file.write_all(&page)?;
+    file.sync_all()
+}
+
+/// Makes the file of a store for its owner alone, as a database that holds nothing. What can't be written is taken back, and
+/// left to the opening, which begins an empty file in pages of 4,096 bytes.
+fn make_empty(rt: &HostRuntime, path: &str) -> io::Result<()> {
+    let mut file = make(rt, path)?;
+    match write_empty(&mut file) {
+        Ok(()) => Ok(()),
+        Err(_) => file.set_len(0),
+    }
+}
+
 /// Makes the file of a store for its owner alone, where none stands. A store that is gone, or empty, beside a log that has
 /// records is refused, and both stay: an opening would begin anew, and the log may be all that is left. What else can't be read
 /// is left to the opening.
@@ -68,7 +102,7 @@ fn prepare(rt: &HostRuntime, path: &str) -> Result<(), StoreFault> {
     if matches!(has_log(rt, path), Ok(true)) {
         return Err(StoreFault::Refused);
     }
-    let _ = make(rt, path);
+    let _ = make_empty(rt, path);
     Ok(())
 }
 
