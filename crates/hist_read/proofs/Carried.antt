@@ -1,17 +1,17 @@
 -- How many bytes the values of a page have: at least as many are carried in its result.
-use Rattle.std.proofs.Common.{◌≡◌, ◌∙◌, ℕ, zero, suc, ◌+◌, ◌<◌, ◌≤◌, pos, Bool, true, false, cond, List, [], ◌∷◌, ◌++◌, map, take, replicate, length, Option, Some, None, is_some, unwrap_or, refl, ap, arith}
+use Rattle.std.proofs.Common.{◌≡◌, ◌∙◌, ℕ, zero, suc, ◌+◌, ◌-◌, ◌^◌, min, ◌<◌, ◌≤◌, pos, Bool, true, false, cond, List, [], ◌∷◌, ◌++◌, map, take, replicate, length, Option, Some, None, is_some, unwrap_or, refl, sym, ap, subst, arith}
 use Rattle.std.specs.List.{flat_map}
 use Rattle.std.specs.Option.{option_map_or}
 use Rattle.std.specs.Int.{w32}
 use Rattle.std.proofs.lemmas.List.{length-append, length-replicate}
 use Rattle.std.proofs.lemmas.List.Concat.{flat_map-cons}
-use Rattle.ua_binary.specs.Format.{flagged}
-use Rattle.ua_binary.specs.Binary.{signed, byte_string, status, node_id}
+use Rattle.ua_binary.specs.Format.{flagged, saturated}
+use Rattle.ua_binary.specs.Binary.{unsigned, signed, byte_string, IsCounted, status, node_id}
 use Rattle.ua_binary.specs.declared.codes.Status.{Status}
 use Rattle.ua_binary.specs.declared.codes.TheConstants.Status.{GOOD}
 use Rattle.ua_binary.specs.declared.values.NodeId.{NodeId}
 use Rattle.ua_binary.specs.declared.values.NodeId.TheVariants.{Numeric}
-use Rattle.ua_binary.proofs.Sizes.{byte_string_length, array_length}
+use Rattle.ua_binary.proofs.Sizes.{count_length, byte_string_length, no_byte_string_length, array_length}
 use Rattle.ua_variant.specs.DataValue.{data_value}
 use Rattle.ua_variant.specs.Raise.{variant_fault}
 use Rattle.ua_variant.specs.Variant.{variant}
@@ -19,15 +19,16 @@ use Rattle.ua_variant.specs.declared.data.DataValue.{DataValue}
 use Rattle.ua_variant.specs.declared.value.Variant.{Variant}
 use Rattle.ua_variant.proofs.Sizes.{data_length}
 use Rattle.ua_services.specs.Attributes.{data_values}
-use Rattle.ua_services.specs.History.{History, history_of, history_data, history_read_result, info_fields, modification_info}
+use Rattle.ua_services.specs.History.{History, history_of, history_bytes, history_data, history_read_result, info_fields, modification_info, IsShortHistory, IsShortHistoryRead}
 use Rattle.ua_services.specs.Unkept.{many}
 use Rattle.ua_services.specs.declared.attributes.TimestampsToReturn.{TimestampsToReturn}
 use Rattle.ua_services.specs.declared.attributes.TimestampsToReturn.TheVariants.{Source, Server, Both, Neither}
+use Rattle.ua_services.specs.declared.history.HistoryData.{HistoryData}
 use Rattle.ua_services.specs.declared.history.HistoryData.TheVariants.{Raw, Modified, Nothing}
 use Rattle.ua_services.specs.declared.history.HistoryReadResult.{HistoryReadResult}
 use Rattle.ua_services.specs.declared.history.ModificationInfo.{ModificationInfo}
 use Rattle.ua_services.specs.declared.history.ReadRawModifiedDetails.{ReadRawModifiedDetails as Details}
-use Rattle.ua_services.proofs.Canons.{canon_raw, canon_modified}
+use Rattle.ua_services.proofs.Canons.{canon_nothing, canon_raw, canon_modified}
 use Rattle.records.specs.Contents.{Content}
 use Rattle.records.specs.Spelling.{empty}
 use Rattle.records.specs.declared.shown.Held.{Held}
@@ -36,8 +37,8 @@ use Rattle.hist_read.specs.declared.item.Item.{Item}
 use Rattle.hist_read.specs.declared.item.Item.TheVariants.{Value}
 use Rattle.hist_read.specs.declared.point.Position.{Position}
 use Rattle.hist_read.specs.declared.query.Query.{Query}
-use Rattle.hist_read.specs.Carrying.{read_length, value_length, values_length, Exceeds}
-use Rattle.hist_read.specs.Node.{status_for, raw_page, modified_page}
+use Rattle.hist_read.specs.Carrying.{read_length, value_length, values_length, Exceeds, TellsWithin}
+use Rattle.hist_read.specs.Node.{status_for, refused_read, raw_page, modified_page}
 use Rattle.hist_read.specs.Reads.{near, body_part, value_items, time_before, last_time, before_far, raw, modified, page_size, page}
 use Rattle.hist_read.specs.Showing.{shown, shown_entry, info}
 use Rattle.hist_read.proofs.ReadsParts.{near_part, far_part}
@@ -161,6 +162,115 @@ long_read longest =
       omega (arith, size, many_bytes, point_in GOOD (Some bytes) (history_of Nothing)),
       refl,
     )
+
+-- ---- how many bytes a result has
+
+-- the bytes before what was read
+pub nothing_head : length (history_data.canon (history_of Nothing))
+    ≡ 3 + length (history_bytes (history_of Nothing))
+unfolding node_id unsigned
+nothing_head = ap length canon_nothing
+
+raw_id : length (node_id.canon (Numeric 0 658)) ≡ 4
+unfolding node_id unsigned
+raw_id = refl
+
+modified_id : length (node_id.canon (Numeric 0 11227)) ≡ 4
+unfolding node_id unsigned
+modified_id = refl
+
+-- an id of four bytes, one more, a count, and the body
+headed : (id body : List ℕ) → length id ≡ 4
+    → length (id ++ (1 ∷ ((signed w32).canon (pos (length body)) ++ body))) ≡ 9 + length body
+headed id body four = omega (
+  arith,
+  four,
+  length-append id (1 ∷ ((signed w32).canon (pos (length body)) ++ body)),
+  length-append ((signed w32).canon (pos (length body))) body,
+  count_length (length body),
+)
+
+pub raw_head : (vs : List DataValue) → length (history_data.canon (history_of (Raw vs)))
+    ≡ 9 + length (history_bytes (history_of (Raw vs)))
+raw_head vs = ap length (canon_raw vs)
+    ∙ headed (node_id.canon (Numeric 0 658)) (data_values.canon vs) raw_id
+
+pub modified_head : (vs : List DataValue) (infos : List ModificationInfo)
+    → length (history_data.canon (history_of (Modified vs infos)))
+    ≡ 9 + length (history_bytes (history_of (Modified vs infos)))
+modified_head vs infos = ap length (canon_modified vs (map info_fields infos))
+    ∙ headed (node_id.canon (Numeric 0 11227))
+    (data_values.canon vs ++ (many modification_info).canon (map info_fields infos)) modified_id
+
+-- of one that is such a one
+pub head_is : (read other : HistoryData) (size : ℕ) → read ≡ other
+    → length (history_data.canon (history_of other))
+    ≡ size + length (history_bytes (history_of other))
+    → length (history_data.canon (history_of read)) ≡ size + length (history_bytes (history_of read))
+head_is read other size is known =
+    subst (λ (d : HistoryData). length (history_data.canon (history_of d))
+    ≡ size + length (history_bytes (history_of d))) (sym is) known
+
+status_length : (s : Status) → length (status.canon s) ≡ 4
+unfolding status unsigned
+status_length s = refl
+
+-- the status, the continuation point, and what was read
+whole_length : (s : Status) (point : Option (List ℕ)) (h : History)
+    → length (history_read_result.canon (s, (point, h)))
+    ≡ 4 + length (byte_string.canon point) + length (history_data.canon h)
+unfolding history_read_result
+whole_length s point h = omega (
+  arith,
+  status_length s,
+  length-append (status.canon s) (byte_string.canon point ++ history_data.canon h),
+  length-append (byte_string.canon point) (history_data.canon h),
+)
+
+point_short : (point : Option (List ℕ)) → IsCounted point
+    → length (byte_string.canon point) < 4 + 2 ^ 31
+point_short None h = omega (arith, no_byte_string_length)
+point_short (Some bytes) h = omega (arith, h, byte_string_length bytes)
+
+body_short : (read : HistoryData) → IsShortHistory read
+    → length (history_bytes (history_of read)) < 2 ^ 31
+body_short Nothing h = omega arith
+body_short (Raw vs) h = h.1
+body_short (Modified vs infos) h = h.3
+
+-- the bytes of one that can be written, counted by its parts
+pub size_is : (r : HistoryReadResult) (point front head body all : ℕ) (before : ℕ)
+    → IsShortHistoryRead r
+    → point ≡ saturated (length (byte_string.canon r.continuation_point))
+    → front ≡ min (point + 4) (2 ^ 64 - 1)
+    → length (history_data.canon (history_of r.history_data))
+    ≡ before + length (history_bytes (history_of r.history_data))
+    → before ≤ 9
+    → head ≡ min (front + before) (2 ^ 64 - 1)
+    → body ≡ saturated (length (history_bytes (history_of r.history_data)))
+    → all ≡ min (head + body) (2 ^ 64 - 1) → all ≡ read_length r
+size_is r point front head body all before short p f whole few h b e =
+    let known = body_short r.history_data short.1 in
+    let counted = point_short r.continuation_point short.0 in
+    let parts = whole_length r.status r.continuation_point (history_of r.history_data) in
+    omega (arith, known, counted, parts, p, f, whole, few, h, b, e)
+
+-- one that is refused has eleven bytes
+refused_length : (code : Status) → read_length (refused_read code) ≡ 11
+refused_length code = omega (
+  arith,
+  whole_length code None (history_of Nothing),
+  no_byte_string_length,
+  nothing_head,
+)
+
+-- so no limit of as many bytes or more leaves it out
+pub refused_within : (limit : ℕ) (code : Status) (read : HistoryReadResult)
+    → read ≡ refused_read code → 11 ≤ limit → TellsWithin (Some limit) (Some read) read
+refused_within limit code read is enough = (
+  refl,
+  λ long. let size = ap read_length is ∙ refused_length code in omega (arith, size, enough, long.0),
+)
 
 -- ---- a page
 

@@ -20,10 +20,10 @@ use Rattle.archive.proofs.Timing.{has_from_get, current_from}
 use Rattle.archive.proofs.Resuming.{log_resumes}
 use Rattle.ua_services.specs.declared.history.ReadRawModifiedDetails.{ReadRawModifiedDetails as Details}
 use Rattle.hist_read.specs.Asking.{first_time, direction}
-use Rattle.hist_read.specs.Reads.{greatest_time, in_body, values_inside, is_past_any, is_near_alone, limit_at, body_part, page_size}
-use Rattle.hist_read.specs.Pages.{values_beyond, body_limit}
+use Rattle.hist_read.specs.Reads.{greatest_time, in_body, values_inside, is_past_any, values_beyond, is_near_alone, limit_at, body_part, entries_behind, page_size}
+use Rattle.hist_read.specs.Pages.{body_limit}
 use Rattle.hist_read.specs.Carrying.{value_length, values_length, Exceeds}
-use Rattle.hist_read.specs.Gathering.{IsGathered, GathersOn, AreTooLong, IsBodyTooLong, entries_behind, AreGathered, EntriesGatherOn}
+use Rattle.hist_read.specs.Gathering.{IsGathered, GathersOn, AreTooLong, IsBodyTooLong, AreGathered, EntriesGatherOn}
 use Rattle.hist_read.specs.declared.point.Position.{Position}
 use Rattle.hist_read.specs.declared.raw.Gathered.{Gathered}
 use Rattle.hist_read.specs.declared.modified.GatheredEntries.{GatheredEntries}
@@ -199,26 +199,26 @@ module _ (R : Content) (node : NodeId) (q : Details) (lawful : IsLawfulContent R
 
   -- where the next values end, those that follow them begin
   pub gathers_on : (start : Option ℤ) (limit : ℕ) (next : List Held) (g h : Gathered) (more : Bool)
-      → g.end ≡ behind → next ≡ take limit (range_of R node from to (direction q))
-      → h.values.items ≡ g.values.items ++ next → h.most ≡ g.most
-      → limit ≤ g.most - length g.values.items
-      → h.end ≡ end_behind (last next) g.end
-      → (more ≡ false → (length next < limit) ⊎ (g.most ≤ length h.values.items))
+      → g.reached ≡ behind → next ≡ take limit (range_of R node from to (direction q))
+      → h.values.items ≡ g.values.items ++ next → h.wanted ≡ g.wanted
+      → limit ≤ g.wanted - length g.values.items
+      → h.reached ≡ end_behind (last next) g.reached
+      → (more ≡ false → (length next < limit) ⊎ (g.wanted ≤ length h.values.items))
       → IsGathered R node q start g → GathersOn R node q start more h
   gathers_on start limit next g h more ends taken values most small end ending so_far = (
     record {
-      first = values ∙ gathered_first all old next beyond g.most limit so_far.first others is
+      first = values ∙ gathered_first all old next beyond g.wanted limit so_far.first others is
           so_far.few small ∙ ap (λ l. take (length l) all) (sym values);
       others = at (last next) refl
-          ∙ gathered_others all old next beyond g.most limit so_far.first others is so_far.few small
+          ∙ gathered_others all old next beyond g.wanted limit so_far.first others is so_far.few small
           ∙ ap (λ l. drop (length l) all) (sym values);
       late = subst (λ o. IfSome o (λ t. first_time ≤ℤ t)) (sym end) (late_at (last next) refl);
       few = subst (λ n. length h.values.items ≤ n) (sym most)
-          (subst (λ l. length l ≤ g.most) (sym values)
-          (gathered_few all old next beyond g.most limit so_far.first others is so_far.few small));
+          (subst (λ l. length l ≤ g.wanted) (sym values)
+          (gathered_few all old next beyond g.wanted limit so_far.first others is so_far.few small));
     },
     λ e. values
-        ∙ gathered_all all old next beyond g.most limit so_far.first others is so_far.few small
+        ∙ gathered_all all old next beyond g.wanted limit so_far.first others is so_far.few small
         (by_count (ending e))
         ∙ ap (λ n. take n all) (sym most),
   )
@@ -238,31 +238,31 @@ module _ (R : Content) (node : NodeId) (q : Details) (lawful : IsLawfulContent R
       is : next ≡ take limit beyond
       is = taken ∙ ap (take limit) range_is
 
-      by_count : (length next < limit) ⊎ (g.most ≤ length h.values.items)
-          → (length next < limit) ⊎ (g.most ≤ length (old ++ next))
+      by_count : (length next < limit) ⊎ (g.wanted ≤ length h.values.items)
+          → (length next < limit) ⊎ (g.wanted ≤ length (old ++ next))
       by_count (inl e) = inl e
-      by_count (inr e) = inr (subst (λ l. g.most ≤ length l) values e)
+      by_count (inr e) = inr (subst (λ l. g.wanted ≤ length l) values e)
 
       at : (o : Option Held) → last next ≡ o
-          → values_beyond R node q h.end ≡ drop (length next) beyond
+          → values_beyond R node q h.reached ≡ drop (length next) beyond
       at None e =
           let none = last_none next e in
-          ap (values_beyond R node q) (end ∙ ap (λ o. end_behind o g.end) e ∙ ends)
+          ap (values_beyond R node q) (end ∙ ap (λ o. end_behind o g.reached) e ∙ ends)
           ∙ ap (λ n. drop n beyond) (sym none)
       at (Some x) e =
           let k = last_of next x e in
-          ap (values_beyond R node q) (end ∙ ap (λ o. end_behind o g.end) e)
+          ap (values_beyond R node q) (end ∙ ap (λ o. end_behind o g.reached) e)
           ∙ beyond_value k.0 x (got_of_take k.0 limit beyond x
           (ap (λ l. slice_get l k.0) (sym is) ∙ k.2))
           ∙ ap (λ n. drop n beyond) (sym k.1)
 
       late_at : (o : Option Held) → last next ≡ o
-          → IfSome (end_behind (last next) g.end) (λ t. first_time ≤ℤ t)
+          → IfSome (end_behind (last next) g.reached) (λ t. first_time ≤ℤ t)
       late_at None e =
-          subst (λ o. IfSome (end_behind o g.end) (λ t. first_time ≤ℤ t)) (sym e) so_far.late
+          subst (λ o. IfSome (end_behind o g.reached) (λ t. first_time ≤ℤ t)) (sym e) so_far.late
       late_at (Some x) e =
           let k = last_of next x e in
-          subst (λ o. IfSome (end_behind o g.end) (λ t. first_time ≤ℤ t)) (sym e)
+          subst (λ o. IfSome (end_behind o g.reached) (λ t. first_time ≤ℤ t)) (sym e)
           (value_late k.0 x (got_of_take k.0 limit beyond x
           (ap (λ l. slice_get l k.0) (sym is) ∙ k.2)))
 
@@ -297,14 +297,14 @@ body_long R node q p most limit wanted long = by (is_near_alone q)
 
 -- before any is gathered
 pub gathered_none : (R : Content) (node : NodeId) (q : Details) (start : Option ℤ) (g : Gathered)
-    → g.values.items ≡ [] → g.end ≡ start → IfSome start (λ t. first_time ≤ℤ t)
+    → g.values.items ≡ [] → g.reached ≡ start → IfSome start (λ t. first_time ≤ℤ t)
     → IsGathered R node q start g
 gathered_none R node q start g none is late = record {
   first = none ∙ sym (ap (λ l. take (length l) (values_beyond R node q start)) none);
   others = ap (values_beyond R node q) is
       ∙ sym (ap (λ l. drop (length l) (values_beyond R node q start)) none);
   late = subst (λ o. IfSome o (λ t. first_time ≤ℤ t)) (sym is) late;
-  few = subst (λ l. length l ≤ g.most) (sym none) (omega arith);
+  few = subst (λ l. length l ≤ g.wanted) (sym none) (omega arith);
 }
 
 -- ---- modifications
@@ -335,27 +335,27 @@ module _ (R : Content) (node : NodeId) (q : Details) (lawful : IsLawfulContent R
     -- where the next modifications end, those that follow them begin
     pub entries_gather_on : (start : Option LogPlace) (limit : ℕ) (next : List Entry)
         (g h : GatheredEntries) (more : Bool)
-        → next ≡ take limit (log_of R node from to g.end (direction q))
-        → h.entries.items ≡ g.entries.items ++ next → h.most ≡ g.most
-        → limit ≤ g.most - length g.entries.items
-        → h.end ≡ place_behind (last next) g.end
-        → (more ≡ false → (length next < limit) ⊎ (g.most ≤ length h.entries.items))
+        → next ≡ take limit (log_of R node from to g.reached (direction q))
+        → h.entries.items ≡ g.entries.items ++ next → h.wanted ≡ g.wanted
+        → limit ≤ g.wanted - length g.entries.items
+        → h.reached ≡ place_behind (last next) g.reached
+        → (more ≡ false → (length next < limit) ⊎ (g.wanted ≤ length h.entries.items))
         → AreGathered R node q start g → EntriesGatherOn R node q start more h
     entries_gather_on start limit next g h more taken entries most small end ending so_far = (
       record {
-        first = entries ∙ gathered_first all old next behind g.most limit so_far.first so_far.others
+        first = entries ∙ gathered_first all old next behind g.wanted limit so_far.first so_far.others
             is so_far.few small ∙ ap (λ l. take (length l) all) (sym entries);
         others = at (last next) refl
-            ∙ gathered_others all old next behind g.most limit so_far.first so_far.others is
+            ∙ gathered_others all old next behind g.wanted limit so_far.first so_far.others is
             so_far.few small
             ∙ ap (λ l. drop (length l) all) (sym entries);
         few = subst (λ n. length h.entries.items ≤ n) (sym most)
-            (subst (λ l. length l ≤ g.most) (sym entries)
-            (gathered_few all old next behind g.most limit so_far.first so_far.others is so_far.few
+            (subst (λ l. length l ≤ g.wanted) (sym entries)
+            (gathered_few all old next behind g.wanted limit so_far.first so_far.others is so_far.few
             small));
       },
       λ e. entries
-          ∙ gathered_all all old next behind g.most limit so_far.first so_far.others is so_far.few
+          ∙ gathered_all all old next behind g.wanted limit so_far.first so_far.others is so_far.few
           small (by_count (ending e))
           ∙ ap (λ n. take n all) (sym most),
     )
@@ -367,35 +367,35 @@ module _ (R : Content) (node : NodeId) (q : Details) (lawful : IsLawfulContent R
         old = g.entries.items
 
         behind : List Entry
-        behind = entries_behind R node q g.end
+        behind = entries_behind R node q g.reached
 
         is : next ≡ take limit behind
-        is = taken ∙ ap (take limit) (log_is g.end)
+        is = taken ∙ ap (take limit) (log_is g.reached)
 
-        by_count : (length next < limit) ⊎ (g.most ≤ length h.entries.items)
-            → (length next < limit) ⊎ (g.most ≤ length (old ++ next))
+        by_count : (length next < limit) ⊎ (g.wanted ≤ length h.entries.items)
+            → (length next < limit) ⊎ (g.wanted ≤ length (old ++ next))
         by_count (inl e) = inl e
-        by_count (inr e) = inr (subst (λ l. g.most ≤ length l) entries e)
+        by_count (inr e) = inr (subst (λ l. g.wanted ≤ length l) entries e)
 
         at : (o : Option Entry) → last next ≡ o
-            → entries_behind R node q h.end ≡ drop (length next) behind
+            → entries_behind R node q h.reached ≡ drop (length next) behind
         at None e =
             let none = last_none next e in
-            ap (entries_behind R node q) (end ∙ ap (λ o. place_behind o g.end) e)
+            ap (entries_behind R node q) (end ∙ ap (λ o. place_behind o g.reached) e)
             ∙ ap (λ n. drop n behind) (sym none)
         at (Some x) e =
             let k = last_of next x e in
-            ap (entries_behind R node q) (end ∙ ap (λ o. place_behind o g.end) e)
-            ∙ behind_entry g.end k.0 x (got_of_take k.0 limit behind x
+            ap (entries_behind R node q) (end ∙ ap (λ o. place_behind o g.reached) e)
+            ∙ behind_entry g.reached k.0 x (got_of_take k.0 limit behind x
             (ap (λ l. slice_get l k.0) (sym is) ∙ k.2))
             ∙ ap (λ n. drop n behind) (sym k.1)
 
 -- before any is gathered
 pub entries_none : (R : Content) (node : NodeId) (q : Details) (start : Option LogPlace)
-    (g : GatheredEntries) → g.entries.items ≡ [] → g.end ≡ start → AreGathered R node q start g
+    (g : GatheredEntries) → g.entries.items ≡ [] → g.reached ≡ start → AreGathered R node q start g
 entries_none R node q start g none is = record {
   first = none ∙ sym (ap (λ l. take (length l) (entries_behind R node q start)) none);
   others = ap (entries_behind R node q) is
       ∙ sym (ap (λ l. drop (length l) (entries_behind R node q start)) none);
-  few = subst (λ l. length l ≤ g.most) (sym none) (omega arith);
+  few = subst (λ l. length l ≤ g.wanted) (sym none) (omega arith);
 }

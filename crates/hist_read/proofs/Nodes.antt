@@ -11,9 +11,12 @@ use Rattle.stamp.specs.Numbers.{number_of}
 use Rattle.std.specs.Cmp.Lexicographic.{pointwise}
 use Rattle.ua_binary.specs.declared.values.NodeId.{NodeId}
 use Rattle.records.specs.Contents.{Content, numbers_of, cut}
+use Rattle.archive.specs.declared.setback.StepError.{StepError}
 use Rattle.archive.specs.declared.setback.StepError.TheVariants as setback
+use Rattle.archive.specs.declared.fault.StoreFault.{StoreFault}
+use Rattle.archive.specs.declared.fault.StoreFault.TheVariants as store
 use Rattle.archive.specs.declared.fault.StoreFault.TheVariants.{Broken}
-use Rattle.archive.specs.Fault.{step_error_status, mark_of}
+use Rattle.archive.specs.Fault.{store_fault_status, step_error_status, mark_of}
 use Rattle.archive.specs.Store.{Store, StepResult, Done, IsLawfulContent, IsLeft, AfterCall, Asks, faults_of, CountsFaults}
 use Rattle.archive.specs.Steps.{give, step, Refines}
 use Rattle.archive.proofs.Acting.{left-before, there-behind, acts-stays, acts-give, acts-as}
@@ -98,11 +101,48 @@ abbrev pub mark_in : Result HistoryReadResult PageFault → StepResult
 mark_in (Err (page.Step setback)) = mark_of setback
 mark_in result = Done
 
+-- what is told of a page as it was read, of what came in the way of it, and of one that was too long
+abbrev pub TellsOf : Option ℕ → Option HistoryReadResult → Result HistoryReadResult PageFault
+    → Type 0
+TellsOf longest told (Ok x) = TellsWithin longest told x
+TellsOf longest told (Err (page.Step setback)) =
+    told ≡ Some (refused_read (step_error_status setback))
+TellsOf longest told (Err page.TooLong) = told ≡ None
+
 -- what is told of a page, or of one that is too long
 abbrev pub shown_of : Result HistoryReadResult PageFault → Option HistoryReadResult
 shown_of (Ok x) = Some x
 shown_of (Err (page.Step setback)) = Some (refused_read (step_error_status setback))
 shown_of (Err page.TooLong) = None
+
+pub unread_told : (longest : Option ℕ) (told : Option HistoryReadResult)
+    (r : Result HistoryReadResult PageFault) (fault : PageFault) → r ≡ Err fault
+    → told ≡ shown_of r → TellsOf longest told r
+unread_told longest told (Ok x) fault is shows = absurd cc
+unread_told longest told (Err (page.Step setback)) fault is shows = shows
+unread_told longest told (Err page.TooLong) fault is shows = shows
+
+-- a fault's status isn't good
+fault_bad : (fault : StoreFault) → ((store_fault_status fault).0 == 0) ≡ false
+fault_bad store.OutOfMemory = refl
+fault_bad store.Refused = refl
+fault_bad store.WrongReplica = refl
+fault_bad store.WrongArchive = refl
+fault_bad store.Broken = refl
+
+setback_bad : (why : StepError) → ((step_error_status why).0 == 0) ≡ false
+setback_bad setback.OutOfMemory = refl
+setback_bad (setback.Store fault) = fault_bad fault
+
+-- what isn't good is told, however long it is
+pub refused_told : (longest : Option ℕ) (status : Status) (read : HistoryReadResult)
+    → (status.0 == 0) ≡ false → read ≡ refused_read status → TellsWithin longest (Some read) read
+refused_told None status read bad is = (refl, tt)
+refused_told (Some limit) status read bad is = (
+  refl,
+  λ long. let good : status ≡ GOOD = sym (ap (λ (r : HistoryReadResult). r.status) is) ∙ long.1 in
+      absurd (true≢false (sym (ap (λ (s : Status). s.0 == 0) good) ∙ bad)),
+)
 
 passes : (a b : Store) (r : Result HistoryReadResult PageFault) → AfterCall a b (fault_met r)
     → CountsFaults a b (faults_of (mark_in r ∷ []))
@@ -138,12 +178,13 @@ a_long_one limit right = by (cases_lt limit (read_length right)) (right.status.0
 
 -- a page was read, in one step
 pub found_acts : (a b : Store) (longest : Option ℕ) (r : Result HistoryReadResult PageFault)
-    (f : Content → HistoryReadResult)
+    (f : Content → HistoryReadResult) (result : Option HistoryReadResult)
     → Finds a b longest r (λ x. x ≡ f a.content) (IsReadTooLong (f a.content))
+    → TellsOf longest result r
     → (read : HistoryReadResult)
     × Refines a b (mark_in r ∷ []) (λ R. step (λ mark. (told (f R) mark, R))) read
-    × TellsWithin longest (shown_of r) read
-found_acts a b longest r f p = by r p
+    × TellsWithin longest result read
+found_acts a b longest r f result p tells = by r p tells
   where
     acts : (r : Result HistoryReadResult PageFault)
         → Finds a b longest r (λ x. x ≡ f a.content) (IsReadTooLong (f a.content))
@@ -154,30 +195,45 @@ found_acts a b longest r f p = by r p
         (passes a b r p.leaves) p.stays (there-behind a b (fault_met r) p.leaves)
         (λ honest R h. is R h honest)
 
+    refused : (why : StepError) → result ≡ Some (refused_read (step_error_status why))
+        → TellsWithin longest result (refused_read (step_error_status why))
+    refused why is =
+        subst (λ (o : Option HistoryReadResult). TellsWithin longest o (refused_read (step_error_status why)))
+        (sym is) (refused_told longest (step_error_status why) (refused_read (step_error_status why))
+        (setback_bad why) refl)
+
     by : (r : Result HistoryReadResult PageFault)
         → Finds a b longest r (λ x. x ≡ f a.content) (IsReadTooLong (f a.content))
+        → TellsOf longest result r
         → (read : HistoryReadResult)
         × Refines a b (mark_in r ∷ []) (λ R. step (λ mark. (told (f R) mark, R))) read
-        × TellsWithin longest (shown_of r) read
-    by (Ok x) p = (
+        × TellsWithin longest result read
+    by (Ok x) p tells = (
       x,
       acts (Ok x) p x (λ R h honest.
           p.answer honest ∙ ap f (left-before a b R p.leaves honest h)),
-      refl,
+      tells,
     )
-    by (Err (page.Step setback.OutOfMemory)) p =
-        let told = refused_read (step_error_status setback.OutOfMemory) in
-        (told, acts (Err (page.Step setback.OutOfMemory)) p told (λ R h honest. refl), refl)
-    by (Err (page.Step (setback.Store fault))) p =
-        let told = refused_read (step_error_status (setback.Store fault)) in
-        (told, acts (Err (page.Step (setback.Store fault))) p told (λ R h honest. refl), refl)
-    by (Err page.TooLong) p =
+    by (Err (page.Step setback.OutOfMemory)) p tells =
+        let told = refused_read (step_error_status setback.OutOfMemory) in (
+          told,
+          acts (Err (page.Step setback.OutOfMemory)) p told (λ R h honest. refl),
+          refused setback.OutOfMemory tells,
+        )
+    by (Err (page.Step (setback.Store fault))) p tells =
+        let told = refused_read (step_error_status (setback.Store fault)) in (
+          told,
+          acts (Err (page.Step (setback.Store fault))) p told (λ R h honest. refl),
+          refused (setback.Store fault) tells,
+        )
+    by (Err page.TooLong) p tells =
         let (limit, is, long) = p.too_long refl in
         let (read, more, same) = a_long_one limit (f a.content) in (
           read,
           acts (Err page.TooLong) p read (λ R h honest.
               same (long honest) ∙ ap f (left-before a b R p.leaves honest h)),
-          subst (λ o. TellsWithin o None read) (sym is) more,
+          subst (λ (o : Option HistoryReadResult). TellsWithin longest o read) (sym tells)
+              (subst (λ (o : Option ℕ). TellsWithin o None read) (sym is) more),
         )
 
 module _ (id : List ℕ) (node : NodeId) (query : Query) (continuation : Option (List ℕ)) where
@@ -196,27 +252,29 @@ module _ (id : List ℕ) (node : NodeId) (query : Query) (continuation : Option 
       → Ok behind ≡ checked_read id node query.details continuation
       → Finds a b longest r (λ x. x ≡ page_from a.content id node query behind)
       (IsReadTooLong (page_from a.content id node query behind))
-      → result ≡ shown_of r
+      → TellsOf longest result r
       → (used : List StepResult) × (read : HistoryReadResult)
       × Refines a b used (read_node id node query continuation) read
       × TellsWithin longest result read
-  page_acts a b longest r behind result is found e =
+  page_acts a b longest r behind result is found shown =
       let (read, acts, tells) = found_acts a b longest r
-      (λ R. page_from R id node query behind) found in (
+      (λ R. page_from R id node query behind) result found shown in (
         mark_in r ∷ [],
         read,
         acts-as a b (mark_in r ∷ []) (λ R.
             step (λ mark. (told (page_from R id node query behind) mark, R)))
             (read_node id node query continuation) read
             (λ R marks. ap (λ j. read_from id node query R j marks) is) acts,
-        subst (λ o. TellsWithin longest o read) (sym e) tells,
+        tells,
       )
 
 -- a fault of a broken archive is told
-pub broken_told : (r : Result HistoryReadResult PageFault) → fault_met r ≡ Some Broken
-    → shown_of r ≡ Some (refused_read BAD_RESOURCE_UNAVAILABLE)
-broken_told (Ok x) e = absurd (none-some _ e)
-broken_told (Err page.TooLong) e = absurd (none-some _ e)
-broken_told (Err (page.Step setback.OutOfMemory)) e = absurd (none-some _ e)
-broken_told (Err (page.Step (setback.Store fault))) e = let same : fault ≡ Broken = cc in
-    ap (λ f. Some (refused_read (step_error_status (setback.Store f)))) same
+pub broken_told : (longest : Option ℕ) (r : Result HistoryReadResult PageFault)
+    (result : Option HistoryReadResult) → fault_met r ≡ Some Broken → TellsOf longest result r
+    → result ≡ Some (refused_read BAD_RESOURCE_UNAVAILABLE)
+broken_told longest (Ok x) result e tells = absurd (none-some _ e)
+broken_told longest (Err page.TooLong) result e tells = absurd (none-some _ e)
+broken_told longest (Err (page.Step setback.OutOfMemory)) result e tells = absurd (none-some _ e)
+broken_told longest (Err (page.Step (setback.Store fault))) result e tells =
+    let same : fault ≡ Broken = cc in
+    tells ∙ ap (λ f. Some (refused_read (step_error_status (setback.Store f)))) same

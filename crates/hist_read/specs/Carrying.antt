@@ -1,5 +1,5 @@
 -- How many bytes a read has, and what is told of one that has too many.
-use Rattle.std.specs.Prelude.{◌≡◌, ℕ, ◌+◌, ◌<◌, List, [], ◌∷◌, length, Option, Some, None}
+use Rattle.std.specs.Prelude.{◌≡◌, ℕ, ◌+◌, ◌<◌, List, [], ◌∷◌, length, Option, Some, None, IfSome}
 use Rattle.std.specs.Option.{option_map_or}
 use Rattle.ua_binary.specs.declared.codes.TheConstants.Status.{GOOD}
 use Rattle.ua_variant.specs.Variant.{variant}
@@ -20,7 +20,7 @@ abbrev pub values_length : List DataValue → ℕ
 values_length [] = 0
 values_length (v ∷ vs) = value_length v + values_length vs
 
--- these are more bytes than a limit, where there is one
+-- there is a limit, and these are more bytes
 abbrev pub Exceeds : Option ℕ → ℕ → Type 0
 Exceeds None size = ⊥
 Exceeds (Some longest) size = longest < size
@@ -29,7 +29,8 @@ Exceeds (Some longest) size = longest < size
 abbrev pub IsReadTooLong : HistoryReadResult → (limit : ℕ) → Type 0
 IsReadTooLong read limit = (limit < read_length read) × (read.status ≡ GOOD)
 
--- what was read, or nothing where it has more bytes than the limit
+-- what was read; or nothing, where there is a limit and that is too long for it, and only there
 abbrev pub TellsWithin : Option ℕ → Option HistoryReadResult → HistoryReadResult → Type 0
-TellsWithin longest (Some told) read = told ≡ read
+TellsWithin longest (Some told) read =
+    (told ≡ read) × IfSome longest (λ limit. IsReadTooLong read limit → ⊥)
 TellsWithin longest None read = Exceeds longest (read_length read) × (read.status ≡ GOOD)

@@ -6,7 +6,7 @@ use Rattle.ua_binary.specs.declared.values.NodeId.{NodeId}
 use Rattle.records.specs.Contents.{Content}
 use Rattle.records.specs.declared.shown.Held.{Held}
 use Rattle.hist_read.specs.Asking.{has_both, end_time, direction}
-use Rattle.hist_read.specs.Reads.{is_near_alone, is_past_any, values_inside, body_part, far_value, value_or_missing, open_bound, value_items, last_time, time_before, page_size, page, raw, next_place, raw_position, modified, modified_position, near}
+use Rattle.hist_read.specs.Reads.{is_near_alone, body_part, far_value, value_or_missing, open_bound, value_items, last_time, time_before, page_size, page, raw, next_place, raw_position, modified, modified_position, near}
 use Rattle.ua_services.specs.declared.history.ReadRawModifiedDetails.{ReadRawModifiedDetails as Details}
 use Rattle.hist_read.specs.declared.point.Position.{Position}
 use Rattle.hist_read.specs.declared.item.Item.{Item}
@@ -14,14 +14,9 @@ use Rattle.hist_read.specs.declared.raw.Found.{Found}
 use Rattle.hist_read.specs.declared.raw.RawPage.{RawPage}
 use Rattle.hist_read.specs.declared.modified.ModifiedPage.{ModifiedPage}
 
--- the most rows that an archive is asked for at a time
+-- the most values that an archive is asked for at a time
 abbrev pub portion : ℕ
 portion = 32
-
--- the values inside of the stretch that are beyond a moment, where one is given
-abbrev pub values_beyond : Content → NodeId → Details → Option ℤ → List Held
-values_beyond R node q limit =
-    filter (λ h. is_past_any (direction q) limit h.time) (values_inside R node q)
 
 -- how many values are asked for: one more than the page has
 abbrev pub body_limit : Details → Option Position → ℕ

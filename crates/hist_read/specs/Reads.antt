@@ -122,11 +122,14 @@ limit_at q given =
 abbrev pub is_past_any : Direction → Option ℤ → ℤ → Bool
 is_past_any d limit time = option_map_or (λ l. is_past d l time) limit true
 
+-- the values inside of the stretch that are beyond a moment, where one is given
+abbrev pub values_beyond : Content → NodeId → Details → Option ℤ → List Held
+values_beyond R node q limit =
+    filter (λ h. is_past_any (direction q) limit h.time) (values_inside R node q)
+
 -- the values of the body that are still to come
 abbrev pub body_part : Content → NodeId → Details → Option Position → List Held
-body_part R node q p =
-    if is_near_alone q then []
-    else filter (λ h. is_past_any (direction q) (limit_at q p) h.time) (values_inside R node q)
+body_part R node q p = if is_near_alone q then [] else values_beyond R node q (limit_at q p)
 
 -- values as items of a read
 abbrev pub value_items : List Held → List Item
@@ -157,11 +160,15 @@ abbrev pub place_at : Option Position → Option LogPlace
 place_at place =
     option_and_then (λ p. option_map (λ s. record { time = p.time; stamp = s }) p.stamp) place
 
--- the modifications of the body's times that follow a place, or all of them
-abbrev pub modified : Content → NodeId → Details → Option Position → List Entry
-modified R node q p =
-    filter (follows (direction q) (place_at p))
+-- the modifications of the body's times that stand behind a place in the log, where one is given
+abbrev pub entries_behind : Content → NodeId → Details → Option LogPlace → List Entry
+entries_behind R node q after =
+    filter (follows (direction q) after)
     (filter (λ e. in_body q e.time) (in_direction (direction q) (log R node)))
+
+-- the modifications that are still to come
+abbrev pub modified : Content → NodeId → Details → Option Position → List Entry
+modified R node q p = entries_behind R node q (place_at p)
 
 -- ---- pages
 

@@ -1,6 +1,6 @@
 //! Pages of modifications.
 
-ghost use Rattle.std.specs.Prelude.{◌≡◌, ◌+◌, ◌<◌, ◌||◌, IsTrue, IfOk, true, false, min, map, take, length, Option};
+ghost use Rattle.std.specs.Prelude.{◌≡◌, ◌+◌, ◌<◌, ◌||◌, IsTrue, IfOk, true, false, map, take, length, Option};
 ghost use Rattle.ua_binary.specs.Format.{saturated};
 ghost use Rattle.stamp.specs.Numbers.{number_of};
 ghost use Rattle.records.specs.Contents.{cut};
@@ -8,10 +8,10 @@ ghost use Rattle.archive.specs.Reading.{place_of};
 ghost use Rattle.archive.specs.Store.{IsAskedWithin};
 ghost use Rattle.archive.specs.declared.reading.LogPlace.{LogPlace};
 ghost use Rattle.hist_read.specs.Asking.{is_given};
-ghost use Rattle.hist_read.specs.Reads.{page, page_size, is_spent, next_place, place_at, modified, modified_position};
-ghost use Rattle.hist_read.specs.Pages.{portion, IsModifiedPage};
+ghost use Rattle.hist_read.specs.Reads.{page, page_size, is_spent, next_place, place_at, entries_behind, modified, modified_position};
+ghost use Rattle.hist_read.specs.Pages.{IsModifiedPage};
 ghost use Rattle.hist_read.specs.Carrying.{value_length, values_length};
-ghost use Rattle.hist_read.specs.Gathering.{value_in, entries_behind, AreGathered, EntriesGatherOn, AreTooLong, AreModifiedTooLong};
+ghost use Rattle.hist_read.specs.Gathering.{value_in, AreGathered, EntriesGatherOn, AreTooLong, AreModifiedTooLong};
 ghost use Rattle.hist_read.specs.Finding.{Finds};
 
 use crate::asked::{body, direction, given_after, goes_on, page_size};
@@ -57,14 +57,11 @@ fn modified_position(
     requires { is_spent details.now position.now ≡ false }
     ensures { result ≡ modified_position details.now position.now entry.now }
 {
-    let stamp = Stamp {
-        tick: entry.tick,
-        origin: entry.origin,
-    };
+    let place = place_of(entry);
     Position {
         phase: Phase::Body,
-        time: entry.time,
-        stamp: Some(stamp),
+        time: place.time,
+        stamp: Some(place.stamp),
         given: given_after(details, position),
     }
 }
@@ -100,11 +97,13 @@ fn page(
 struct GatheredEntries {
     entries: Vec<Entry>,
     /// How many are wanted.
-    most: usize,
+    wanted: usize,
     /// How many bytes their values have, or 2^64 - 1 where there are more.
     size: usize,
     /// The place that the others stand behind.
-    end: Option<LogPlace>,
+    reached: Option<LogPlace>,
+    /// How many are asked for next.
+    portion: usize,
 }
 
 /// How many bytes the value of a modification has, without its status and times, or 2^64 - 1 where there are more.
@@ -141,8 +140,27 @@ fn place_of(entry: &Entry) -> LogPlace
     }
 }
 
-/// Gathers the next modifications, and tells whether more are wanted. `TooLong` where the page shows each of those that were
-/// gathered, and their values are more than may be carried.
+/// How many modifications are asked for behind these. Each question reads the whole of the moment where it begins: so where
+/// these are all of one moment, twice as many as they were asked for, and else as many as at first.
+fn portion_behind(found: &[Entry], portion: usize) -> usize
+    requires { 0 < portion }
+    ensures { 0 < result }
+{
+    let Some(first) = found.first() else {
+        return PORTION;
+    };
+    let Some(last) = found.last() else {
+        return PORTION;
+    };
+    if first.time == last.time {
+        portion.saturating_mul(2)
+    } else {
+        PORTION
+    }
+}
+
+/// Gathers the next modifications, and tells whether more are wanted. `TooLong` where all that were gathered have values of
+/// more bytes than may be carried, and the page shows each of them: they are fewer than are wanted.
 fn gather<A: Archive>(
     archive: &mut A,
     node: &NodeId,
@@ -153,6 +171,7 @@ fn gather<A: Archive>(
     requires given { IsTrue (is_given details.now.start_time.0 || is_given details.now.end_time.0) }
     requires size { gathered.old.size
         ≡ saturated (values_length (map value_in gathered.old.entries.items)) }
+    requires portion { 0 < gathered.old.portion }
     ensures finds { (start : Option LogPlace)
         → Finds (A.state archive.old) (A.state archive.new) scope.now.longest result
         (λ more.
@@ -163,48 +182,52 @@ fn gather<A: Archive>(
         (λ limit.
         AreGathered (cut (A.state archive.old).content (number_of scope.now.within)) node.now
         details.now start gathered.old
-        → AreTooLong value_in gathered.old.most
+        → AreTooLong value_in gathered.old.wanted
         (entries_behind (cut (A.state archive.old).content (number_of scope.now.within)) node.now
         details.now start) limit) }
-    ensures asked { IsAskedWithin (min portion gathered.old.most) (A.asked archive.old)
+    ensures asked { IsAskedWithin gathered.old.wanted (A.asked archive.old)
         (A.asked archive.new) }
     ensures size { IfOk result
         (λ _. gathered.new.size
         ≡ saturated (values_length (map value_in gathered.new.entries.items))) }
-    ensures most { gathered.new.most ≡ gathered.old.most }
+    ensures portion { IfOk result (λ _. 0 < gathered.new.portion) }
+    ensures wanted { gathered.new.wanted ≡ gathered.old.wanted }
     ensures grows { IfOk result
         (λ more.
         more ≡ true → (length gathered.old.entries.items < length gathered.new.entries.items)
-        × (length gathered.new.entries.items < gathered.new.most)) }
+        × (length gathered.new.entries.items < gathered.new.wanted)) }
 {
     let span = body(details);
-    let limit = PORTION.min(gathered.most.saturating_sub(gathered.entries.len()));
+    let limit = gathered
+        .portion
+        .min(gathered.wanted.saturating_sub(gathered.entries.len()));
     let onward = direction(details);
     let mut next = archive.log(
         scope.alloc,
         node,
         span.from,
         span.to,
-        gathered.end,
+        gathered.reached,
         onward,
         limit,
         &scope.within,
     )?;
     let is_full = limit <= next.len();
     if let Some(last) = next.last() {
-        gathered.end = Some(place_of(last));
+        gathered.reached = Some(place_of(last));
     }
     gathered.size = gathered.size.saturating_add(size_of(&next));
+    gathered.portion = portion_behind(&next, gathered.portion);
     gathered.entries.append(&mut next)?;
     let count = gathered.entries.len();
-    if count < gathered.most && scope.is_exceeded(gathered.size) {
+    if count < gathered.wanted && scope.is_exceeded(gathered.size) {
         return Err(PageFault::TooLong);
     }
-    Ok(is_full && count < gathered.most)
+    Ok(is_full && count < gathered.wanted)
 }
 
 /// The modifications that follow a place, one more than the page has at most. They are asked for a few at a time, and no longer
-/// than what was found may be carried.
+/// than what was found may be carried: 32, and twice as many as before where all that one question gave are of one moment.
 fn find_entries<A: Archive>(
     archive: &mut A,
     node: &NodeId,
@@ -222,14 +245,15 @@ fn find_entries<A: Archive>(
         (AreModifiedTooLong
         (cut (A.state archive.old).content (number_of scope.now.within)) node.now details.now
         position.now) }
-    ensures asked { IsAskedWithin (min portion (page_size details.now position.now + 1))
-        (A.asked archive.old) (A.asked archive.new) }
+    ensures asked { IsAskedWithin (page_size details.now position.now + 1) (A.asked archive.old)
+        (A.asked archive.new) }
 {
     let mut gathered = GatheredEntries {
         entries: Vec::new(scope.alloc),
-        most: page_size(details, position) + 1,
+        wanted: page_size(details, position) + 1,
         size: 0,
-        end: place_at(position),
+        reached: place_at(position),
+        portion: PORTION,
     };
     let mut more = gather(archive, node, details, scope, &mut gathered)?;
     while more {
@@ -254,8 +278,8 @@ pub(crate) fn read_modified<A: Archive>(
         (AreModifiedTooLong
         (cut (A.state archive.old).content (number_of scope.now.within)) node.now details.now
         position.now) }
-    ensures asked { IsAskedWithin (min portion (page_size details.now position.now + 1))
-        (A.asked archive.old) (A.asked archive.new) }
+    ensures asked { IsAskedWithin (page_size details.now position.now + 1) (A.asked archive.old)
+        (A.asked archive.new) }
 {
     let entries = find_entries(archive, node, details, position, scope)?;
     Ok(page(entries, details, position))

@@ -1,6 +1,6 @@
 //! Reads of a node's history.
 
-ghost use Rattle.std.specs.Prelude.{◌≡◌, ◌↔◌, ◌<◌, ◌+◌, ◌^◌, nat_le, length, map, min, All, IsTrue, ◌||◌, ◌≤ℤ◌, List, IfOk, IfErr, IfSome, Option, option_map, Some, Ok, Err, true, false};
+ghost use Rattle.std.specs.Prelude.{◌≡◌, ◌==◌, ◌↔◌, ◌<◌, ◌≤◌, ◌+◌, ◌^◌, nat_le, length, map, min, All, IsTrue, ◌||◌, ◌≤ℤ◌, List, IfOk, IfErr, IfSome, Option, option_map, Some, Ok, Err, true, false};
 ghost use Rattle.std.specs.Option.{option_copied};
 ghost use Rattle.stamp.specs.Numbers.{number_of, IsVector};
 ghost use Rattle.ua_binary.specs.Binary.{node_of, IsNodeId, IsShortNode, IsCounted};
@@ -10,7 +10,7 @@ ghost use Rattle.ua_variant.specs.DataValue.{IsShortData};
 ghost use Rattle.ua_services.specs.Attributes.{AreShortValues};
 ghost use Rattle.ua_services.specs.Unkept.{many};
 ghost use Rattle.hist_read.specs.Short.{IsWritable, AreWritable, IsWritableHistory};
-ghost use Rattle.ua_services.specs.History.{info_fields, modification_info, IsShortInfo, IsShortHistory, IsShortHistoryRead};
+ghost use Rattle.ua_services.specs.History.{history_data, history_of, history_bytes, info_fields, modification_info, IsShortInfo, IsShortHistory, IsShortHistoryRead};
 ghost use Rattle.records.specs.Contents.{numbers_of, cut};
 ghost use Rattle.archive.specs.Store.{StepResult, Asks, IsAskedWithin};
 ghost use Rattle.archive.specs.Steps.{Refines};
@@ -20,7 +20,7 @@ ghost use Rattle.hist_read.specs.Reads.{page_size, most_items};
 ghost use Rattle.hist_read.specs.Node.{is_enough, IsOfRead, resume_place, checked_read, refused_read, status_for, point_at, page_result, page_from, read_node};
 ghost use Rattle.ua_services.specs.declared.history.HistoryReadResult.{HistoryReadResult as Told};
 ghost use Rattle.hist_read.specs.Pages.{portion};
-ghost use Rattle.hist_read.specs.Carrying.{IsReadTooLong, TellsWithin};
+ghost use Rattle.hist_read.specs.Carrying.{read_length, IsReadTooLong, TellsWithin};
 ghost use Rattle.hist_read.specs.Finding.{Finds};
 
 use crate::fault::PageFault;
@@ -33,7 +33,7 @@ use crate::showing::{show_entries, show_items};
 use archive::{Archive, StoreFault};
 use stamp::Vector;
 use std::alloc::{AllocError, Global};
-use ua_binary::{Bytes, Listing, NodeId, NodeIdRef, Status, array_size};
+use ua_binary::{Bytes, Encode, Listing, NodeId, NodeIdRef, Status, array_size};
 use ua_services::{HistoryData, HistoryReadResult, ModificationInfo, ReadRawModifiedDetails};
 use ua_variant::DataValue;
 use uuid::Uuid;
@@ -117,6 +117,7 @@ fn place_in(
     ensures told { result
         ≡ resume_place id node.now details.now (option_copied continuation.entry) }
     ensures late { IfOk result (λ o. IfSome o (λ p. first_time ≤ℤ p.0.time)) }
+    ensures bad { IfErr result (λ code. (code.0 == 0) ≡ false) }
 {
     let Some(bytes) = continuation else {
         return Ok(None);
@@ -142,6 +143,7 @@ fn judge(
     ensures given { IfOk result
         (λ _. IsTrue (is_given details.now.start_time.0 || is_given details.now.end_time.0)) }
     ensures late { IfOk result (λ o. IfSome o (λ p. first_time ≤ℤ p.0.time)) }
+    ensures bad { IfErr result (λ code. (code.0 == 0) ≡ false) }
 {
     if details.is_read_modified && details.return_bounds {
         return Err(Status::BAD_INVALID_ARGUMENT);
@@ -266,7 +268,7 @@ fn modified_result<A: Archive>(
         (IsReadTooLong
         (page_result (cut (A.state archive.old).content (number_of scope.now.within))
         scope.now.within (A.state archive.old).id node.now query.now position.now)) }
-    ensures asked { IsAskedWithin (min portion (page_size query.now.details position.now + 1))
+    ensures asked { IsAskedWithin (page_size query.now.details position.now + 1)
         (A.asked archive.old) (A.asked archive.new) }
 {
     let id = archive.id();
@@ -300,7 +302,7 @@ fn page_result<A: Archive>(
         (IsReadTooLong
         (page_result (cut (A.state archive.old).content (number_of scope.now.within))
         scope.now.within (A.state archive.old).id node.now query.now position.now)) }
-    ensures asked { IsAskedWithin (min portion (page_size query.now.details position.now + 1))
+    ensures asked { IsAskedWithin (page_size query.now.details position.now + 1)
         (A.asked archive.old) (A.asked archive.new) }
 {
     if query.details.is_read_modified {
@@ -352,7 +354,7 @@ fn page_from<A: Archive>(
         (page_from (A.state archive.old).content
         (A.state archive.old).id node.now query.now behind.now)) }
     ensures asked { IsAskedWithin
-        (min portion (page_size query.now.details (option_map (λ b. b.0) behind.now) + 1))
+        (page_size query.now.details (option_map (λ b. b.0) behind.now) + 1)
         (A.asked archive.old) (A.asked archive.new) }
 {
     let own = own_vector(archive)?;
@@ -446,7 +448,7 @@ fn short_page<A: Archive>(
         (page_from (A.state archive.old).content
         (A.state archive.old).id node.now query.now behind.now)) }
     ensures asked { IsAskedWithin
-        (min portion (page_size query.now.details (option_map (λ b. b.0) behind.now) + 1))
+        (page_size query.now.details (option_map (λ b. b.0) behind.now) + 1)
         (A.asked archive.old) (A.asked archive.new) }
     ensures short { IfOk result IsShortHistoryRead }
 {
@@ -455,6 +457,55 @@ fn short_page<A: Archive>(
         Ok(read)
     } else {
         Ok(refused(Status::BAD_RESOURCE_UNAVAILABLE))
+    }
+}
+
+/// How many bytes what was read has in a response before its body: the id of its type, its kind, and where there is a body the
+/// count of its bytes (Part 6, 5.2.2.15).
+fn head_size(read: &HistoryData) -> usize
+    ensures value { length (history_data.canon (history_of read.now))
+        ≡ result + length (history_bytes (history_of read.now)) }
+    ensures small { result ≤ 9 }
+{
+    match read {
+        HistoryData::Nothing => 3,
+        HistoryData::Raw(_) => 9,
+        HistoryData::Modified(_, _) => 9,
+    }
+}
+
+/// How many bytes a result that can be written has in a response.
+fn read_size(read: &HistoryReadResult) -> usize
+    requires { IsShortHistoryRead read.now }
+    ensures { result ≡ read_length read.now }
+{
+    let front = read.continuation_point.size().saturating_add(4);
+    let head = front.saturating_add(head_size(&read.history_data));
+    head.saturating_add(read.history_data.body_size())
+}
+
+/// Whether a result shows something, and has more bytes in a response than the limit.
+fn is_too_long(read: &HistoryReadResult, limit: usize) -> bool
+    requires { IsShortHistoryRead read.now }
+    ensures { IsTrue result ↔ IsReadTooLong read.now limit }
+{
+    limit < read_size(read) && read.status == Status::GOOD
+}
+
+/// What is told of a result that was read: nothing where it shows something, and has more bytes in a response than the limit
+/// that there is.
+fn told_within(longest: Option<usize>, read: HistoryReadResult) -> Option<HistoryReadResult>
+    requires { IsShortHistoryRead read }
+    ensures told { TellsWithin longest result read }
+    ensures short { IfSome result IsShortHistoryRead }
+{
+    let Some(limit) = longest else {
+        return Some(read);
+    };
+    if is_too_long(&read, limit) {
+        None
+    } else {
+        Some(read)
     }
 }
 
@@ -470,11 +521,14 @@ fn short_page<A: Archive>(
 /// `BAD_OUT_OF_MEMORY`, as is want of memory here, or by `BAD_RESOURCE_UNAVAILABLE`. A bad status has neither
 /// items nor a point, and no call changes the content. Of a broken archive each read that isn't refused
 /// before is `BAD_RESOURCE_UNAVAILABLE`. An empty page is `GOOD_NO_DATA`. Each result can be written. A page
-/// has at most 1,000 items, or as many as are asked for, and one row more at most is looked at.
+/// has at most 1,000 items, or as many as are asked for. Of the archive one row more than these is asked for at most, and where
+/// bounds are asked for, the nearest value at each end.
 /// The node's id has less than 2^31 bytes.
 ///
-/// Of a result that has more than `longest` bytes in a response (Part 4, 5.11.3), where that is given, `None` may be told: the
-/// archive is asked for 32 rows at a time, and no more once the values that a page shows are more bytes than these.
+/// Of a page that has more than `longest` bytes in a response (Part 4, 5.11.3), where that is given, `None` is told, and the
+/// archive isn't asked again once the values that such a page shows are more bytes than these. It is asked for 32 rows at a time,
+/// and for twice as many modifications as before where all that it gave are of one moment, since each question reads the whole
+/// of the moment where it begins.
 #[tactic(auto, using(crate::proofs::Sizes::page_most))]
 pub fn read_node_within<A: Archive>(
     alloc: Global,
@@ -500,13 +554,13 @@ pub fn read_node_within<A: Archive>(
         (option_copied continuation.entry))
         (λ _. result ≡ Some (refused_read BAD_RESOURCE_UNAVAILABLE)) }
     ensures short { IfSome result IsShortHistoryRead }
-    ensures asked { IsAskedWithin (min portion (most_items query.now.details + 1))
-        (A.asked archive.old) (A.asked archive.new) }
+    ensures asked { IsAskedWithin (most_items query.now.details + 1) (A.asked archive.old)
+        (A.asked archive.new) }
     ensures page { IfOk
         (checked_read (A.state archive.old).id node.now query.now.details
         (option_copied continuation.entry))
         (λ behind.
-        IsAskedWithin (min portion (page_size query.now.details (option_map (λ b. b.0) behind) + 1))
+        IsAskedWithin (page_size query.now.details (option_map (λ b. b.0) behind) + 1)
         (A.asked archive.old) (A.asked archive.new)) }
 {
     let id = archive.id();
@@ -515,7 +569,7 @@ pub fn read_node_within<A: Archive>(
         Err(status) => return Some(refused(status)),
     };
     match short_page(alloc, archive, node, query, &behind, longest) {
-        Ok(result) => Some(result),
+        Ok(read) => told_within(longest, read),
         Err(PageFault::Step(setback)) => Some(refused(setback.status())),
         Err(PageFault::TooLong) => None,
     }
@@ -543,13 +597,13 @@ pub fn read_node<A: Archive>(
         (checked_read (A.state archive.old).id node.now query.now.details
         (option_copied continuation.entry)) (λ _. result ≡ refused_read BAD_RESOURCE_UNAVAILABLE) }
     ensures short { IsShortHistoryRead result }
-    ensures asked { IsAskedWithin (min portion (most_items query.now.details + 1))
-        (A.asked archive.old) (A.asked archive.new) }
+    ensures asked { IsAskedWithin (most_items query.now.details + 1) (A.asked archive.old)
+        (A.asked archive.new) }
     ensures page { IfOk
         (checked_read (A.state archive.old).id node.now query.now.details
         (option_copied continuation.entry))
         (λ behind.
-        IsAskedWithin (min portion (page_size query.now.details (option_map (λ b. b.0) behind) + 1))
+        IsAskedWithin (page_size query.now.details (option_map (λ b. b.0) behind) + 1)
         (A.asked archive.old) (A.asked archive.new)) }
 {
     match read_node_within(alloc, archive, node, query, continuation, None) {

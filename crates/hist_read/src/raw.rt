@@ -7,8 +7,8 @@ ghost use Rattle.stamp.specs.Numbers.{number_of};
 ghost use Rattle.records.specs.Contents.{cut};
 ghost use Rattle.archive.specs.Store.{IsAskedWithin};
 ghost use Rattle.hist_read.specs.Asking.{is_given, first_time};
-ghost use Rattle.hist_read.specs.Reads.{is_near_alone, body_part, value_items, last_time, time_before, open_bound, page_size, page, is_spent, next_place, raw_position};
-ghost use Rattle.hist_read.specs.Pages.{portion, values_beyond, IsFound, IsFoundBehind, body_limit, has_far, far_item, far_of, row_of, IsRawPage};
+ghost use Rattle.hist_read.specs.Reads.{is_near_alone, values_beyond, body_part, value_items, last_time, time_before, open_bound, page_size, page, is_spent, next_place, raw_position};
+ghost use Rattle.hist_read.specs.Pages.{portion, IsFound, IsFoundBehind, body_limit, has_far, far_item, far_of, row_of, IsRawPage};
 ghost use Rattle.hist_read.specs.Carrying.{values_length};
 ghost use Rattle.hist_read.specs.Gathering.{IsGathered, GathersOn, AreTooLong, IsBodyTooLong};
 ghost use Rattle.hist_read.specs.Finding.{Finds};
@@ -68,11 +68,11 @@ fn body_limit(details: &ReadRawModifiedDetails, position: &Option<Position>) -> 
 struct Gathered {
     values: Vec<Held>,
     /// How many are wanted.
-    most: usize,
+    wanted: usize,
     /// How many bytes the values have, or 2^64 - 1 where there are more.
     size: usize,
-    /// Where they end: the moment that the others are beyond.
-    end: Option<Moment>,
+    /// The moment that the others are beyond.
+    reached: Option<Moment>,
 }
 
 /// How many bytes values have, without their status and times, or 2^64 - 1 where there are more.
@@ -86,8 +86,8 @@ fn size_of(values: &[Held]) -> usize
     size
 }
 
-/// Gathers the next values, and tells whether more are wanted. `TooLong` where the page shows each value that was gathered,
-/// and these are more than may be carried.
+/// Gathers the next values, and tells whether more are wanted. `TooLong` where all that were gathered have more bytes than may
+/// be carried, and the page shows each of them, also behind a bound: they are fewer than are wanted by two.
 fn gather<A: Archive>(
     archive: &mut A,
     node: &NodeId,
@@ -108,22 +108,22 @@ fn gather<A: Archive>(
         (λ limit.
         IsGathered (cut (A.state archive.old).content (number_of scope.now.within)) node.now
         details.now start gathered.old
-        → AreTooLong (λ h. h.value) (gathered.old.most - 1)
+        → AreTooLong (λ h. h.value) (gathered.old.wanted - 1)
         (values_beyond (cut (A.state archive.old).content (number_of scope.now.within)) node.now
         details.now start) limit) }
-    ensures asked { IsAskedWithin (min portion gathered.old.most) (A.asked archive.old)
+    ensures asked { IsAskedWithin (min portion gathered.old.wanted) (A.asked archive.old)
         (A.asked archive.new) }
     ensures size { IfOk result
         (λ _. gathered.new.size
         ≡ saturated (values_length (map (λ h. h.value) gathered.new.values.items))) }
-    ensures most { gathered.new.most ≡ gathered.old.most }
+    ensures wanted { gathered.new.wanted ≡ gathered.old.wanted }
     ensures grows { IfOk result
         (λ more.
         more ≡ true → (length gathered.old.values.items < length gathered.new.values.items)
-        × (length gathered.new.values.items < gathered.new.most)) }
+        × (length gathered.new.values.items < gathered.new.wanted)) }
 {
-    let span = span_beyond(details, gathered.end);
-    let limit = PORTION.min(gathered.most.saturating_sub(gathered.values.len()));
+    let span = span_beyond(details, gathered.reached);
+    let limit = PORTION.min(gathered.wanted.saturating_sub(gathered.values.len()));
     let onward = direction(details);
     let mut next = archive.range(
         scope.alloc,
@@ -136,18 +136,18 @@ fn gather<A: Archive>(
     )?;
     let is_full = limit <= next.len();
     if let Some(last) = next.last() {
-        gathered.end = Some(last.time);
+        gathered.reached = Some(last.time);
     }
     gathered.size = gathered.size.saturating_add(size_of(&next));
     gathered.values.append(&mut next)?;
     let count = gathered.values.len();
-    if count + 1 < gathered.most && scope.is_exceeded(gathered.size) {
+    if count + 1 < gathered.wanted && scope.is_exceeded(gathered.size) {
         return Err(PageFault::TooLong);
     }
-    Ok(is_full && count < gathered.most)
+    Ok(is_full && count < gathered.wanted)
 }
 
-/// The values behind the near bound, one more than the page has at most. They are asked for a few at a time, and no longer than
+/// The values behind the near bound, one more than the page has at most. They are asked for 32 at a time, and no longer than
 /// what was found may be carried.
 fn find_body<A: Archive>(
     archive: &mut A,
@@ -172,9 +172,9 @@ fn find_body<A: Archive>(
 {
     let mut gathered = Gathered {
         values: Vec::new(scope.alloc),
-        most: body_limit(details, position),
+        wanted: body_limit(details, position),
         size: 0,
-        end: limit_at(details, position),
+        reached: limit_at(details, position),
     };
     let mut more = gather(archive, node, details, scope, &mut gathered)?;
     while more {

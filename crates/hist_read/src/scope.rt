@@ -9,7 +9,7 @@ use std::alloc::Global;
 use ua_variant::DataValue;
 
 /// What a page is read from, and how much of it may be carried.
-#[derive(Clone, Copy)]
+#[derive(Drop)]
 pub(crate) struct Scope {
     pub(crate) alloc: Global,
     /// Of what this vector covers.
@@ -18,7 +18,7 @@ pub(crate) struct Scope {
     pub(crate) longest: Option<usize>,
 }
 
-/// The most rows that the archive is asked for at a time.
+/// The most values that the archive is asked for at a time, and how many modifications it is asked for at first.
 pub(crate) const PORTION: usize = 32;
 
 impl Scope {

@@ -4,8 +4,8 @@ use Rattle.std.proofs.lemmas.Result.{err_from_is_err_and}
 use Rattle.stamp.specs.Numbers.{number_of}
 use Rattle.records.specs.Contents.{Content, cut}
 use Rattle.records.specs.declared.shown.Entry.{Entry}
-use Rattle.hist_read.specs.Reads.{place_at, modified, page_size}
-use Rattle.hist_read.specs.Gathering.{value_in, entries_behind, AreGathered, EntriesGatherOn, AreTooLong, AreModifiedTooLong}
+use Rattle.hist_read.specs.Reads.{place_at, entries_behind, modified, page_size}
+use Rattle.hist_read.specs.Gathering.{value_in, AreGathered, EntriesGatherOn, AreTooLong, AreModifiedTooLong}
 use Rattle.hist_read.specs.declared.fault.PageFault.{PageFault}
 use Rattle.hist_read.specs.Finding.{Finds}
 use Rattle.hist_read.proofs.Askings.{page_passed, page_made, page_so, page_behind}
@@ -24,9 +24,10 @@ returns-in_err-more-clause-finds g c =
     let longest = c.args.scope.now.longest in
     let none = entries_none R node q start (record {
       entries = c.new.result;
-      most = c.page_size.result + 1;
+      wanted = c.page_size.result + 1;
       size = 0;
-      end = c.place_at.result;
+      reached = c.place_at.result;
+      portion = 32;
     }) c.new.ensures.items c.place_at.ensures in
     let e = err_from_is_err_and c.from_residual.result c.from_residual.ensures.1 in
     let IsAnswer : Vec Entry _ → Type 0 = λ v. v.items ≡ take (page_size q p + 1) (modified R node q p) in
@@ -47,11 +48,12 @@ loop-more-init g c =
     let start = place_at p in
     let none = entries_none R node q start (record {
       entries = c.new.result;
-      most = c.page_size.result + 1;
+      wanted = c.page_size.result + 1;
       size = 0;
-      end = c.place_at.result;
+      reached = c.place_at.result;
+      portion = 32;
     }) c.new.ensures.items c.place_at.ensures in
-    let most = c.in_ok-more.ensures.most in
+    let most = c.in_ok-more.ensures.wanted in
     record {
       finds = page_so a b c.args.scope.now.longest (Ok c.in_ok-more.more) _ _ _ _
           (c.in_ok-more.ensures.finds start) (λ x lawful on. on none)
@@ -59,7 +61,8 @@ loop-more-init g c =
           (sym most) (long none));
       asked = omega (arith, c.in_ok-more.ensures.asked, most);
       size = c.in_ok-more.ensures.size;
-      most = most ∙ ap (λ n. n + 1) c.page_size.ensures.value;
+      portion = c.in_ok-more.ensures.portion;
+      wanted = most ∙ ap (λ n. n + 1) c.page_size.ensures.value;
     }
 
 pub returns-in_err-more-2-clause-finds : goal.returns-in_err-more-2-clause-finds
@@ -81,7 +84,7 @@ returns-in_err-more-2-clause-finds g c =
     let IsAnswer : Vec Entry _ → Type 0 = λ v. v.items ≡ take (page_size q p + 1) (modified R node q p) in
     let P : Content → Type 0 = λ C. AreGathered (cut C v) node q start old in
     let L : Content → ℕ → Type 0 = λ C limit.
-    AreTooLong value_in (old.most) (entries_behind (cut C v) node q start) limit in
+    AreTooLong value_in (old.wanted) (entries_behind (cut C v) node q start) limit in
     let Any : Bool → Type 0 = λ more. Unit {0} in
     let failed : Finds {X = Bool} a d longest (Err c.in_err-more-2.field-0.0) Any (L a.content) =
     page_behind a b d inv.finds.leaves inv.finds.stays longest (Err c.in_err-more-2.field-0.0) _
@@ -92,11 +95,11 @@ returns-in_err-more-2-clause-finds g c =
     (sym (e.1 ∙ ap Err e.2))
     (page_passed a d longest c.in_err-more-2.field-0.0 Any IsAnswer (L a.content) (AreModifiedTooLong R node q p)
     failed (λ limit lawful long. subst (λ n. AreTooLong value_in n (modified R node q p) limit)
-    inv.most long))
+    inv.wanted long))
 
 pub loop-more-smaller : goal.loop-more-smaller
 loop-more-smaller g c = fewer c.loop-more.more c.in_ok-more-2.more _ _ _ _ c.loop-more-test.true
-    c.in_ok-more-2.ensures.most c.in_ok-more-2.ensures.grows
+    c.in_ok-more-2.ensures.wanted c.in_ok-more-2.ensures.grows
 
 pub loop-more-preserved : goal.loop-more-preserved
 loop-more-preserved g c =
@@ -112,22 +115,23 @@ loop-more-preserved g c =
     let old = c.loop-more.gathered in
     let new = c.gather-in-loop-more.new.gathered in
     let inv = c.loop-more.invariant in
-    let most = c.in_ok-more-2.ensures.most in
+    let most = c.in_ok-more-2.ensures.wanted in
     let P : Content → Type 0 = λ C. AreGathered (cut C v) node q start old in
     let Q : Content → Bool → Type 0 = λ C more. EntriesGatherOn (cut C v) node q start more new in
     let L : Content → ℕ → ℕ → Type 0 = λ C n limit.
     AreTooLong value_in (n) (entries_behind (cut C v) node q start) limit in
     record {
       finds = page_behind a b d inv.finds.leaves inv.finds.stays longest (Ok c.in_ok-more-2.more) _
-          (Q a.content) _ (L a.content new.most) (c.in_ok-more-2.ensures.finds start)
+          (Q a.content) _ (L a.content new.wanted) (c.in_ok-more-2.ensures.finds start)
           (λ lawful h same y on. subst (λ C. Q C y) same
           (on (subst P (sym same) (inv.finds.answer h).0)))
-          (λ lawful h same limit long. subst (λ C. L C new.most limit) same
+          (λ lawful h same limit long. subst (λ C. L C new.wanted limit) same
           (subst (λ n. L b.content n limit) (sym most)
           (long (subst P (sym same) (inv.finds.answer h).0))));
       asked = omega (arith, c.in_ok-more-2.ensures.asked, inv.asked, most);
       size = c.in_ok-more-2.ensures.size;
-      most = most ∙ inv.most;
+      portion = c.in_ok-more-2.ensures.portion;
+      wanted = most ∙ inv.wanted;
     }
 
 pub returns-clause-finds : goal.returns-clause-finds
@@ -140,4 +144,4 @@ returns-clause-finds g c =
     let inv = c.loop-more.invariant in
     page_made a _ c.args.scope.now.longest c.loop-more.more c.loop-more.gathered.entries _ _ _ _
     inv.finds (λ lawful on. on.1 c.loop-more-test.false
-    ∙ ap (λ n. take n (modified R node q p)) inv.most)
+    ∙ ap (λ n. take n (modified R node q p)) inv.wanted)

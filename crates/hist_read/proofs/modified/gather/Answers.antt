@@ -8,7 +8,8 @@ use Rattle.records.specs.Contents.{cut}
 use Rattle.records.specs.declared.shown.Entry.{Entry}
 use Rattle.archive.specs.Reading.{log_of}
 use Rattle.hist_read.specs.Carrying.{values_length}
-use Rattle.hist_read.specs.Gathering.{value_in, entries_behind}
+use Rattle.hist_read.specs.Reads.{entries_behind}
+use Rattle.hist_read.specs.Gathering.{value_in}
 use Rattle.hist_read.proofs.Askings.{page_as, page_long}
 use Rattle.hist_read.proofs.Cutting.{lawful_cut}
 use Rattle.hist_read.proofs.Gathering.{size_append, too_long, place_behind, entries_gather_on}
@@ -27,27 +28,27 @@ returns-then-is_exceeded-clause-finds g c start =
     let all = c.append.new.self.items in
     let told : last next ≡ option_copied c.last.result =
     ap last (sym c.deref.ensures.value) ∙ sym c.last.ensures.value in
-    let same : (new.entries.items ≡ old.entries.items) × (new.most ≡ old.most) × (new.size ≡ old.size)
-    × (new.end ≡ place_behind (last next) old.end) =
+    let same : (new.entries.items ≡ old.entries.items) × (new.wanted ≡ old.wanted) × (new.size ≡ old.size)
+    × (new.reached ≡ place_behind (last next) old.reached) =
     elim c.match-last.branch [
       | in-Some w ↦ (
         ap (λ x. x.entries.items) w.gathered-is,
-        ap (λ x. x.most) w.gathered-is,
+        ap (λ x. x.wanted) w.gathered-is,
         ap (λ x. x.size) w.gathered-is,
-        ap (λ x. x.end) w.gathered-is ∙ ap Some w.place_of.ensures
-            ∙ sym (ap (λ o. place_behind o old.end) (told ∙ ap option_copied w.in-Some.is)),
+        ap (λ x. x.reached) w.gathered-is ∙ ap Some w.place_of.ensures
+            ∙ sym (ap (λ o. place_behind o old.reached) (told ∙ ap option_copied w.in-Some.is)),
       )
       | in_default w ↦ (
         ap (λ x. x.entries.items) w.gathered-is,
-        ap (λ x. x.most) w.gathered-is,
+        ap (λ x. x.wanted) w.gathered-is,
         ap (λ x. x.size) w.gathered-is,
-        ap (λ x. x.end) w.gathered-is
-            ∙ sym (ap (λ o. place_behind o old.end) (told ∙ ap option_copied w.in_default.is)),
+        ap (λ x. x.reached) w.gathered-is
+            ∙ sym (ap (λ o. place_behind o old.reached) (told ∙ ap option_copied w.in_default.is)),
       )
     ] in
     let grown : all ≡ old.entries.items ++ next =
     c.in_ok-append.ensures.items ∙ ap (λ l. l ++ next) same.0 in
-    let small : c.min-limit.result ≤ old.most - length old.entries.items = omega (
+    let small : c.min-limit.result ≤ old.wanted - length old.entries.items = omega (
       arith,
       c.min-limit.ensures,
       c.saturating_sub.ensures,
@@ -60,7 +61,7 @@ returns-then-is_exceeded-clause-finds g c start =
     (c.saturating_add-gathered.ensures
     ∙ ap (λ n. min (n + c.size_of.result) (2 ^ 64 - 1)) same.2)
     ∙ ap (λ (l : List Entry). saturated (values_length (map value_in l))) (sym grown) in
-    let (limit, is, long) = too_long value_in c.args.scope.now.longest old.most
+    let (limit, is, long) = too_long value_in c.args.scope.now.longest old.wanted
     c.saturating_add-gathered.result (entries_behind R node q start) all
     (omega (
       arith,
@@ -76,12 +77,13 @@ returns-then-is_exceeded-clause-finds g c start =
           (lawful_cut _ (number_of c.args.scope.now.within) lawful) c.body-span.result.from c.body-span.result.to
           c.body-span.ensures start c.min-limit.result next old (record {
             entries = c.append.new.self;
-            most = new.most;
+            wanted = new.wanted;
             size = c.saturating_add-gathered.result;
-            end = new.end;
+            reached = new.reached;
+            portion = c.portion_behind-gathered.result;
           }) true
           (found ∙ ap (λ d. take c.min-limit.result (log_of R node c.body-span.result.from
-          c.body-span.result.to old.end d)) c.direction-onward.ensures)
+          c.body-span.result.to old.reached d)) c.direction-onward.ensures)
           grown same.1 small same.3 (λ e. absurd cc) so_far).0.first,
     )
 
@@ -97,27 +99,27 @@ returns-clause-finds g c start =
     let all = c.append.new.self.items in
     let told : last next ≡ option_copied c.last.result =
     ap last (sym c.deref.ensures.value) ∙ sym c.last.ensures.value in
-    let same : (new.entries.items ≡ old.entries.items) × (new.most ≡ old.most) × (new.size ≡ old.size)
-    × (new.end ≡ place_behind (last next) old.end) =
+    let same : (new.entries.items ≡ old.entries.items) × (new.wanted ≡ old.wanted) × (new.size ≡ old.size)
+    × (new.reached ≡ place_behind (last next) old.reached) =
     elim c.match-last.branch [
       | in-Some w ↦ (
         ap (λ x. x.entries.items) w.gathered-is,
-        ap (λ x. x.most) w.gathered-is,
+        ap (λ x. x.wanted) w.gathered-is,
         ap (λ x. x.size) w.gathered-is,
-        ap (λ x. x.end) w.gathered-is ∙ ap Some w.place_of.ensures
-            ∙ sym (ap (λ o. place_behind o old.end) (told ∙ ap option_copied w.in-Some.is)),
+        ap (λ x. x.reached) w.gathered-is ∙ ap Some w.place_of.ensures
+            ∙ sym (ap (λ o. place_behind o old.reached) (told ∙ ap option_copied w.in-Some.is)),
       )
       | in_default w ↦ (
         ap (λ x. x.entries.items) w.gathered-is,
-        ap (λ x. x.most) w.gathered-is,
+        ap (λ x. x.wanted) w.gathered-is,
         ap (λ x. x.size) w.gathered-is,
-        ap (λ x. x.end) w.gathered-is
-            ∙ sym (ap (λ o. place_behind o old.end) (told ∙ ap option_copied w.in_default.is)),
+        ap (λ x. x.reached) w.gathered-is
+            ∙ sym (ap (λ o. place_behind o old.reached) (told ∙ ap option_copied w.in_default.is)),
       )
     ] in
     let grown : all ≡ old.entries.items ++ next =
     c.in_ok-append.ensures.items ∙ ap (λ l. l ++ next) same.0 in
-    let small : c.min-limit.result ≤ old.most - length old.entries.items = omega (
+    let small : c.min-limit.result ≤ old.wanted - length old.entries.items = omega (
       arith,
       c.min-limit.ensures,
       c.saturating_sub.ensures,
@@ -125,7 +127,7 @@ returns-clause-finds g c start =
       old.entries.ok,
     ) in
     let ending : c.if-is_full.result ≡ false
-    → (length next < c.min-limit.result) ⊎ (old.most ≤ length all) =
+    → (length next < c.min-limit.result) ⊎ (old.wanted ≤ length all) =
     elim c.if-is_full.branch [
       | then-is_full w ↦ λ e. inr (omega (
         arith,
@@ -146,12 +148,13 @@ returns-clause-finds g c start =
     (lawful_cut _ (number_of c.args.scope.now.within) lawful) c.body-span.result.from c.body-span.result.to
     c.body-span.ensures start c.min-limit.result next old (record {
       entries = c.append.new.self;
-      most = new.most;
+      wanted = new.wanted;
       size = c.saturating_add-gathered.result;
-      end = new.end;
+      reached = new.reached;
+      portion = c.portion_behind-gathered.result;
     }) c.if-is_full.result
     (found ∙ ap (λ d. take c.min-limit.result (log_of R node c.body-span.result.from
-    c.body-span.result.to old.end d)) c.direction-onward.ensures)
+    c.body-span.result.to old.reached d)) c.direction-onward.ensures)
     grown same.1 small same.3 ending so_far)
 
 pub returns-clause-size : goal.returns-clause-size

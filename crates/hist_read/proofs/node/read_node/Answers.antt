@@ -13,7 +13,7 @@ returns-clause-acts g c =
     let a = g.A.Archive.state c.args.archive.now in
     let b = g.A.Archive.state c.read_node_within.new.archive in
     let (used, read, acts, tells) = c.read_node_within.ensures.acts in
-    let is : c.in-Some.result ≡ read = subst (λ o. TellsWithin None o read) c.in-Some.is tells in (
+    let is : c.in-Some.result ≡ read = (subst (λ o. TellsWithin None o read) c.in-Some.is tells).0 in (
       used,
       subst (λ (r : HistoryReadResult). Refines a b used (read_node a.id c.args.node.now
           c.args.query.now (option_copied c.args.continuation)) r) (sym is) acts,

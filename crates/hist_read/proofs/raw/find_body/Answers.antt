@@ -5,8 +5,7 @@ use Rattle.stamp.specs.Numbers.{number_of}
 use Rattle.records.specs.Contents.{Content, cut}
 use Rattle.records.specs.declared.shown.Held.{Held}
 use Rattle.hist_read.specs.Asking.{first_time}
-use Rattle.hist_read.specs.Reads.{limit_at, body_part, page_size}
-use Rattle.hist_read.specs.Pages.{values_beyond}
+use Rattle.hist_read.specs.Reads.{values_beyond, limit_at, body_part, page_size}
 use Rattle.hist_read.specs.Gathering.{IsGathered, GathersOn, AreTooLong, IsBodyTooLong}
 use Rattle.hist_read.specs.declared.fault.PageFault.{PageFault}
 use Rattle.hist_read.specs.Finding.{Finds}
@@ -26,9 +25,9 @@ returns-in_err-more-clause-finds g c =
     let longest = c.args.scope.now.longest in
     let none = gathered_none R node q start (record {
       values = c.new.result;
-      most = c.body_limit.result;
+      wanted = c.body_limit.result;
       size = 0;
-      end = c.limit_at.result;
+      reached = c.limit_at.result;
     }) c.new.ensures.items c.limit_at.ensures.limit
     (subst (λ o. IfSome o (λ t. first_time ≤ℤ t)) c.limit_at.ensures.limit
     (c.limit_at.ensures.some c.requires.given c.requires.place)) in
@@ -51,13 +50,13 @@ loop-more-init g c =
     let start = limit_at q p in
     let none = gathered_none R node q start (record {
       values = c.new.result;
-      most = c.body_limit.result;
+      wanted = c.body_limit.result;
       size = 0;
-      end = c.limit_at.result;
+      reached = c.limit_at.result;
     }) c.new.ensures.items c.limit_at.ensures.limit
     (subst (λ o. IfSome o (λ t. first_time ≤ℤ t)) c.limit_at.ensures.limit
     (c.limit_at.ensures.some c.requires.given c.requires.place)) in
-    let most = c.in_ok-more.ensures.most in
+    let most = c.in_ok-more.ensures.wanted in
     record {
       finds = page_so a b c.args.scope.now.longest (Ok c.in_ok-more.more) _ _ _ _
           (c.in_ok-more.ensures.finds start) (λ x lawful on. on none)
@@ -65,7 +64,7 @@ loop-more-init g c =
           (sym most) (long none));
       asked = omega (arith, c.in_ok-more.ensures.asked, most);
       size = c.in_ok-more.ensures.size;
-      most = most ∙ c.body_limit.ensures.value;
+      wanted = most ∙ c.body_limit.ensures.value;
     }
 
 pub returns-in_err-more-2-clause-finds : goal.returns-in_err-more-2-clause-finds
@@ -87,7 +86,7 @@ returns-in_err-more-2-clause-finds g c =
     let IsAnswer : Vec Held _ → Type 0 = λ v. v.items ≡ take (page_size q p + 1) (body_part R node q p) in
     let P : Content → Type 0 = λ C. IsGathered (cut C v) node q start old in
     let L : Content → ℕ → Type 0 = λ C limit.
-    AreTooLong (λ h. h.value) (old.most - 1) (values_beyond (cut C v) node q start) limit in
+    AreTooLong (λ h. h.value) (old.wanted - 1) (values_beyond (cut C v) node q start) limit in
     let Any : Bool → Type 0 = λ more. Unit {0} in
     let failed : Finds {X = Bool} a d longest (Err c.in_err-more-2.field-0.0) Any (L a.content) =
     page_behind a b d inv.finds.leaves inv.finds.stays longest (Err c.in_err-more-2.field-0.0) _
@@ -97,11 +96,11 @@ returns-in_err-more-2-clause-finds g c =
     subst (λ (r : Result (Vec Held _) PageFault). Finds a d longest r IsAnswer (IsBodyTooLong R node q p))
     (sym (e.1 ∙ ap Err e.2))
     (page_passed a d longest c.in_err-more-2.field-0.0 Any IsAnswer (L a.content) (IsBodyTooLong R node q p)
-    failed (λ limit lawful long. body_long R node q p old.most limit inv.most long))
+    failed (λ limit lawful long. body_long R node q p old.wanted limit inv.wanted long))
 
 pub loop-more-smaller : goal.loop-more-smaller
 loop-more-smaller g c = fewer c.loop-more.more c.in_ok-more-2.more _ _ _ _ c.loop-more-test.true
-    c.in_ok-more-2.ensures.most c.in_ok-more-2.ensures.grows
+    c.in_ok-more-2.ensures.wanted c.in_ok-more-2.ensures.grows
 
 pub loop-more-preserved : goal.loop-more-preserved
 loop-more-preserved g c =
@@ -117,22 +116,22 @@ loop-more-preserved g c =
     let old = c.loop-more.gathered in
     let new = c.gather-in-loop-more.new.gathered in
     let inv = c.loop-more.invariant in
-    let most = c.in_ok-more-2.ensures.most in
+    let most = c.in_ok-more-2.ensures.wanted in
     let P : Content → Type 0 = λ C. IsGathered (cut C v) node q start old in
     let Q : Content → Bool → Type 0 = λ C more. GathersOn (cut C v) node q start more new in
     let L : Content → ℕ → ℕ → Type 0 = λ C n limit.
     AreTooLong (λ h. h.value) (n - 1) (values_beyond (cut C v) node q start) limit in
     record {
       finds = page_behind a b d inv.finds.leaves inv.finds.stays longest (Ok c.in_ok-more-2.more) _
-          (Q a.content) _ (L a.content new.most) (c.in_ok-more-2.ensures.finds start)
+          (Q a.content) _ (L a.content new.wanted) (c.in_ok-more-2.ensures.finds start)
           (λ lawful h same y on. subst (λ C. Q C y) same
           (on (subst P (sym same) (inv.finds.answer h).0)))
-          (λ lawful h same limit long. subst (λ C. L C new.most limit) same
+          (λ lawful h same limit long. subst (λ C. L C new.wanted limit) same
           (subst (λ n. L b.content n limit) (sym most)
           (long (subst P (sym same) (inv.finds.answer h).0))));
       asked = omega (arith, c.in_ok-more-2.ensures.asked, inv.asked, most);
       size = c.in_ok-more-2.ensures.size;
-      most = most ∙ inv.most;
+      wanted = most ∙ inv.wanted;
     }
 
 pub returns-clause-finds : goal.returns-clause-finds
@@ -144,5 +143,5 @@ returns-clause-finds g c =
     let p = c.args.position.now in
     let inv = c.loop-more.invariant in
     page_made a _ c.args.scope.now.longest c.loop-more.more c.loop-more.gathered.values _ _ _ _
-    inv.finds (λ lawful on. body_all R node q p c.loop-more.gathered.most c.loop-more.gathered.values.items
-    (on.1 c.loop-more-test.false) inv.most)
+    inv.finds (λ lawful on. body_all R node q p c.loop-more.gathered.wanted c.loop-more.gathered.values.items
+    (on.1 c.loop-more-test.false) inv.wanted)

@@ -8,7 +8,7 @@ use Rattle.records.specs.Contents.{cut}
 use Rattle.records.specs.declared.shown.Held.{Held}
 use Rattle.archive.specs.Reading.{range_of}
 use Rattle.hist_read.specs.Carrying.{values_length}
-use Rattle.hist_read.specs.Pages.{values_beyond}
+use Rattle.hist_read.specs.Reads.{values_beyond}
 use Rattle.hist_read.proofs.Askings.{page_as, page_long}
 use Rattle.hist_read.proofs.Cutting.{lawful_cut}
 use Rattle.hist_read.proofs.Gathering.{size_append, too_long, end_behind, gathers_on}
@@ -27,27 +27,27 @@ returns-then-is_exceeded-clause-finds g c start =
     let all = c.append.new.self.items in
     let told : last next ≡ option_copied c.last.result =
     ap last (sym c.deref.ensures.value) ∙ sym c.last.ensures.value in
-    let same : (new.values.items ≡ old.values.items) × (new.most ≡ old.most) × (new.size ≡ old.size)
-    × (new.end ≡ end_behind (last next) old.end) =
+    let same : (new.values.items ≡ old.values.items) × (new.wanted ≡ old.wanted) × (new.size ≡ old.size)
+    × (new.reached ≡ end_behind (last next) old.reached) =
     elim c.match-last.branch [
       | in-Some w ↦ (
         ap (λ x. x.values.items) w.gathered-is,
-        ap (λ x. x.most) w.gathered-is,
+        ap (λ x. x.wanted) w.gathered-is,
         ap (λ x. x.size) w.gathered-is,
-        ap (λ x. x.end) w.gathered-is
-            ∙ sym (ap (λ o. end_behind o old.end) (told ∙ ap option_copied w.in-Some.is)),
+        ap (λ x. x.reached) w.gathered-is
+            ∙ sym (ap (λ o. end_behind o old.reached) (told ∙ ap option_copied w.in-Some.is)),
       )
       | in_default w ↦ (
         ap (λ x. x.values.items) w.gathered-is,
-        ap (λ x. x.most) w.gathered-is,
+        ap (λ x. x.wanted) w.gathered-is,
         ap (λ x. x.size) w.gathered-is,
-        ap (λ x. x.end) w.gathered-is
-            ∙ sym (ap (λ o. end_behind o old.end) (told ∙ ap option_copied w.in_default.is)),
+        ap (λ x. x.reached) w.gathered-is
+            ∙ sym (ap (λ o. end_behind o old.reached) (told ∙ ap option_copied w.in_default.is)),
       )
     ] in
     let grown : all ≡ old.values.items ++ next =
     c.in_ok-append.ensures.items ∙ ap (λ l. l ++ next) same.0 in
-    let small : c.min-limit.result ≤ old.most - length old.values.items = omega (
+    let small : c.min-limit.result ≤ old.wanted - length old.values.items = omega (
       arith,
       c.min-limit.ensures,
       c.saturating_sub.ensures,
@@ -60,7 +60,7 @@ returns-then-is_exceeded-clause-finds g c start =
     (c.saturating_add-gathered.ensures
     ∙ ap (λ n. min (n + c.size_of.result) (2 ^ 64 - 1)) same.2)
     ∙ ap (λ (l : List Held). saturated (values_length (map (λ h. h.value) l))) (sym grown) in
-    let (limit, is, long) = too_long (λ h. h.value) c.args.scope.now.longest (old.most - 1)
+    let (limit, is, long) = too_long (λ h. h.value) c.args.scope.now.longest (old.wanted - 1)
     c.saturating_add-gathered.result (values_beyond R node q start) all
     (omega (
       arith,
@@ -74,12 +74,12 @@ returns-then-is_exceeded-clause-finds g c start =
       is,
       λ lawful found so_far. long (gathers_on R node q
           (lawful_cut _ (number_of c.args.scope.now.within) lawful) c.span_beyond-span.result.from
-          c.span_beyond-span.result.to old.end
+          c.span_beyond-span.result.to old.reached
           (c.span_beyond-span.ensures so_far.late) start c.min-limit.result next old (record {
             values = c.append.new.self;
-            most = new.most;
+            wanted = new.wanted;
             size = c.saturating_add-gathered.result;
-            end = new.end;
+            reached = new.reached;
           }) true refl
           (found ∙ ap (λ d. take c.min-limit.result (range_of R node c.span_beyond-span.result.from
           c.span_beyond-span.result.to d)) c.direction-onward.ensures)
@@ -98,27 +98,27 @@ returns-clause-finds g c start =
     let all = c.append.new.self.items in
     let told : last next ≡ option_copied c.last.result =
     ap last (sym c.deref.ensures.value) ∙ sym c.last.ensures.value in
-    let same : (new.values.items ≡ old.values.items) × (new.most ≡ old.most) × (new.size ≡ old.size)
-    × (new.end ≡ end_behind (last next) old.end) =
+    let same : (new.values.items ≡ old.values.items) × (new.wanted ≡ old.wanted) × (new.size ≡ old.size)
+    × (new.reached ≡ end_behind (last next) old.reached) =
     elim c.match-last.branch [
       | in-Some w ↦ (
         ap (λ x. x.values.items) w.gathered-is,
-        ap (λ x. x.most) w.gathered-is,
+        ap (λ x. x.wanted) w.gathered-is,
         ap (λ x. x.size) w.gathered-is,
-        ap (λ x. x.end) w.gathered-is
-            ∙ sym (ap (λ o. end_behind o old.end) (told ∙ ap option_copied w.in-Some.is)),
+        ap (λ x. x.reached) w.gathered-is
+            ∙ sym (ap (λ o. end_behind o old.reached) (told ∙ ap option_copied w.in-Some.is)),
       )
       | in_default w ↦ (
         ap (λ x. x.values.items) w.gathered-is,
-        ap (λ x. x.most) w.gathered-is,
+        ap (λ x. x.wanted) w.gathered-is,
         ap (λ x. x.size) w.gathered-is,
-        ap (λ x. x.end) w.gathered-is
-            ∙ sym (ap (λ o. end_behind o old.end) (told ∙ ap option_copied w.in_default.is)),
+        ap (λ x. x.reached) w.gathered-is
+            ∙ sym (ap (λ o. end_behind o old.reached) (told ∙ ap option_copied w.in_default.is)),
       )
     ] in
     let grown : all ≡ old.values.items ++ next =
     c.in_ok-append.ensures.items ∙ ap (λ l. l ++ next) same.0 in
-    let small : c.min-limit.result ≤ old.most - length old.values.items = omega (
+    let small : c.min-limit.result ≤ old.wanted - length old.values.items = omega (
       arith,
       c.min-limit.ensures,
       c.saturating_sub.ensures,
@@ -126,7 +126,7 @@ returns-clause-finds g c start =
       old.values.ok,
     ) in
     let ending : c.if-is_full.result ≡ false
-    → (length next < c.min-limit.result) ⊎ (old.most ≤ length all) =
+    → (length next < c.min-limit.result) ⊎ (old.wanted ≤ length all) =
     elim c.if-is_full.branch [
       | then-is_full w ↦ λ e. inr (omega (
         arith,
@@ -145,12 +145,12 @@ returns-clause-finds g c start =
     page_as a _ c.args.scope.now.longest c.in_ok-next.next c.if-is_full.result _ _ _
     c.in_ok-next.ensures.asks (λ lawful found so_far. gathers_on R node q
     (lawful_cut _ (number_of c.args.scope.now.within) lawful) c.span_beyond-span.result.from
-    c.span_beyond-span.result.to old.end
+    c.span_beyond-span.result.to old.reached
     (c.span_beyond-span.ensures so_far.late) start c.min-limit.result next old (record {
       values = c.append.new.self;
-      most = new.most;
+      wanted = new.wanted;
       size = c.saturating_add-gathered.result;
-      end = new.end;
+      reached = new.reached;
     }) c.if-is_full.result refl
     (found ∙ ap (λ d. take c.min-limit.result (range_of R node c.span_beyond-span.result.from
     c.span_beyond-span.result.to d)) c.direction-onward.ensures)
