@@ -3,8 +3,8 @@
 ghost use Rattle.std.specs.Prelude.{IsTrue};
 ghost use Rattle.ua_binary.specs.Binary.{IsShortNode};
 
-use HistoryUpdateType::Insert;
-use archive::{Failure, LearnFault, ListArchive, ScriptedArchive};
+use HistoryUpdateType::Update;
+use archive::{Archive, Failure, LearnFault, ListArchive, ScriptedArchive};
 use hist_read::{Query, read_node_within};
 use history_rows::archives::{learn, list_archive, node, scripted_archive};
 use history_rows::reads::{
@@ -54,20 +54,32 @@ fn foreign_points_are_refused(rt: HostRuntime) -> Result<(), Fail> {
 
 // ---- long reads
 
-/// An archive with so many values, at 1 and each time behind it.
-fn long_archive(alloc: Global, count: u16) -> Result<ListArchive, LearnFault> {
-    let mut archive = list_archive(alloc)?;
+/// The archive learns so many values: at 1 and each time behind it, or all of them at 1.
+fn learn_many<A: Archive>(
+    alloc: Global,
+    archive: &mut A,
+    count: u16,
+    of_one: bool,
+) -> Result<(), LearnFault> {
     for i in 1..=count {
+        let time = if of_one { 1 } else { i64::from(i) };
         let row = (
             1,
             u64::from(i),
             i64::from(i),
-            i64::from(i),
-            Insert,
+            time,
+            Update,
             Some(i32::from(i)),
         );
-        learn(alloc, &mut archive, &row)?;
+        learn(alloc, archive, &row)?;
     }
+    Ok(())
+}
+
+/// An archive with so many values, at 1 and each time behind it.
+fn long_archive(alloc: Global, count: u16) -> Result<ListArchive, LearnFault> {
+    let mut archive = list_archive(alloc)?;
+    learn_many(alloc, &mut archive, count, false)?;
     Ok(archive)
 }
 
@@ -136,9 +148,9 @@ fn is_short(node: &NodeId) -> bool
 }
 
 /// A read of the node, of at most so many bytes.
-fn read_within(
+fn read_within<A: Archive>(
     alloc: Global,
-    archive: &mut ListArchive,
+    archive: &mut A,
     details: ReadRawModifiedDetails,
     longest: Option<usize>,
 ) -> Result<Option<HistoryReadResult>, AllocError> {
@@ -169,28 +181,108 @@ fn is_told_within(
     }
 }
 
-/// The most bytes of a read of a hundred values of five bytes each, and whether it is told.
-static LIMITS: [(Option<usize>, bool); 5] = [
-    (None, true),
-    (Some(500), true),
-    (Some(499), false),
-    (Some(160), false),
-    (Some(0), false),
+/// Reads of a hundred values of five bytes each: of modifications, start, end and bounds, and how many bytes the result has.
+static LENGTHS: [(bool, i64, i64, bool, usize); 4] = [
+    (false, 1, 1000, false, 1421),
+    (false, 1000, 1, false, 1407),
+    (false, 1, 1000, true, 1434),
+    (true, 1, 1000, false, 3325),
 ];
+
+/// Whether a read is told with this limit, and without one, and nothing with less.
+fn is_told_from(
+    alloc: Global,
+    archive: &mut ListArchive,
+    details: ReadRawModifiedDetails,
+    size: usize,
+) -> bool {
+    is_told_within(alloc, archive, details, None, true)
+        && is_told_within(alloc, archive, details, Some(size), true)
+        && is_told_within(alloc, archive, details, Some(size.saturating_sub(1)), false)
+        && is_told_within(alloc, archive, details, Some(499), false)
+        && is_told_within(alloc, archive, details, Some(0), false)
+}
 
 #[test]
 fn a_read_that_is_too_long_is_none(rt: HostRuntime) -> Result<(), Fail> {
     let mut archive = long_archive(rt.alloc(), 100)?;
-    for (longest, is_told) in &LIMITS {
-        let raw = asked(false, 1, 1000, 0, false);
-        let modified = asked(true, 1, 1000, 0, false);
+    for (is_modified, start, end, bounds, size) in &LENGTHS {
+        let details = asked(*is_modified, *start, *end, 0, *bounds);
         assert!(rt;
-            is_told_within(rt.alloc(), &mut archive, raw, *longest, *is_told),
-            "{longest:?}"
+            is_told_from(rt.alloc(), &mut archive, details, *size),
+            "{is_modified} {start} {end} {bounds}"
+        );
+    }
+    Ok(())
+}
+
+// ---- how often the archive is asked
+
+/// An archive of a hundred values, at times of their own or at one, whose question of this number fails: the first is the one
+/// for its vector.
+fn long_failing(alloc: Global, question: u64, of_one: bool) -> Result<ScriptedArchive, LearnFault> {
+    let call = question.saturating_add(100);
+    let mut archive = scripted_archive(alloc, call, Failure::Refused)?;
+    learn_many(alloc, &mut archive, 100, of_one)?;
+    Ok(archive)
+}
+
+/// The status of a read of at most so many bytes, where it is told.
+fn status_within(
+    alloc: Global,
+    archive: &mut ScriptedArchive,
+    is_modified: bool,
+    longest: Option<usize>,
+) -> Option<Status> {
+    let details = asked(is_modified, 1, 1000, 0, false);
+    match read_within(alloc, archive, details, longest) {
+        Ok(Some(told)) => Some(told.status),
+        _ => None,
+    }
+}
+
+/// Of values and of modifications.
+static BOTH: [bool; 2] = [false, true];
+
+#[test]
+fn what_is_too_long_is_asked_for_once(rt: HostRuntime) -> Result<(), Fail> {
+    for is_modified in &BOTH {
+        let mut archive = long_failing(rt.alloc(), 3, false)?;
+        assert!(rt;
+            status_within(rt.alloc(), &mut archive, *is_modified, Some(0)) == None,
+            "{is_modified}"
         );
         assert!(rt;
-            is_told_within(rt.alloc(), &mut archive, modified, *longest, *is_told),
-            "{longest:?} of modifications"
+            status_within(rt.alloc(), &mut archive, *is_modified, None)
+                == Some(Status::BAD_RESOURCE_UNAVAILABLE),
+            "{is_modified} whole"
+        );
+    }
+    Ok(())
+}
+
+/// The archive of a hundred modifications that is read with a failure at this question: the status, and the greatest limit.
+fn asked_for(alloc: Global, question: u64, of_one: bool) -> Option<(Option<Status>, usize)> {
+    let Ok(mut archive) = long_failing(alloc, question, of_one) else {
+        return None;
+    };
+    let status = status_within(alloc, &mut archive, true, None);
+    Some((status, archive.greatest_limit()))
+}
+
+/// Whether they are of one moment, how often the archive is asked for them, and for how many at most.
+static QUESTIONS: [(bool, u64, usize); 2] = [(true, 3, 128), (false, 4, 32)];
+
+#[test]
+fn a_moment_is_asked_for_in_growing_portions(rt: HostRuntime) -> Result<(), Fail> {
+    for (of_one, questions, greatest) in &QUESTIONS {
+        let last = questions.saturating_add(1);
+        let whole = asked_for(rt.alloc(), last.saturating_add(1), *of_one);
+        assert!(rt; whole == Some((Some(Status::GOOD), *greatest)), "{of_one}");
+        let failed = asked_for(rt.alloc(), last, *of_one);
+        assert!(rt;
+            failed == Some((Some(Status::BAD_RESOURCE_UNAVAILABLE), *greatest)),
+            "{of_one} less"
         );
     }
     Ok(())
