@@ -39,8 +39,8 @@ pub returns : goal.returns
 returns g c =
     let (used, value, acts, within) = c.read_history_of.ensures.acts in
     let is : c.in-Some.read ≡ value =
-    subst (λ (o : Option HistoryReadResult). TellsWithin (Some 16777216) o value) c.in-Some.is
-    within in (
+    (subst (λ (o : Option HistoryReadResult). TellsWithin (Some 16777216) o value) c.in-Some.is
+    within).0 in (
       used,
       value,
       acts,

@@ -1,5 +1,5 @@
-use Rattle.std.proofs.Common.{◌≡◌, ◌∙◌, List, ◌∷◌, Some, Ok, refl, sym, ap, subst}
-use Rattle.std.specs.Prelude.{Bool, Option}
+use Rattle.std.proofs.Common.{◌≡◌, ◌∙◌, true, false, cond, List, ◌∷◌, Some, Ok, refl, sym, ap, subst, arith}
+use Rattle.std.specs.Prelude.{Bool, Option, ◌&&◌, not, nat_le}
 use Rattle.ua_binary.specs.declared.values.NodeId.{NodeId}
 use Rattle.ua_binary.specs.Rules.{checked}
 use Rattle.ua_services.specs.History.{HistoryReadFields, history_read_fields}
@@ -8,8 +8,10 @@ use Rattle.ua_space.specs.declared.layout.Layout.{Layout}
 use Rattle.records.specs.Contents.{Content}
 use Rattle.archive.specs.Steps.{Refines, and_then, give}
 use Rattle.archive.specs.Store.{Store, StepResult, Done, NoMemory}
-use Rattle.hist_read.specs.Carrying.{TellsWithin}
-use Rattle.hist_read.specs.Node.{read_node}
+use Rattle.ua_binary.specs.declared.codes.TheConstants.Status.{GOOD, BAD_OUT_OF_MEMORY}
+use Rattle.hist_read.specs.Carrying.{IsReadTooLong, TellsWithin}
+use Rattle.hist_read.specs.Node.{refused_read, read_node}
+use Rattle.hist_read.proofs.Carried.{refused_within}
 use Rattle.hist_read.specs.declared.query.Query.{Query}
 use Rattle.historian.specs.Reading.{history_rules, read_history_of, released}
 use Rattle.historian.proofs.ReadingParts.{history_by}
@@ -33,6 +35,20 @@ past a b space query release item node read passed same acts =
     (released release read) (subst P same acts) (λ R marks. refl) refl)
     (λ R marks. ap (λ r. history_by a.id query release item R r (Done ∷ marks)) passed)
 
+-- what is shown of a read that isn't too long isn't too long either
+shown-within : (release : Bool) (read value shown : HistoryReadResult)
+    → TellsWithin (Some 16777216) (Some read) value → shown ≡ released release read
+    → TellsWithin (Some 16777216) (Some shown) (released release value)
+shown-within release read value shown within is = (
+  is ∙ ap (released release) within.0,
+  by (release && not (nat_le 2147483648 value.status.0)),
+)
+  where
+    by : (is_less : Bool) → IsReadTooLong (cond is_less (refused_read GOOD) value) 16777216 → ⊥
+    by true long =
+        (refused_within 16777216 GOOD (refused_read GOOD) refl (omega arith)).1 long
+    by false long = within.1 long
+
 pub returns-in-Err-clause-acts : goal.returns-in-Err-clause-acts
 returns-in-Err-clause-acts g c =
     let s = g.A.Archive.state c.args.archive.now in
@@ -42,8 +58,12 @@ returns-in-Err-clause-acts g c =
     c.nothing.result (λ R marks.
     ap (λ r. history_by s.id c.args.terms.query c.args.terms.release item R r marks)
     (sym c.judge_history.ensures.told ∙ c.in-Err.is)
-    ∙ ap (λ x. give (x, R) marks) (sym c.nothing.ensures.told)) in
-    (acts.0, c.nothing.result, acts.1, refl)
+    ∙ ap (λ x. give (x, R) marks) (sym c.nothing.ensures.told)) in (
+      acts.0,
+      c.nothing.result,
+      acts.1,
+      refused_within 16777216 c.in-Err.status c.nothing.result c.nothing.ensures.told (omega arith),
+    )
 
 pub returns-in_default-to_owned-clause-acts : goal.returns-in_default-to_owned-clause-acts
 returns-in_default-to_owned-clause-acts g c =
@@ -54,8 +74,13 @@ returns-in_default-to_owned-clause-acts g c =
     c.nothing-in_default-to_owned.result (λ R later.
     ap (λ r. history_by s.id c.args.terms.query c.args.terms.release item R r (NoMemory ∷ later))
     (sym c.judge_history.ensures.told ∙ c.in_default.is)
-    ∙ ap (λ x. give (x, R) later) (sym c.nothing-in_default-to_owned.ensures.told)) in
-    (acts.0, c.nothing-in_default-to_owned.result, acts.1, refl)
+    ∙ ap (λ x. give (x, R) later) (sym c.nothing-in_default-to_owned.ensures.told)) in (
+      acts.0,
+      c.nothing-in_default-to_owned.result,
+      acts.1,
+      refused_within 16777216 BAD_OUT_OF_MEMORY c.nothing-in_default-to_owned.result
+          c.nothing-in_default-to_owned.ensures.told (omega arith),
+    )
 
 pub returns-in_default-read_node_within-clause-acts :
     goal.returns-in_default-read_node_within-clause-acts
@@ -87,7 +112,7 @@ returns-clause-acts g c =
       all.0,
       released release value,
       all.1,
-      c.released.ensures.told ∙ ap (released release)
+      shown-within release c.in-Some.read value c.released.result
           (subst (λ (o : Option HistoryReadResult). TellsWithin (Some 16777216) o value)
-          c.in-Some.is within),
+          c.in-Some.is within) c.released.ensures.told,
     )

@@ -1,10 +1,11 @@
-use Rattle.std.proofs.Common.{◌≡◌, ◌∙◌, Bool, true, Some, None, sym, ap, subst}
+use Rattle.std.proofs.Common.{◌≡◌, ◌∙◌, Bool, true, Some, None, sym, ap, subst, arith}
 use Rattle.std.specs.Prelude.{◌&&◌, not, nat_le, if◌then◌else◌}
 use Rattle.ua_binary.specs.declared.codes.Status.{Status}
 use Rattle.ua_binary.specs.declared.codes.TheConstants.Status.{GOOD}
 use Rattle.ua_services.specs.declared.history.HistoryReadResult.{HistoryReadResult}
 use Rattle.hist_read.specs.Carrying.{TellsWithin}
 use Rattle.hist_read.specs.Node.{refused_read}
+use Rattle.hist_read.proofs.Carried.{refused_within}
 use Rattle.historian.specs.Reading.{released}
 use Rattle.historian.proofs.histories.too_long.Goals as goal
 
@@ -17,8 +18,11 @@ shows-nothing read good =
 
 pub returns-then-release-clause-told : goal.returns-then-release-clause-told
 returns-then-release-clause-told c = λ read large.
-    subst (λ (release : Bool). c.nothing.result ≡ released release read) (sym c.if-release.true)
+    subst (λ (release : Bool). TellsWithin (Some 16777216) (Some c.nothing.result)
+    (released release read)) (sym c.if-release.true)
+    (subst (λ (shown : HistoryReadResult). TellsWithin (Some 16777216) (Some c.nothing.result) shown)
     (c.nothing.ensures.told ∙ shows-nothing read large.1)
+    (refused_within 16777216 GOOD c.nothing.result c.nothing.ensures.told (omega arith)))
 
 pub returns-else-release-clause-told : goal.returns-else-release-clause-told
 returns-else-release-clause-told c = λ read large.
