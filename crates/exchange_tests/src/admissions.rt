@@ -1,7 +1,8 @@
 //! Which records are taken from a peer.
 
 use crate::exchanges::list_replica;
-use exchange::{Admission, Bound, Dialog, ExchangeFault, Frames};
+use archive::ListArchive;
+use exchange::{Admission, Bound, Dialog, ExchangeFault, Frames, Replica};
 use history_rows::exchanges::{Row, merge_rows, replica_number};
 use std::alloc::Global;
 use std::test::Fail;
@@ -9,10 +10,8 @@ use std::test::Fail;
 /// How many ticks a minute has.
 const MINUTE: i64 = 600_000_000;
 
-/// The frame by which a replica 2 that holds these records answers a replica that holds none.
-fn brought(alloc: Global, rows: &[Row]) -> Result<Vec<u8>, Fail> {
-    let mut holder = list_replica(alloc, 2)?;
-    merge_rows(alloc, &mut holder, rows)?;
+/// The frame by which a replica answers one that holds nothing.
+pub(crate) fn answer_of(alloc: Global, holder: &mut Replica<ListArchive>) -> Result<Vec<u8>, Fail> {
     let mut asked = Vec::new(alloc);
     list_replica(alloc, 1)?.greet(alloc, &mut asked)?;
     let mut frames = Frames::new(alloc);
@@ -21,11 +20,18 @@ fn brought(alloc: Global, rows: &[Row]) -> Result<Vec<u8>, Fail> {
     let mut dialog = Dialog::responder();
     match frames.next_frame()? {
         Some(frame) => {
-            dialog.take(alloc, &mut holder, frame, &mut answer)?;
+            dialog.take(alloc, holder, frame, &mut answer)?;
         }
         None => return Err(Fail::from("a frame")),
     }
     Ok(answer)
+}
+
+/// The frame by which a replica 2 that holds these records answers a replica that holds none.
+fn brought(alloc: Global, rows: &[Row]) -> Result<Vec<u8>, Fail> {
+    let mut holder = list_replica(alloc, 2)?;
+    merge_rows(alloc, &mut holder, rows)?;
+    answer_of(alloc, &mut holder)
 }
 
 /// Records of the replicas 2 and 3, the second a minute behind the time 0.

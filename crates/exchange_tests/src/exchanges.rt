@@ -286,7 +286,7 @@ fn large_record(alloc: Global, number: u32, size: usize) -> Result<Record, Store
 }
 
 /// Some first records of replica 2, each of a value of so many bytes.
-fn large_batch(alloc: Global, count: u32, size: usize) -> Result<Batch, StoreFault> {
+pub(crate) fn large_batch(alloc: Global, count: u32, size: usize) -> Result<Batch, StoreFault> {
     let mut records = Vec::new(alloc);
     for number in 1..=count {
         push(&mut records, large_record(alloc, number, size)?)?;

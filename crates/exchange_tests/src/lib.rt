@@ -4,4 +4,6 @@
 #[cfg(test)]
 mod admissions;
 #[cfg(test)]
+mod ahead;
+#[cfg(test)]
 mod exchanges;
