@@ -11,7 +11,7 @@ use Rattle.exchange.specs.Dialogs.{DialogState, IsHeld, party_of}
 use Rattle.exchange.proofs.HandleLemmas.{unbroken_before}
 use Rattle.counted_io.specs.declared.fault.ServeFault.{ServeFault}
 use Rattle.ua_peers.specs.declared.peers.PeerEnded.{PeerEnded}
-use Rattle.ua_peers.specs.Peers.{side_of, after_all, AreAnswered, IsLeftBy, Talks}
+use Rattle.ua_peers.specs.Peers.{side_of, after_all, AreAnswered, IsLeftBy, Talks, TalksOnce}
 use Rattle.conversation.specs.Admitting.{AsksOwn}
 
 -- what is held stays, and each fault of the store is counted
@@ -90,3 +90,13 @@ talks_behind a b c start last came out rest ending stays passes talks = record {
 
     whole : a.broken ≡ false → b.broken ≡ false
     whole unbroken = passes.broken ∙ or-false a.broken ∙ unbroken
+
+-- the same of one frame at most
+pub talks_once_behind : (a b c : Store) (start last : DialogState) (came out rest : List ℕ)
+    (ending : Option (Result PeerEnded ServeFault)) → KeepsContent a b → CountsFaults a b []
+    → TalksOnce start b c came out rest ending last → TalksOnce start a c came out rest ending last
+unfolding talks_behind
+talks_once_behind a b c start last came out rest ending stays passes once = record {
+  talks = talks_behind a b c start last came out rest ending stays passes once.talks;
+  one = once.one;
+}

@@ -21,7 +21,7 @@ use Rattle.conversation.specs.Closing.{TellsCallOf, TellsEnd, TellsEndOf, TellsT
 use Rattle.conversation.specs.Starting.{AsksPeer, BeginsBy, StartsCall}
 use Rattle.conversation.specs.Moves.{OnlyGrows, Moves}
 use Rattle.conversation.specs.Conversing.{behavior_over}
-use Rattle.conversation.specs.Growing.{transitions_grow, talks_grow, greets_grow, own_grows, grows_none, grows_more}
+use Rattle.conversation.specs.Growing.{transitions_grow, talks_grow, greets_grow, own_grows, ahead_grows, grows_none, grows_more}
 
 -- a frame that asks
 ask_grows : (a b : Store) (made : List ℕ) (result : Result (Unit {0}) ExchangeFault)
@@ -58,7 +58,11 @@ module _ {A C L : Type 0} (state : A → Store) where
     a.settings,
     grows_more _ _ _ (own_grows state _ _ a.between _ a.asks) (talks_grow _ _ _ _ _ _ _ _ a.talks),
   )
-  answer_moves gave told stay v w (Peer peer) new made ending (inr a) =
+  answer_moves gave told stay v w (Peer peer) new made ending (inr (inl a)) = (
+    a.settings,
+    grows_more _ _ _ (own_grows state _ _ a.between _ a.asks) (ahead_grows _ _ _ _ _ _ a.learns),
+  )
+  answer_moves gave told stay v w (Peer peer) new made ending (inr (inr a)) =
       (a.settings, own_grows state _ _ _ a.asked a.asks)
 
   -- what is told

@@ -133,3 +133,15 @@ pub record Refuses (settings : SettingsValues) (time : ℤ) (restoring : Bool) (
   pub told : Result State ExchangeFault
   pub tells : TellsFault fault told [] said
   pub ended : ends ≡ ended_as None (is_silent said) told
+
+-- ---- ahead of a frame's turn
+
+-- what was said where some first records of a frame were learned ahead of its turn: nothing, and
+-- the dialog goes on; or why one wasn't learned, and the dialog is over
+abbrev pub TellsAhead : Result (Option ℕ) ExchangeFault → (said : List ℕ)
+    → Option (Result PeerEnded ServeFault) → Type 0
+TellsAhead (Ok None) said ends = ⊥
+TellsAhead (Ok (Some added)) said ends = (said ≡ []) × (ends ≡ None)
+TellsAhead (Err fault) said ends =
+    (told : Result State ExchangeFault) × TellsFault fault told [] said
+    × (ends ≡ ended_as None (is_silent said) told)

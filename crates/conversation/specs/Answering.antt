@@ -3,22 +3,24 @@ use Rattle.std.specs.Prelude.{◌≡◌, ◌⊎◌, ℕ, ℤ, Bool, true, false,
 use Rattle.std.specs.Option.{option_map}
 use Rattle.std.specs.Result.{result_map_both}
 use Rattle.archive.specs.Store.{Store}
+use Rattle.exchange.specs.Ahead.{first_records, LearnsAhead}
 use Rattle.exchange.specs.Dialogs.{DialogState, party_of}
 use Rattle.exchange.specs.Frames.{frame_header}
 use Rattle.archive.specs.declared.fault.StoreFault.{StoreFault}
+use Rattle.exchange.specs.declared.fault.ExchangeFault.{ExchangeFault}
 use Rattle.counted_io.specs.declared.fault.ServeFault.{ServeFault}
 use Rattle.counted_io.specs.declared.fault.ServeFault.TheVariants.{OutOfMemory}
 use Rattle.ua_connection.specs.Environments.{Environment}
 use Rattle.ua_connection.specs.Client.{Ending as ClientEnding}
 use Rattle.ua_connection.specs.Turns.{ConnectionState, Advances, NeedsBytes}
-use Rattle.ua_peers.specs.Peers.{Talks}
+use Rattle.ua_peers.specs.Peers.{Talks, TalksOnce}
 use Rattle.ua_peers.specs.declared.peers.PeerEnded.{PeerEnded}
 use Rattle.conversation.specs.declared.ended.Ended.TheVariants as ended
 use Rattle.conversation.specs.declared.other_end.PeerDialog.{PeerDialog}
 use Rattle.conversation.specs.declared.other_end.OtherEnd.{OtherEnd}
 use Rattle.conversation.specs.declared.other_end.OtherEnd.TheVariants.{Client, Peer, Browser, Stranger, Over}
 use Rattle.conversation.specs.declared.world.World.{World}
-use Rattle.conversation.specs.Admitting.{IsTimed, is_own_asked, AsksOwn, restoring_with, restoring_behind, restoring_unless, own_bound, IsAdmitted, Refuses}
+use Rattle.conversation.specs.Admitting.{IsTimed, is_own_asked, AsksOwn, restoring_with, restoring_behind, restoring_unless, own_bound, IsAdmitted, Refuses, TellsAhead}
 use Rattle.multiplex.specs.declared.stay.Stay.{Stay}
 use Rattle.conversation.specs.Events.{Telling, Denied, audited_by, LogsAudit}
 use Rattle.conversation.specs.Logins.{after_audit, after_step, is_denied, unheld}
@@ -141,12 +143,61 @@ pub record RefusesPeer {A C L : Type 0} (state : A → Store) (gave : C → List
   pub tells : Tells said ends made ending
   pub leaves : next ≡ unless_over ending (Peer peer)
 
--- what stood first in a peer's dialog was answered, or its records weren't taken
+-- some first records of the frame that stood first in a peer's dialog were learned ahead of its
+-- turn, since they are taken: the frame stays, and nothing is said, or why the next one wasn't
+-- learned, which ends the dialog. Between the two the archive may have been asked how many records
+-- of its own number it holds
+pub record LearnsFromPeer {A C L : Type 0} (state : A → Store) (gave : C → List ℤ → C → Type 0)
+    (v : World A C L) (peer : PeerDialog) (made : List ℕ) (ending : Option ConversationEnding)
+    (w : World A C L) (next : OtherEnd) : Type 0 where
+  pub readings : List ℤ
+  pub time : ℤ
+  pub between : A
+  pub held : Option ℕ
+  pub result : Result (Option ℕ) ExchangeFault
+  pub said : List ℕ
+  pub ends : Option (Result PeerEnded ServeFault)
+  pub last : DialogState
+  pub settings : w.server.settings ≡ v.server.settings
+  pub clock : gave v.clock readings w.clock
+  pub timed : IsTimed v.server.settings readings time
+  pub log : w.log ≡ v.log
+  pub logins : w.logins ≡ unheld v.logins
+  pub from : w.from ≡ v.from
+  pub now : w.now ≡ v.now
+  pub calls : w.calls ≡ v.calls
+  pub connections : w.connections ≡ v.connections
+  pub restoring : w.restoring ≡ restoring_with v.restoring held
+  pub asks : AsksOwn state (is_own_asked v.server.settings peer.frames.waiting)
+      v.server.replica.archive between (Ok held)
+  pub admitted : IsAdmitted v.server.settings time
+      (own_bound (restoring_with v.restoring held) (state between).own held)
+      (party_of (state between)) peer.frames.waiting
+  pub learns : LearnsAhead (state between) (state w.server.replica.archive) peer.dialog last
+      (first_records (party_of (state between)) peer.dialog peer.frames.waiting) result
+  pub told : TellsAhead result said ends
+  pub tells : Tells said ends made ending
+  pub leaves : next ≡ unless_over ending (Peer (peer_at last peer.frames.waiting))
+
+-- over an archive the frame that stands first is answered, if it is whole, or some first records of
+-- it are learned ahead of its turn, and it stays
+abbrev pub MeetsFrame : (old new : Store) → PeerDialog → (said : List ℕ)
+    → Option (Result PeerEnded ServeFault) → (next : PeerDialog) → Type 0
+MeetsFrame old new peer said ends next =
+    TalksOnce peer.dialog old new peer.frames.waiting said next.frames.waiting ends next.dialog
+    ⊎ ((learned : Result (Option ℕ) ExchangeFault)
+    × LearnsAhead old new peer.dialog next.dialog
+    (first_records (party_of old) peer.dialog peer.frames.waiting) learned
+    × TellsAhead learned said ends × (next.frames ≡ peer.frames))
+
+-- what stood first in a peer's dialog was answered, or some first records of it were learned, or
+-- they weren't taken
 abbrev pub MeetsPeer : {A C L : Type 0} → (A → Store) → (C → List ℤ → C → Type 0) → World A C L
     → PeerDialog → (made : List ℕ) → Option ConversationEnding → World A C L → OtherEnd → Type 0
 MeetsPeer state gave v peer made ending w next =
     AnswersPeer state gave v peer made ending w next
-    ⊎ RefusesPeer state gave v peer made ending w next
+    ⊎ (LearnsFromPeer state gave v peer made ending w next
+    ⊎ RefusesPeer state gave v peer made ending w next)
 
 -- how a browser's connection ended by a step, as that of any connection
 abbrev pub web_ending : Result WebStep AllocError → Option ConversationEnding

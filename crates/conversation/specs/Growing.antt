@@ -11,6 +11,8 @@ use Rattle.archive.specs.Store.{Store, StepResult, Asks, IsLeft}
 use Rattle.archive.specs.Steps.{Transitions}
 use Rattle.archive.proofs.Acting.{left-stays}
 use Rattle.archive.proofs.Calls.{passes-none, passes-then}
+use Rattle.exchange.specs.Ahead.{LearnsAhead}
+use Rattle.exchange.specs.Merging.{MayBeLeft}
 use Rattle.exchange.specs.Messages.{Party}
 use Rattle.exchange.specs.declared.fault.ExchangeFault.{ExchangeFault}
 use Rattle.exchange.specs.Dialogs.{DialogState, Greets, received, records_read, learned_at, party_of}
@@ -101,6 +103,32 @@ pub own_grows : {A : Type 0} (state : A → Store) (asks : Bool) (v w : A)
 own_grows state true v w result asked = asks_grow (state v) (state w) result _ asked
 own_grows state false v w result same =
     subst (λ u. OnlyGrows (state v) (state u)) (sym same.0) (grows_none (state v))
+
+-- what may be left of some first records
+rs_within : (a : Store) (rs : List Record) (learned : ℕ) (S : Content) → MayBeLeft a rs learned S
+    → (R : Content) × IsLeft a R × IsWithin R S
+rs_within a rs learned S (inl before) = (S, inr before.0, λ r h. h)
+rs_within a rs learned S (inr more) = (
+  a.content,
+  inl (more.0, refl),
+  within_same a.content _ S (batch_above a.content (take more.1 rs)) (sym more.4),
+)
+
+-- records that are learned ahead
+pub ahead_grows : (a b : Store) (before after : DialogState) (rs : List Record)
+    (result : Result (Option ℕ) ExchangeFault) → LearnsAhead a b before after rs result
+    → OnlyGrows a b
+ahead_grows a b before after rs result learns =
+    record { faults = _; passes = learns.passes; grows = by }
+  where
+    by : b.honest → (S : Content) → IsLeft b S → (R : Content) × IsLeft a R × IsWithin R S
+    by honest S (inl held) = (
+      a.content,
+      inl (unbroken_before a b _ learns.passes held.0, refl),
+      within_same a.content _ S (batch_above a.content (take learns.learned rs))
+          (sym (learns.content honest held.0) ∙ held.1),
+    )
+    by honest S (inr found) = rs_within a rs learns.learned S (learns.crash honest S found)
 
 -- a client's step
 pub transitions_grow : (a b : Store) (used : List StepResult)

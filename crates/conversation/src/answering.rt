@@ -14,7 +14,7 @@ ghost use Rattle.exchange.specs.declared.message.State.{State as Standing};
 ghost use Rattle.ua_peers.specs.Peers.{ended_as, is_silent};
 ghost use Rattle.conversation.specs.Admitting.{is_own_asked, AsksOwn, restoring_with, restoring_behind, own_bound, IsAdmitted, Refuses};
 ghost use Rattle.conversation.specs.OtherEnds.{unless_over, is_established, IsUsable};
-ghost use Rattle.conversation.specs.Answering.{IsIncomplete, client_ending, peer_ending, web_ending, AnswersClient, MeetsPeer, AnswersBrowser, LogsDenial, AnswersFirst};
+ghost use Rattle.conversation.specs.Answering.{IsIncomplete, client_ending, peer_ending, web_ending, AnswersClient, MeetsFrame, MeetsPeer, AnswersBrowser, LogsDenial, AnswersFirst};
 ghost use Rattle.conversation.specs.Events.{audited_by, LogsAudit};
 ghost use Rattle.std.specs.Option.{option_copied};
 ghost use Rattle.ua_session.specs.Sessions.{SessionsState};
@@ -174,9 +174,37 @@ fn refuse_frame(
     peer_progress(Some(told), None, said.as_slice().is_empty())
 }
 
+/// Learns some first records of the frame that stands first in a peer's dialog, where many of them are new, and then the frame
+/// stays; else takes it, if it is whole. What is said is appended to `said`, which is empty.
+fn learn_or_take<A: Archive>(
+    server: &mut Server<A>,
+    peer: &mut PeerDialog,
+    said: &mut Vec<u8>,
+) -> Progress<Result<Ended, ServeFault>>
+    requires sound { IsUsable (Peer peer.old) }
+    requires empty { said.old.items ≡ [] }
+    ensures answers { (ends : _) × (end_in result ≡ peer_ending ends)
+        × MeetsFrame (A.state server.old.replica.archive) (A.state server.new.replica.archive)
+        peer.old said.new.items ends peer.new }
+    ensures settings { server.new.settings ≡ server.old.settings }
+    ensures goes { end_in result ≡ None → IsUsable (Peer peer.new) }
+    ensures lacks { result ≡ Lacks
+        → (said.new.items ≡ []) × (frame_header peer.new.frames.waiting ≡ Ok None) }
+{
+    match peer
+        .dialog
+        .learn_ahead(server.alloc, &mut server.replica, &peer.frames)
+    {
+        Ok(None) => take_frame(server, peer, said),
+        Ok(Some(_)) => Progress::Answered,
+        Err(met) => refuse_frame(server.alloc, met, said),
+    }
+}
+
 /// Answers the frame that stands first in a peer's dialog, if it is whole, where its records are taken at this time; else the
-/// peer is told why, and what is held stays. Where a door names no replicas the archive is asked first how many records of its
-/// own number it holds; whether these come back is noted. What is said is appended to `said`, which is empty.
+/// peer is told why, and what is held stays. Of a frame that brings many new records some are learned first, and it stays. Where
+/// a door names no replicas the archive is asked first how many records of its own number it holds; whether these come back is
+/// noted. What is said is appended to `said`, which is empty.
 fn answer_frame<A: Archive>(
     server: &mut Server<A>,
     time: i64,
@@ -193,9 +221,9 @@ fn answer_frame<A: Archive>(
         × IsAdmitted server.old.settings time
         (own_bound (restoring_with restoring.old held) (A.state between).own held)
         (party_of (A.state between)) peer.old.frames.waiting
-        × TalksOnce peer.old.dialog (A.state between) (A.state server.new.replica.archive)
-        peer.old.frames.waiting said.new.items peer.new.frames.waiting ends peer.new.dialog
-        × (restoring.new ≡ restoring_with restoring.old held))
+        × (restoring.new ≡ restoring_with restoring.old held)
+        × MeetsFrame (A.state between) (A.state server.new.replica.archive) peer.old said.new.items
+        ends peer.new)
         ⊎ ((asked : Result (Option ℕ) StoreFault)
         × AsksOwn A.state (is_own_asked server.old.settings peer.old.frames.waiting)
         server.old.replica.archive server.new.replica.archive asked
@@ -219,7 +247,7 @@ fn answer_frame<A: Archive>(
         .replica
         .judge_first(server.alloc, &admission, &peer.frames)
     {
-        Ok(()) => take_frame(server, peer, said),
+        Ok(()) => learn_or_take(server, peer, said),
         Err(fault) => refuse_frame(server.alloc, fault, said),
     }
 }

@@ -24,17 +24,17 @@ const NOW: i64 = 116_444_736_000_000_000;
 
 const LATEST: i64 = NOW + 600_000_000;
 
-fn replica(alloc: Global, number: u8) -> Result<Replica<ListArchive>, Fail> {
+pub(crate) fn replica(alloc: Global, number: u8) -> Result<Replica<ListArchive>, Fail> {
     let number = replica_number(number)?;
     Ok(Replica::new(ListArchive::new(alloc, Uuid::nil(), number)))
 }
 
 /// A plant with a door, at which the records of all replicas are taken.
-const OPEN: &str =
+pub(crate) const OPEN: &str =
     "[archive]\nid = '00000000000000000000000000000000'\nreplica = 1\n[server]\nlisten = ''\nurl = ''\napplication = ''\nnamespace = ''\nanonymous = true\n[door]\nlisten = ''\n";
 
 /// The frame by which a replica 5 that holds these records answers a replica that holds none.
-fn brought(alloc: Global, rows: &[Row]) -> Result<Vec<u8>, Fail> {
+pub(crate) fn brought(alloc: Global, rows: &[Row]) -> Result<Vec<u8>, Fail> {
     brought_behind(alloc, rows, 0)
 }
 
@@ -150,7 +150,7 @@ fn count_of(text: &[u8], word: &[u8]) -> usize {
 }
 
 /// One connection of the server.
-type Talk = Conversation<ListArchive, ConstantClock, Faults>;
+pub(crate) type Talk = Conversation<ListArchive, ConstantClock, Faults>;
 
 /// What a peer at the door is told for these bytes.
 fn answer_all(

@@ -14,6 +14,8 @@ mod conversations;
 #[cfg(test)]
 mod logins;
 #[cfg(test)]
+mod pieces;
+#[cfg(test)]
 mod scripts;
 #[cfg(test)]
 mod strangers;

@@ -12,7 +12,7 @@ use Rattle.conversation.proofs.answering.answer_frame.Goals as goal
 pub returns-in-Ok-judge_first-clause-answers : goal.returns-in-Ok-judge_first-clause-answers
 returns-in-Ok-judge_first-clause-answers g c =
     let state = g.A.Archive.state in
-    let (ends, is, talks) = c.take_frame.ensures.talks in
+    let (ends, is, meets) = c.learn_or_take.ensures.answers in
     let between = c.ask_own.new.server.replica.archive in
     let held = c.in-Ok.held in
     let back = restoring_with c.args.restoring.now held in
@@ -36,8 +36,8 @@ returns-in-Ok-judge_first-clause-answers g c =
         c.in-Ok.ensures.asks,
         ap (λ (a : Admission). first_admitted a (party_of (state between))
             c.args.peer.now.frames.waiting) (sym same) ∙ c.in-Ok-judge_first.ensures.judged,
-        talks,
         c.restoring_with.ensures,
+        meets,
       ),
     )
 

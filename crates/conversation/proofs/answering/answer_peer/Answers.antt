@@ -4,6 +4,7 @@ use Rattle.std.specs.Int.RustNames.{FitsSigned}
 use Rattle.std.proofs.lemmas.Int.{ints, to_z-of_z}
 use Rattle.std.specs.Prelude.{Option}
 use Rattle.exchange.specs.Dialogs.{party_of}
+use Rattle.exchange.specs.Frames.{ReceivedFrames}
 use Rattle.multiplex.specs.Progress.{end_in}
 use Rattle.conversation.specs.Admitting.{restoring_with, own_bound, IsAdmitted, Refuses}
 use Rattle.conversation.specs.declared.other_end.OtherEnd.TheVariants.{Peer, Over}
@@ -32,36 +33,69 @@ returns-then-append-clause-answers g c =
       answered.new.said.items,
       c.append.ensures.appended c.if-append.true,
       elim so [
-        | inl taken ↦ let (between, held, asks, admitted, talks, restoring) = taken in inl (record {
-          readings = readings;
-          time = c.time_at-time.result;
-          between = between;
-          held = held;
-          said = answered.new.said.items;
-          rest = answered.new.peer.frames.waiting;
-          ends = ends;
-          last = answered.new.peer.dialog;
-          settings = answered.ensures.settings;
-          clock = gave;
-          timed = timed;
-          log = refl;
-          logins = c.release.ensures;
-          from = refl;
-          now = refl;
-          calls = refl;
-          connections = refl;
-          restoring = restoring;
-          asks = asks;
-          admitted = subst (λ (t : ℤ). IsAdmitted server.settings t
-              (own_bound (restoring_with c.args.world.now.restoring held)
-              (g.A.Archive.state between).own held) (party_of (g.A.Archive.state between))
-              c.args.peer.now.frames.waiting) same admitted;
-          talks = talks.talks;
-          one = talks.one;
-          tells = inl (refl, is);
-          leaves = left_so _ answered.new.peer answered.ensures.goes;
-        })
-        | inr refused ↦ let (asked, asks, refuses, restoring, left) = refused in inr (record {
+        | inl taken ↦ let (between, held, asks, admitted, restoring, meets) = taken in elim meets [
+          | inl once ↦ inl (record {
+            readings = readings;
+            time = c.time_at-time.result;
+            between = between;
+            held = held;
+            said = answered.new.said.items;
+            rest = answered.new.peer.frames.waiting;
+            ends = ends;
+            last = answered.new.peer.dialog;
+            settings = answered.ensures.settings;
+            clock = gave;
+            timed = timed;
+            log = refl;
+            logins = c.release.ensures;
+            from = refl;
+            now = refl;
+            calls = refl;
+            connections = refl;
+            restoring = restoring;
+            asks = asks;
+            admitted = subst (λ (t : ℤ). IsAdmitted server.settings t
+                (own_bound (restoring_with c.args.world.now.restoring held)
+                (g.A.Archive.state between).own held) (party_of (g.A.Archive.state between))
+                c.args.peer.now.frames.waiting) same admitted;
+            talks = once.talks;
+            one = once.one;
+            tells = inl (refl, is);
+            leaves = left_so _ answered.new.peer answered.ensures.goes;
+          })
+          | inr ahead ↦ let (result, learns, told, frames) = ahead in inr (inl (record {
+            readings = readings;
+            time = c.time_at-time.result;
+            between = between;
+            held = held;
+            result = result;
+            said = answered.new.said.items;
+            ends = ends;
+            last = answered.new.peer.dialog;
+            settings = answered.ensures.settings;
+            clock = gave;
+            timed = timed;
+            log = refl;
+            logins = c.release.ensures;
+            from = refl;
+            now = refl;
+            calls = refl;
+            connections = refl;
+            restoring = restoring;
+            asks = asks;
+            admitted = subst (λ (t : ℤ). IsAdmitted server.settings t
+                (own_bound (restoring_with c.args.world.now.restoring held)
+                (g.A.Archive.state between).own held) (party_of (g.A.Archive.state between))
+                c.args.peer.now.frames.waiting) same admitted;
+            learns = learns;
+            told = told;
+            tells = inl (refl, is);
+            leaves = left_so _ answered.new.peer answered.ensures.goes
+                ∙ ap (λ (f : ReceivedFrames). unless_over (end_in answered.result)
+                (Peer (peer_at answered.new.peer.dialog f.waiting))) frames;
+          }))
+        ]
+        | inr refused ↦ let (asked, asks, refuses, restoring, left) = refused in inr (inr (record {
           readings = readings;
           time = c.time_at-time.result;
           asked = asked;
@@ -82,7 +116,7 @@ returns-then-append-clause-answers g c =
               c.args.peer.now.frames.waiting asked answered.new.said.items ends) same refuses;
           tells = inl (refl, is);
           leaves = ap (λ (p : PeerDialog). unless_over (end_in answered.result) (Peer p)) left;
-        })
+        }))
       ],
     )
 
@@ -99,36 +133,67 @@ returns-else-append-clause-answers g c =
       [],
       c.append.ensures.starved c.if-append.false ∙ sym (append-nil c.args.out.now.items),
       elim so [
-        | inl taken ↦ let (between, held, asks, admitted, talks, restoring) = taken in inl (record {
-          readings = readings;
-          time = c.time_at-time.result;
-          between = between;
-          held = held;
-          said = answered.new.said.items;
-          rest = answered.new.peer.frames.waiting;
-          ends = ends;
-          last = answered.new.peer.dialog;
-          settings = answered.ensures.settings;
-          clock = gave;
-          timed = timed;
-          log = refl;
-          logins = c.release.ensures;
-          from = refl;
-          now = refl;
-          calls = refl;
-          connections = refl;
-          restoring = restoring;
-          asks = asks;
-          admitted = subst (λ (t : ℤ). IsAdmitted server.settings t
-              (own_bound (restoring_with c.args.world.now.restoring held)
-              (g.A.Archive.state between).own held) (party_of (g.A.Archive.state between))
-              c.args.peer.now.frames.waiting) same admitted;
-          talks = talks.talks;
-          one = talks.one;
-          tells = inr (refl, refl);
-          leaves = refl;
-        })
-        | inr refused ↦ let (asked, asks, refuses, restoring, left) = refused in inr (record {
+        | inl taken ↦ let (between, held, asks, admitted, restoring, meets) = taken in elim meets [
+          | inl once ↦ inl (record {
+            readings = readings;
+            time = c.time_at-time.result;
+            between = between;
+            held = held;
+            said = answered.new.said.items;
+            rest = answered.new.peer.frames.waiting;
+            ends = ends;
+            last = answered.new.peer.dialog;
+            settings = answered.ensures.settings;
+            clock = gave;
+            timed = timed;
+            log = refl;
+            logins = c.release.ensures;
+            from = refl;
+            now = refl;
+            calls = refl;
+            connections = refl;
+            restoring = restoring;
+            asks = asks;
+            admitted = subst (λ (t : ℤ). IsAdmitted server.settings t
+                (own_bound (restoring_with c.args.world.now.restoring held)
+                (g.A.Archive.state between).own held) (party_of (g.A.Archive.state between))
+                c.args.peer.now.frames.waiting) same admitted;
+            talks = once.talks;
+            one = once.one;
+            tells = inr (refl, refl);
+            leaves = refl;
+          })
+          | inr ahead ↦ let (result, learns, told, frames) = ahead in inr (inl (record {
+            readings = readings;
+            time = c.time_at-time.result;
+            between = between;
+            held = held;
+            result = result;
+            said = answered.new.said.items;
+            ends = ends;
+            last = answered.new.peer.dialog;
+            settings = answered.ensures.settings;
+            clock = gave;
+            timed = timed;
+            log = refl;
+            logins = c.release.ensures;
+            from = refl;
+            now = refl;
+            calls = refl;
+            connections = refl;
+            restoring = restoring;
+            asks = asks;
+            admitted = subst (λ (t : ℤ). IsAdmitted server.settings t
+                (own_bound (restoring_with c.args.world.now.restoring held)
+                (g.A.Archive.state between).own held) (party_of (g.A.Archive.state between))
+                c.args.peer.now.frames.waiting) same admitted;
+            learns = learns;
+            told = told;
+            tells = inr (refl, refl);
+            leaves = refl;
+          }))
+        ]
+        | inr refused ↦ let (asked, asks, refuses, restoring, left) = refused in inr (inr (record {
           readings = readings;
           time = c.time_at-time.result;
           asked = asked;
@@ -149,6 +214,6 @@ returns-else-append-clause-answers g c =
               c.args.peer.now.frames.waiting asked answered.new.said.items ends) same refuses;
           tells = inr (refl, refl);
           leaves = ap (λ (p : PeerDialog). Over (moved_by (Peer p))) left;
-        })
+        }))
       ],
     )
