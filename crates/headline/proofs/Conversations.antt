@@ -1,10 +1,18 @@
 -- What is answered on one connection of many is a turn of a machine.
-use Rattle.std.proofs.Common.{◌≡◌, ℕ, ℤ, List, [], ◌++◌, map, Option, None, Some, Result, Ok, Err, refl, sym, ap, subst, ◌∙◌, inl, inr}
+use Rattle.std.proofs.Common.{◌≡◌, ℕ, ℤ, ◌-◌, Bool, true, false, List, [], ◌++◌, map, take, length, Option, None, Some, option_to_list, Result, Ok, Err, refl, sym, ap, subst, ◌∙◌, inl, inr}
 use Rattle.std.proofs.lemmas.List.{append-nil}
-use Rattle.archive.specs.Store.{Store}
+use Rattle.records.specs.Contents.{Content, merged}
+use Rattle.records.specs.declared.record.Record.{Record}
+use Rattle.archive.specs.Store.{Store, AfterCall, KeepsContent}
+use Rattle.archive.proofs.Calls.{passes-then, in_use, left_in_use}
 use Rattle.counted_io.specs.declared.fault.ServeFault.{ServeFault}
 use Rattle.exchange.specs.declared.fault.ExchangeFault.{ExchangeFault}
-use Rattle.exchange.specs.Dialogs.{party_of}
+use Rattle.exchange.specs.declared.fault.ExchangeFault.TheVariants as exchange
+use Rattle.exchange.specs.Admissions.{first_frame}
+use Rattle.exchange.specs.Ahead.{first_records, new_among, ReportsAhead, LearnsAhead}
+use Rattle.exchange.specs.Dialogs.{DialogState, party_of}
+use Rattle.exchange.specs.Merging.{StopsAt}
+use Rattle.exchange.specs.Messages.{Party}
 use Rattle.ua_connection.specs.Turns.{ConnectionState}
 use Rattle.ua_peers.specs.Wires.{IsStartOf}
 use Rattle.ua_peers.specs.declared.peers.PeerEnded.{PeerEnded}
@@ -15,16 +23,17 @@ use Rattle.conversation.specs.declared.other_end.OtherEnd.{OtherEnd}
 use Rattle.conversation.specs.declared.other_end.PeerDialog.{PeerDialog}
 use Rattle.conversation.specs.declared.world.World.{World}
 use Rattle.conversation.specs.OtherEnds.{ConversationEnding}
-use Rattle.conversation.specs.Answering.{AnswersClient, AnswersPeer, RefusesPeer, Tells}
+use Rattle.conversation.specs.Admitting.{AsksOwn}
+use Rattle.conversation.specs.Answering.{AnswersClient, AnswersPeer, LearnsFromPeer, RefusesPeer, Tells}
 use Rattle.conversation.specs.Closing.{TellsCallOf}
 use Rattle.conversation.specs.Events.{Telling}
 use Rattle.conversation.specs.OtherEnds.{none_moved}
 use Rattle.multiplex.specs.declared.stay.Stay.{Stay}
 use Rattle.ua_peers.specs.declared.calling.Synced.{Synced}
 use Rattle.conversation.specs.Starting.{AsksPeer, BeginsBy, StartsCall}
-use Rattle.conversation.proofs.Asked.{own_leaves, own_answered, talks_behind}
+use Rattle.conversation.proofs.Asked.{own_leaves, own_answered, same_party, talks_behind}
 use Rattle.headline.specs.Machines.{RestartsAs, IsMachine}
-use Rattle.headline.specs.Plants.{AreUnforged, BeginsCall, Plant, plant_after, IsClientTurn, IsPeerTurn, IsCallTurn, IsRefusalTurn}
+use Rattle.headline.specs.Plants.{AreUnforged, BeginsCall, Plant, plant_after, IsClientTurn, IsPeerTurn, IsCallTurn, IsLearningTurn, IsRefusalTurn}
 
 -- what is written is what was said, or nothing
 told_part : (said made : List ℕ) (ends : Option (Result PeerEnded ServeFault))
@@ -41,6 +50,70 @@ begun_by : (a b : Store) (made : List ℕ) (result : Result (Unit {0}) ExchangeF
 begun_by a b made result (inl greets) = (made, result, greets, ([], sym (append-nil made)))
 begun_by a b made result (inr (frame, greets, none, starved)) =
     (frame, Ok tt, greets, (frame, ap (λ (l : List ℕ). l ++ frame) (sym none)))
+
+-- records that are learned ahead over what an archive holds behind a query are learned over what it
+-- held before, since an archive that answers is in use
+learned_behind : (a b c : Store) (start last : DialogState) (rs : List Record)
+    (result : Result (Option ℕ) ExchangeFault) → KeepsContent a b → AfterCall a b None
+    → LearnsAhead b c start last rs result → LearnsAhead a c start last rs result
+learned_behind a b c start last rs result stays leaves learns = record {
+  learned = learns.learned;
+  tells = told result learns.tells;
+  stands = learns.stands;
+  content = λ honest used. learns.content honest used
+      ∙ ap (merged (take learns.learned rs)) (same honest);
+  crash = λ honest left found. elim (learns.crash honest left found) [
+    | inl before ↦ inl (stays.crash (learns.passes.honest honest) left before.0, before.1)
+    | inr more ↦ inr (
+      in_use a b leaves,
+      more.1,
+      more.2,
+      more.3,
+      more.4 ∙ ap (merged (take more.1 rs)) (same honest),
+    )
+  ];
+  passes = passes-then a b c [] _ leaves.passes learns.passes;
+}
+  where
+    same : c.honest → b.content ≡ a.content
+    same honest = stays.content (learns.passes.honest honest) (left_in_use a b leaves)
+
+    told : (r : Result (Option ℕ) ExchangeFault) → ReportsAhead b c rs learns.learned r
+        → ReportsAhead a c rs learns.learned r
+    told (Ok None) tells = record {
+      content = λ honest used. tells.content honest used ∙ same honest;
+      crash = λ honest left found.
+          stays.crash (learns.passes.honest honest) left (tells.crash honest left found);
+    }
+    told (Ok (Some added)) tells = λ honest.
+        subst (λ (R : Content). added ≡ new_among (take learns.learned rs) R) (same honest)
+        (tells honest)
+    told (Err (exchange.Learn count cause)) tells = λ honest.
+        subst (λ (R : Content). StopsAt R rs learns.learned cause) (same honest) (tells honest)
+    told (Err (exchange.Store fault)) tells = tells
+    told (Err exchange.Frame) tells = absurd tells
+    told (Err exchange.WrongArchive) tells = absurd tells
+    told (Err exchange.OutOfMemory) tells = absurd tells
+    told (Err exchange.SelfPeer) tells = absurd tells
+    told (Err exchange.TooLong) tells = absurd tells
+    told (Err exchange.PeerFormat) tells = absurd tells
+    told (Err exchange.AheadOfClock) tells = absurd tells
+    told (Err exchange.NotAdmitted) tells = absurd tells
+
+-- so they are where it may have been asked how many records of its own number it holds
+ahead_behind : {A : Type 0} (state : A → Store) (asks : Bool) (v w : A) (held : Option ℕ)
+    (c : Store) (start last : DialogState) (waiting : List ℕ)
+    (result : Result (Option ℕ) ExchangeFault) → AsksOwn state asks v w (Ok held)
+    → LearnsAhead (state w) c start last (first_records (party_of (state w)) start waiting) result
+    → LearnsAhead (state v) c start last (first_records (party_of (state v)) start waiting) result
+ahead_behind state true v w held c start last waiting result asked learns =
+    learned_behind (state v) (state w) c start last
+    (first_records (party_of (state v)) start waiting) result asked.stays asked.leaves
+    (subst (λ (p : Party). LearnsAhead (state w) c start last (first_records p start waiting)
+    result) (same_party (state v) (state w) [] asked.leaves.passes) learns)
+ahead_behind {A} state false v w held c start last waiting result same learns =
+    subst (λ (u : A). LearnsAhead (state u) c start last
+    (first_records (party_of (state u)) start waiting) result) same.0 learns
 
 module _ {A C L : Type 0} (state : A → Store) where
   pub client_turns : (gave : C → List ℤ → C → Type 0) (told : Telling L) (stay : Stay)
@@ -105,6 +178,44 @@ module _ {A C L : Type 0} (state : A → Store) where
             talks = talks_behind _ _ _ _ _ _ _ _ _ kept.0 kept.1 answers.talks;
             unforged = unforged;
             part = told_part answers.said made answers.ends ending answers.tells;
+          };
+          honest = honest;
+          goes = goes;
+        };
+        now = refl;
+      }
+
+  pub learning_turns : (gave : C → List ℤ → C → Type 0) (v w : World A C L) (peer : PeerDialog)
+      (made : List ℕ) (ending : Option ConversationEnding) (next : OtherEnd) (old : Plant A)
+      (place : ℕ) (later : A) → LearnsFromPeer state gave v peer made ending w next
+      → AreUnforged old.written (party_of (state v.server.replica.archive))
+      (option_to_list (first_frame peer.frames.waiting))
+      → IsMachine state old.machines place v.server.replica.archive
+      → (state w.server.replica.archive).honest
+      → RestartsAs (state w.server.replica.archive) (state later)
+      → IsLearningTurn state old (plant_after old place later made)
+  learning_turns gave v w peer made ending next old place later learns unforged there honest goes =
+      record {
+        place = place;
+        before = v.server.replica.archive;
+        later = later;
+        made = made;
+        there = there;
+        acts = record {
+          behind = w.server.replica.archive;
+          does = record {
+            start = peer.dialog;
+            last = learns.last;
+            came = peer.frames.waiting;
+            result = learns.result;
+            said = learns.said;
+            ends = learns.ends;
+            learns = ahead_behind state _ v.server.replica.archive learns.between learns.held
+                (state w.server.replica.archive) peer.dialog learns.last peer.frames.waiting
+                learns.result learns.asks learns.learns;
+            unforged = unforged;
+            told = learns.told;
+            part = told_part learns.said made learns.ends ending learns.tells;
           };
           honest = honest;
           goes = goes;

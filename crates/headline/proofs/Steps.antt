@@ -1,5 +1,5 @@
 -- What happens at a plant, turn by turn, is what happens to the replicas of a past.
-use Rattle.std.proofs.Common.{◌≡◌, ◌<◌, ◌^◌, ℕ, List, [], ◌∷◌, ◌++◌, map, length, Option, Some, None, Result, Ok, Err, refl, sym, ap, ◌∙◌, subst, inl, inr}
+use Rattle.std.proofs.Common.{◌≡◌, ◌<◌, ◌^◌, ℕ, List, [], ◌∷◌, ◌++◌, map, length, Option, Some, None, option_to_list, Result, Ok, Err, refl, sym, ap, ◌∙◌, subst, inl, inr}
 use Rattle.std.specs.Prelude.{slice_set}
 use Rattle.std.specs.List.{AllByRecursion}
 use Rattle.std.specs.Option.{option_map_or}
@@ -10,13 +10,18 @@ use Rattle.records.specs.declared.record.Record.{Record}
 use Rattle.records.proofs.ContentLemmas.{has_from_append}
 use Rattle.archive.specs.Store.{Store}
 use Rattle.archive.proofs.Acting.{left-alone, left-stays}
+use Rattle.counted_io.specs.declared.fault.ServeFault.{ServeFault}
+use Rattle.conversation.specs.Admitting.{TellsAhead}
 use Rattle.exchange.specs.declared.fault.ExchangeFault.{ExchangeFault}
 use Rattle.exchange.specs.declared.message.Message.TheVariants.{Asks, Ends}
 use Rattle.exchange.specs.declared.message.State.{State}
 use Rattle.exchange.specs.Fault.{exchange_number}
+use Rattle.exchange.specs.Admissions.{first_frame}
+use Rattle.exchange.specs.Ahead.{first_records}
 use Rattle.exchange.specs.Messages.{Party}
-use Rattle.exchange.specs.Dialogs.{Greets, TellsFault, title_by, unfit, records_read, party_of}
+use Rattle.exchange.specs.Dialogs.{DialogState, Greets, TellsFault, title_by, unfit, received, records_read, party_of}
 use Rattle.exchange.specs.Frames.{message_at}
+use Rattle.exchange.specs.Streams.{FrameContent}
 use Rattle.exchange.specs.Running.{AreSites, IsSiteOf}
 use Rattle.exchange.specs.Worlds.{ReplicaState, World, Event, IsReplicaAt, IsConsistent, run}
 use Rattle.exchange.proofs.ConverseLemmas.{IsParty, title_spelled}
@@ -24,16 +29,17 @@ use Rattle.exchange.proofs.HappenLemmas.{site_there, sites_set}
 use Rattle.ua_peers.specs.Events.{IsSent, WereSent, IsExchange}
 use Rattle.ua_peers.specs.Peers.{Taken, Side, side_of, side_after}
 use Rattle.ua_peers.specs.Wires.{IsStartOf}
+use Rattle.ua_peers.specs.declared.peers.PeerEnded.{PeerEnded}
 use Rattle.ua_peers.proofs.Exchanged.{run_append}
 use Rattle.ua_peers.proofs.Joined.{numbered}
 use Rattle.headline.specs.Answers.{IsInUse}
 use Rattle.headline.specs.Executions.{IsLawfulEvent, Execution, IsExecution}
 use Rattle.headline.specs.Machines.{Simulates}
-use Rattle.headline.specs.Plants.{records_at, BringsSent, AreUnforged, IsReplaced, AreLawfulBatches, AnswersMessage, AnswersFrames, BeginsCall, Plant, IsNewPlant, PlantSimulates, PlantExtendsTo, RefusesRecords, TakesTurn, IsClientTurn, IsPeerTurn, IsCallTurn, IsRefusalTurn, IsRestart, IsPlantStep, ArePlantSteps, AreSimulated}
+use Rattle.headline.specs.Plants.{records_at, BringsSent, AreUnforged, IsReplaced, AreLawfulBatches, AnswersMessage, AnswersFrames, BeginsCall, Plant, IsNewPlant, PlantSimulates, PlantExtendsTo, LearnsRecords, RefusesRecords, TakesTurn, IsClientTurn, IsPeerTurn, IsCallTurn, IsLearningTurn, IsRefusalTurn, IsRestart, IsPlantStep, ArePlantSteps, AreSimulated}
 use Rattle.headline.proofs.Machines.{begun, restarted, simulates_on, set_by, all_there, all_set, updates_lawful, exchange_lawful, in_site, goes_as, lawful_later, ends_at}
 use Rattle.headline.proofs.Times.{sound_at, replica_at, lawful_at}
 use Rattle.headline.proofs.Streams.{frame_in}
-use Rattle.headline.proofs.Turns.{IsWord, answer_made, frames_made, keeps_run, brings_on, brings_word}
+use Rattle.headline.proofs.Turns.{IsWord, answer_made, frames_made, ahead_made, keeps_run, brings_on, brings_word}
 
 -- ---- frames that come
 
@@ -42,25 +48,41 @@ brings_part : (pool : List (List Record)) (made said : List ℕ) → IsStartOf m
 brings_part pool made said part brings frame is p =
     brings frame (frame_in frame made said part is) p
 
--- frames that aren't forged bring what was sent, however the end stands that takes them
+-- a frame that isn't forged brings what was sent, however the end stands that reads it
+one_sent : (written : List (List ℕ)) (pool : List (List Record)) (p : Party) (s : DialogState)
+    (frame : FrameContent) → ((bytes : List ℕ) → Has written bytes → BringsSent pool bytes)
+    → AreUnforged written p (frame ∷ [])
+    → IsSent pool (records_read (received p s frame.kind frame.body))
+one_sent written pool p s frame brings are = go (unfit s frame.kind) (elim are.0 [
+  | inl none ↦ inl none
+  | inr was ↦ brings was.0 was.1 frame was.2 p
+])
+  where
+    go : (o : Option ExchangeFault) → IsSent pool (records_at p frame)
+        → IsSent pool (records_read
+        (option_map_or (λ f. Err f) o (message_at p frame.kind frame.body)))
+    go None was = was
+    go (Some f) was = inl refl
+
+-- so do the frames that an end takes
 unforged_sent : (written : List (List ℕ)) (pool : List (List Record)) (p : Party)
     (taken : List Taken) (side : Side)
     → ((bytes : List ℕ) → Has written bytes → BringsSent pool bytes)
     → AreUnforged written p (map (λ t. t.frame) taken) → WereSent pool p side taken
 unforged_sent written pool p [] side brings are = tt
 unforged_sent written pool p (t ∷ ts) side brings are = (
-  go (unfit side.standing t.frame.kind) (elim are.0 [
-    | inl none ↦ inl none
-    | inr was ↦ brings was.0 was.1 t.frame was.2 p
-  ]),
+  one_sent written pool p side.standing t.frame brings (are.0, tt),
   unforged_sent written pool p ts (side_after p side t) brings are.1,
 )
-  where
-    go : (o : Option ExchangeFault) → IsSent pool (records_at p t.frame)
-        → IsSent pool (records_read
-        (option_map_or (λ f. Err f) o (message_at p t.frame.kind t.frame.body)))
-    go None was = was
-    go (Some f) was = inl refl
+
+-- and the one that stands first, if it is whole
+first_sent : (written : List (List ℕ)) (pool : List (List Record)) (p : Party) (s : DialogState)
+    (o : Option FrameContent) → ((bytes : List ℕ) → Has written bytes → BringsSent pool bytes)
+    → AreUnforged written p (option_to_list o)
+    → IsSent pool (option_map_or (λ frame. records_read (received p s frame.kind frame.body)) o [])
+first_sent written pool p s None brings are = inl refl
+first_sent written pool p s (Some frame) brings are =
+    one_sent written pool p s frame brings are
 
 exchanges_lawful : (i : ℕ) (events : List Event) → AllByRecursion (IsExchange i) events
     → AllByRecursion IsLawfulEvent events
@@ -74,6 +96,14 @@ fault_word : (pool : List (List Record)) (fault : ExchangeFault)
 fault_word pool fault told said (inl tells) = let n = numbered fault in
     inr (Ends (exchange_number fault), subst (λ k. k < 2 ^ 32) (sym n.2) n.1, tells.1, inl refl)
 fault_word pool fault told said (inr none) = inl none.1
+
+-- what is said where records were to be learned ahead brings no records
+ahead_word : (pool : List (List Record)) (result : Result (Option ℕ) ExchangeFault)
+    (said : List ℕ) (ends : Option (Result PeerEnded ServeFault)) → TellsAhead result said ends
+    → IsWord pool said
+ahead_word pool (Ok None) said ends tells = absurd tells
+ahead_word pool (Ok (Some added)) said ends tells = inl tells.0
+ahead_word pool (Err fault) said ends tells = fault_word pool fault tells.0 said tells.1
 
 -- ---- the past
 
@@ -256,6 +286,25 @@ module _ {A : Type 0} (state : A → Store) where
       word frame (Err f) greets x =
           brings_word (run p.events p.start).pool frame (inl greets.kept.1)
 
+  pub peer_learned : (p : Execution) (old new : Plant A) → PlantSimulates state p old
+      → IsLearningTurn state old new → PlantExtendsTo state p new
+  peer_learned p old new are turn =
+      let x = there (LearnsRecords old.written) p old new are turn in
+      let does = turn.acts.does in
+      let w : World = run p.events p.start in
+      let a : Store = state turn.before in
+      let made = ahead_made a (state turn.acts.behind) does.start does.last
+      (first_records (party_of a) does.start does.came) does.result does.learns x.used.durable
+      x.used.unbroken turn.acts.honest w turn.place x.s (state turn.later).content
+      turn.acts.goes.content
+      (first_sent old.written w.pool (party_of a) does.start (first_frame does.came) are.written
+      does.unforged) x.at x.content in
+      let pool : List (List Record) = (run made.events w).pool in
+      turned (LearnsRecords old.written) p old new are turn x.s x.at x.is does.learns.passes.id
+      does.learns.passes.own made.events (exchanges_lawful turn.place made.events made.are)
+      made.after (brings_part pool turn.made does.said does.part (brings_word pool does.said
+      (ahead_word pool does.result does.said does.ends does.told)))
+
   pub peer_refused : (p : Execution) (old new : Plant A) → PlantSimulates state p old
       → IsRefusalTurn state old new → PlantExtendsTo state p new
   peer_refused p old new are turn =
@@ -298,7 +347,8 @@ module _ {A : Type 0} (state : A → Store) where
       → IsPlantStep state old new → PlantExtendsTo state p new
   stepped p old new are (inl (inl turn)) = client_served p old new are turn
   stepped p old new are (inl (inr (inl turn))) = peer_served p old new are turn
-  stepped p old new are (inl (inr (inr turn))) = peer_refused p old new are turn
+  stepped p old new are (inl (inr (inr (inl turn)))) = peer_learned p old new are turn
+  stepped p old new are (inl (inr (inr (inr turn)))) = peer_refused p old new are turn
   stepped p old new are (inr (inl turn)) = peer_called p old new are turn
   stepped p old new are (inr (inr restarts)) = one_restarted p old new are restarts
 

@@ -25,6 +25,7 @@ use Rattle.ua_settings.specs.Settings.{SettingsValues}
 use Rattle.counted_io.specs.declared.fault.ServeFault.{ServeFault}
 use Rattle.exchange.specs.declared.fault.ExchangeFault.{ExchangeFault}
 use Rattle.exchange.specs.declared.fault.ExchangeFault.TheVariants as exchange
+use Rattle.exchange.specs.Ahead.{LearnsAhead}
 use Rattle.exchange.specs.declared.message.FrameKind.{FrameKind}
 use Rattle.exchange.specs.declared.message.FrameKind.TheVariants.{Vector, Records, End}
 use Rattle.exchange.specs.Messages.{Party, Header, Message}
@@ -460,6 +461,44 @@ record Comes (w : World) (i : ℕ) (s : ReplicaState) (R : Content)
   lawful : AreLawfulBatches (run events w).pool
   words : AllByRecursion (λ t. IsWord (run events w).pool t.said) taken
 
+-- events by which the replica comes to hold this, where nothing was sent
+pub record Arrives (w : World) (i : ℕ) (s : ReplicaState) (R : Content) : Type 0 where
+  pub events : List Event
+  pub are : AllByRecursion (IsExchange i) events
+  pub after : IsReplaced w (run events w) i s R
+  pub pool : (run events w).pool ≡ w.pool
+
+-- so many first records come to the replica, if there are any
+arrived : (w : World) (i : ℕ) (s : ReplicaState) (A R : Content) (rs : List Record) (n : ℕ)
+    → IsReplicaAt w i s → s.content ≡ A → IsSent w.pool rs → R ≡ merged (take n rs) A
+    → Arrives w i s R
+arrived w i s A R rs n at same (inl none) is =
+    let stays : R ≡ s.content =
+    is ∙ (ap (λ (l : List Record). merged (take n l) A) none ∙ (merged_none n A ∙ sym same)) in
+    record {
+      events = [];
+      are = tt;
+      after = record {
+        here = subst (λ (S : Content). IsReplicaAt w i (record s { content = S })) (sym stays) at;
+        others = λ j other. refl;
+      };
+      pool = refl;
+    }
+arrived w i s A R rs n at same (inr q) is =
+    let came = delivered_here w i s q.0 n rs at q.1 in
+    let now : merged (take n rs) s.content ≡ R = ap (merged (take n rs)) same ∙ sym is in
+    record {
+      events = Delivers i q.0 n ∷ [];
+      are = (inr (q.0, n, refl), tt);
+      after = record {
+        here = subst (λ (S : Content).
+            IsReplicaAt (after_event w (Delivers i q.0 n)) i (record s { content = S }))
+            now came.here;
+        others = came.others;
+      };
+      pool = came.pool;
+    }
+
 module _ (p : Party) (party : IsParty p) (i : ℕ) where
   -- one frame, of whose records so many are learned
   one_comes : (w : World) (s : ReplicaState) (side : Side) (t : Taken) (n : ℕ) (R : Content)
@@ -486,35 +525,13 @@ module _ (p : Party) (party : IsParty p) (i : ℕ) where
 
       -- it is answered by no records
       plain : ((pool : List (List Record)) → IsWord pool t.said) → Comes w i s R (t ∷ [])
-      plain word = elim was [
-        | inl none ↦ record {
-          events = [];
-          are = tt;
-          after = record {
-            here = subst (λ (S : Content). IsReplicaAt w i (record s { content = S }))
-                (sym (stays none)) at;
-            others = λ j other. refl;
-          };
-          lawful = lawful;
-          words = (word w.pool, tt);
-        }
-        | inr q ↦
-            let came = delivered_here w i s q.0 n rs at q.1 in
-            let now : merged (take n rs) s.content ≡ R =
-            ap (merged (take n rs)) same ∙ sym is in
-            record {
-              events = Delivers i q.0 n ∷ [];
-              are = (inr (q.0, n, refl), tt);
-              after = record {
-                here = subst (λ (S : Content).
-                    IsReplicaAt (after_event w (Delivers i q.0 n)) i (record s { content = S }))
-                    now came.here;
-                others = came.others;
-              };
-              lawful = lawful;
-              words = (word w.pool, tt);
-            }
-      ]
+      plain word = let came = arrived w i s side.content R rs n at same was is in record {
+        events = came.events;
+        are = came.are;
+        after = came.after;
+        lawful = subst AreLawfulBatches (sym came.pool) lawful;
+        words = (word (run came.events w).pool, tt);
+      }
 
       go : IsSaying p side.content rs (turn_of p side t).content t.said → Comes w i s R (t ∷ [])
       go (inl none) = plain (λ pool. inl none)
@@ -691,3 +708,21 @@ module _ (a b : Store) (start last : DialogState) (came out rest : List ℕ)
         subst AreWholeFrames (sym talks.wrote)
             (words_whole pool talks.taken talks.beside come.words beside),
       )
+
+-- ---- records that are learned ahead of their frame's turn
+
+module _ (a b : Store) (start last : DialogState) (rs : List Record)
+    (result : Result (Option ℕ) ExchangeFault) (learns : LearnsAhead a b start last rs result)
+    (rests : IsQuiescent a) (whole : a.broken ≡ false) (honest : b.honest) where
+  -- what the archive is left with is what it held, with some first ones of them
+  ahead_left : (R : Content) → IsLeft b R → (k : ℕ) × (R ≡ merged (take k rs) a.content)
+  ahead_left R (inl held) = (learns.learned, sym held.1 ∙ learns.content honest held.0)
+  ahead_left R (inr found) = elim (learns.crash honest R found) [
+    | inl before ↦ (0, (rests (learns.passes.honest honest) whole).only R before.0)
+    | inr more ↦ (more.1, more.4)
+  ]
+
+  pub ahead_made : (w : World) (i : ℕ) (s : ReplicaState) (R : Content) → IsLeft b R
+      → IsSent w.pool rs → IsReplicaAt w i s → s.content ≡ a.content → Arrives w i s R
+  ahead_made w i s R left was at same = let k = ahead_left R left in
+      arrived w i s a.content R rs k.0 at same was k.1

@@ -1,6 +1,6 @@
 -- Plants: machines that serve many clients and peers at once. What happens is one turn after the
 -- other, each at one machine, and turns of its other connections come in between.
-use Rattle.std.specs.Prelude.{◌≡◌, ◌⊎◌, ⊤, ℕ, List, [], ◌∷◌, ◌++◌, map, slice_get, slice_set, Option, Result}
+use Rattle.std.specs.Prelude.{◌≡◌, ◌⊎◌, ⊤, ℕ, List, [], ◌∷◌, ◌++◌, map, slice_get, slice_set, Option, option_to_list, Result}
 use Rattle.std.specs.List.{AllByRecursion, flat_map}
 use Rattle.records.specs.Lists.{Has}
 use Rattle.records.specs.Contents.{Content}
@@ -11,6 +11,8 @@ use Rattle.archive.specs.declared.fault.StoreFault.{StoreFault}
 use Rattle.archive.specs.Store.{Store, CountsFaults, KeepsContent}
 use Rattle.counted_io.specs.declared.fault.ServeFault.{ServeFault}
 use Rattle.exchange.specs.declared.fault.ExchangeFault.{ExchangeFault}
+use Rattle.exchange.specs.Admissions.{first_frame}
+use Rattle.exchange.specs.Ahead.{first_records, LearnsAhead}
 use Rattle.exchange.specs.Messages.{Party}
 use Rattle.exchange.specs.declared.message.State.{State}
 use Rattle.exchange.specs.Dialogs.{DialogState, Greets, TellsFault, party_of, records_read}
@@ -24,6 +26,7 @@ use Rattle.ua_peers.specs.Events.{IsSent}
 use Rattle.ua_peers.specs.Peers.{Talks}
 use Rattle.ua_peers.specs.Wires.{IsStartOf}
 use Rattle.ua_peers.specs.declared.peers.PeerEnded.{PeerEnded}
+use Rattle.conversation.specs.Admitting.{TellsAhead}
 use Rattle.headline.specs.Executions.{Execution}
 use Rattle.headline.specs.Machines.{RestartsAs, Extends, IsMachine, AreNew, Simulates, Restarts}
 
@@ -106,6 +109,21 @@ BeginsCall old new made =
     (frame : List ℕ) × (result : Result (Unit {0}) ExchangeFault)
     × Greets old new [] frame result × IsStartOf made frame
 
+-- some first records of a frame of a dialog with a peer were learned ahead of the frame's turn, and
+-- so much of what tells why the next one wasn't, if it wasn't, was written
+pub record LearnsRecords (written : List (List ℕ)) (old new : Store)
+    (made : List ℕ) : Type 0 where
+  pub start : DialogState
+  pub last : DialogState
+  pub came : List ℕ
+  pub result : Result (Option ℕ) ExchangeFault
+  pub said : List ℕ
+  pub ends : Option (Result PeerEnded ServeFault)
+  pub learns : LearnsAhead old new start last (first_records (party_of old) start came) result
+  pub unforged : AreUnforged written (party_of old) (option_to_list (first_frame came))
+  pub told : TellsAhead result said ends
+  pub part : IsStartOf made said
+
 -- a peer's records weren't taken: what is held stays, and so much of the frame that tells the peer
 -- why was written; the store may have met faults
 pub record RefusesRecords (old new : Store) (made : List ℕ) : Type 0 where
@@ -183,6 +201,11 @@ module _ {A : Type 0} (state : A → Store) where
   abbrev pub IsCallTurn : Plant A → Plant A → Type 0
   IsCallTurn = TakesTurn BeginsCall
 
+  -- a machine learned some first records of a frame of a peer, who may be anybody, ahead of the
+  -- frame's turn; if it brings any, a machine of the plant wrote it
+  abbrev pub IsLearningTurn : Plant A → Plant A → Type 0
+  IsLearningTurn old = TakesTurn (LearnsRecords old.written) old
+
   -- a machine took no records of a peer
   abbrev pub IsRefusalTurn : Plant A → Plant A → Type 0
   IsRefusalTurn = TakesTurn RefusesRecords
@@ -195,7 +218,8 @@ module _ {A : Type 0} (state : A → Store) where
   -- any of these
   abbrev pub IsPlantStep : Plant A → Plant A → Type 0
   IsPlantStep old new =
-      (IsClientTurn old new ⊎ (IsPeerTurn old new ⊎ IsRefusalTurn old new))
+      (IsClientTurn old new
+      ⊎ (IsPeerTurn old new ⊎ (IsLearningTurn old new ⊎ IsRefusalTurn old new)))
       ⊎ (IsCallTurn old new ⊎ IsRestart old new)
 
   -- each of these plants came of the one before it by a step

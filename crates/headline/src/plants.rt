@@ -1,6 +1,6 @@
 //! The laws of one turn, and of machines that take turns.
 
-ghost use Rattle.std.specs.Prelude.{◌≡◌, ℕ, false, List, [], ◌∷◌, map, length, Option, Result, Ok};
+ghost use Rattle.std.specs.Prelude.{◌≡◌, ℕ, false, List, [], ◌∷◌, map, length, Option, option_to_list, Result, Ok};
 ghost use Rattle.std.specs.Option.{option_map_or};
 ghost use Rattle.std.specs.List.{AllByRecursion};
 ghost use Rattle.records.specs.Lists.{Has};
@@ -13,6 +13,7 @@ ghost use Rattle.counted_io.specs.declared.fault.ServeFault.{ServeFault as Fault
 ghost use Rattle.exchange.specs.Messages.{Party, Message};
 ghost use Rattle.exchange.specs.declared.message.State.{State as Standing};
 ghost use Rattle.exchange.specs.Dialogs.{DialogState, party_of, turned};
+ghost use Rattle.exchange.specs.Admissions.{first_frame};
 ghost use Rattle.exchange.specs.Frames.{frame_of};
 ghost use Rattle.exchange.specs.Streams.{FrameContent, AreFrames};
 ghost use Rattle.exchange.specs.Worlds.{World, ReplicaState as Replica, Event, IsReplicaAt, IsUpdated, AreUpdates, run};
@@ -28,12 +29,12 @@ ghost use Rattle.conversation.specs.declared.other_end.PeerDialog.{PeerDialog};
 ghost use Rattle.conversation.specs.declared.world.World.{World as Shared};
 ghost use Rattle.multiplex.specs.declared.stay.Stay.{Stay};
 ghost use Rattle.conversation.specs.OtherEnds.{ConversationEnding};
-ghost use Rattle.conversation.specs.Answering.{AnswersClient, AnswersPeer, RefusesPeer};
+ghost use Rattle.conversation.specs.Answering.{AnswersClient, AnswersPeer, LearnsFromPeer, RefusesPeer};
 ghost use Rattle.conversation.specs.Starting.{StartsCall};
 ghost use Rattle.headline.specs.Calls.{WasHeld, CallState, GoesBy, call_begun};
 ghost use Rattle.headline.specs.Executions.{Execution, IsExecution};
 ghost use Rattle.headline.specs.Machines.{RestartsAs, IsMachine};
-ghost use Rattle.headline.specs.Plants.{BringsSent, IsReplaced, AreLawfulBatches, AreUnforged, AreWholeFrames, CameOver, Plant, plant_after, IsNewPlant, PlantSimulates, PlantExtendsTo, IsClientTurn, IsPeerTurn, IsCallTurn, IsRefusalTurn, IsRestart, ArePlantSteps, AreSimulated};
+ghost use Rattle.headline.specs.Plants.{BringsSent, IsReplaced, AreLawfulBatches, AreUnforged, AreWholeFrames, CameOver, Plant, plant_after, IsNewPlant, PlantSimulates, PlantExtendsTo, IsClientTurn, IsPeerTurn, IsCallTurn, IsLearningTurn, IsRefusalTurn, IsRestart, ArePlantSteps, AreSimulated};
 
 use archive::Archive;
 use conversation::Log;
@@ -95,12 +96,13 @@ pub fn connections_forge_nothing()
 {}
 
 /// The headline of plants: machines that serve many clients and peers at once are replicas of a past. A plant that begins with nothing
-/// simulates the empty past, and each thing that happens leads on to a past that goes on behind it: a client's message is answered,
-/// frames of a peer are, or its records aren't taken, a call to a peer begins, a machine is stopped and its store opened anew; also where the store broke in the midst of
-/// a turn. These come in any order at any machines, so that between two frames of one dialog anything may happen to both its ends. A peer may
-/// be anybody and say anything, and what is written to it may be lost, come late, twice or in pieces; but records that it brings were in a frame
-/// that a machine of the plant wrote. So at each moment the machines hold what replicas do, and the laws of replicas hold of them, as
-/// `machines_simulate_an_execution` says of what `Simulates`: that two whose vectors are equal answer a read of a node's history alike.
+/// simulates the empty past, and each thing that happens leads on to a past that goes on behind it: a client's message is answered, frames of a
+/// peer are, some first records are learned of a frame that is learned over several turns, records of a peer aren't taken, a call to a peer
+/// begins, a machine is stopped and its store opened anew; also where the store broke in the midst of a turn. These come in any order at any
+/// machines, so that between two frames of one dialog anything may happen to both its ends. A peer may be anybody and say anything, and what is
+/// written to it may be lost, come late, twice or in pieces; but records that it brings were in a frame that a machine of the plant wrote. So
+/// at each moment the machines hold what replicas do, and the laws of replicas hold of them, as `machines_simulate_an_execution` says of what
+/// `Simulates`: that two whose vectors are equal answer a read of a node's history alike.
 pub fn plants_simulate_an_execution<A: Archive>()
     ensures begin { (plant : Plant A) → IsNewPlant A.state plant
         → (p : Execution) × (p.events ≡ []) × PlantSimulates A.state p plant }
@@ -108,6 +110,8 @@ pub fn plants_simulate_an_execution<A: Archive>()
         → IsClientTurn A.state old new → PlantExtendsTo A.state p new }
     ensures peer { (p : Execution) (old new : Plant A) → PlantSimulates A.state p old
         → IsPeerTurn A.state old new → PlantExtendsTo A.state p new }
+    ensures learning { (p : Execution) (old new : Plant A) → PlantSimulates A.state p old
+        → IsLearningTurn A.state old new → PlantExtendsTo A.state p new }
     ensures refusal { (p : Execution) (old new : Plant A) → PlantSimulates A.state p old
         → IsRefusalTurn A.state old new → PlantExtendsTo A.state p new }
     ensures call { (p : Execution) (old new : Plant A) → PlantSimulates A.state p old
@@ -119,8 +123,9 @@ pub fn plants_simulate_an_execution<A: Archive>()
         → AreSimulated A.state p later }
 {}
 
-/// What is answered on one connection of many (`conversation`) is a turn of a machine of any plant: a client's message, frames of a peer, as
-/// long as they aren't forged, records of a peer that aren't taken, and the beginning of a call. So what a loop over many connections makes of a machine's archive is turns of a plant.
+/// What is answered on one connection of many (`conversation`) is a turn of a machine of any plant: a client's message; frames of a peer, or
+/// some first records of one that is learned over several turns, as long as they aren't forged; records of a peer that aren't taken; and the
+/// beginning of a call. So what a loop over many connections makes of a machine's archive is turns of a plant.
 pub fn conversations_take_turns<A: Archive, C: Clock, L: Log>()
     ensures client { (stay : Stay) (v w : Shared A C L) (link : ConnectionState) (made : List ℕ)
         (ending : Option ConversationEnding) (next : OtherEnd) (old : Plant A) (place : ℕ)
@@ -138,6 +143,15 @@ pub fn conversations_take_turns<A: Archive, C: Clock, L: Log>()
         → (A.state w.server.replica.archive).honest
         → RestartsAs (A.state w.server.replica.archive) (A.state later)
         → IsPeerTurn A.state old (plant_after old place later made) }
+    ensures learning { (v w : Shared A C L) (peer : PeerDialog) (made : List ℕ)
+        (ending : Option ConversationEnding) (next : OtherEnd) (old : Plant A) (place : ℕ)
+        (later : A) → LearnsFromPeer A.state C.gave v peer made ending w next
+        → AreUnforged old.written (party_of (A.state v.server.replica.archive))
+        (option_to_list (first_frame peer.frames.waiting))
+        → IsMachine A.state old.machines place v.server.replica.archive
+        → (A.state w.server.replica.archive).honest
+        → RestartsAs (A.state w.server.replica.archive) (A.state later)
+        → IsLearningTurn A.state old (plant_after old place later made) }
     ensures refusal { (v w : Shared A C L) (peer : PeerDialog) (made : List ℕ)
         (ending : Option ConversationEnding) (next : OtherEnd) (old : Plant A) (place : ℕ)
         (later : A) → RefusesPeer A.state C.gave v peer made ending w next

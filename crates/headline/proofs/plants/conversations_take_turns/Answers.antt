@@ -1,4 +1,4 @@
-use Rattle.headline.proofs.Conversations.{client_turns, peer_turns, refusal_turns, call_turns}
+use Rattle.headline.proofs.Conversations.{client_turns, peer_turns, learning_turns, refusal_turns, call_turns}
 use Rattle.headline.proofs.plants.conversations_take_turns.Goals as goal
 
 pub returns-clause-client : goal.returns-clause-client
@@ -6,6 +6,9 @@ returns-clause-client g c = client_turns g.A.Archive.state g.C.Clock.gave g.L.Lo
 
 pub returns-clause-peer : goal.returns-clause-peer
 returns-clause-peer g c = peer_turns g.A.Archive.state g.C.Clock.gave
+
+pub returns-clause-learning : goal.returns-clause-learning
+returns-clause-learning g c = learning_turns g.A.Archive.state g.C.Clock.gave
 
 pub returns-clause-refusal : goal.returns-clause-refusal
 returns-clause-refusal g c = refusal_turns g.A.Archive.state g.C.Clock.gave

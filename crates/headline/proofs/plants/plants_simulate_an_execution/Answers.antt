@@ -1,4 +1,4 @@
-use Rattle.headline.proofs.Steps.{plant_begun, client_served, peer_served, peer_refused, peer_called, one_restarted, all_stepped}
+use Rattle.headline.proofs.Steps.{plant_begun, client_served, peer_served, peer_learned, peer_refused, peer_called, one_restarted, all_stepped}
 use Rattle.headline.proofs.plants.plants_simulate_an_execution.Goals as goal
 
 pub returns-clause-begin : goal.returns-clause-begin
@@ -9,6 +9,9 @@ returns-clause-client g c = client_served g.A.Archive.state
 
 pub returns-clause-peer : goal.returns-clause-peer
 returns-clause-peer g c = peer_served g.A.Archive.state
+
+pub returns-clause-learning : goal.returns-clause-learning
+returns-clause-learning g c = peer_learned g.A.Archive.state
 
 pub returns-clause-refusal : goal.returns-clause-refusal
 returns-clause-refusal g c = peer_refused g.A.Archive.state
