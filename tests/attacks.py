@@ -619,7 +619,7 @@ def descriptors():
         before = server.seconds()
         time.sleep(5)
         used = server.seconds() - before
-        note(f"at 40 descriptors {served} of 150 connections were greeted; beside them it took {used:.2f} s of a processor in 5 s")
+        tell(served == 23 and used < 0.5, f"at 40 descriptors {served} of 150 connections were greeted, as many as fit beside a client; with them it took {used:.2f} s of a processor in 5 s", (served, used))
         for one in lines:
             one.close()
         time.sleep(1)
@@ -630,6 +630,7 @@ def descriptors():
     said = server.stop().splitlines()
     shapes = collections.Counter(re.sub(r"\d+", "N", line) for line in said)
     tell(any("40 descriptors are too few" in line for line in said), "at the begin it said that 40 are too few", said[:3])
+    tell(not any("connection ended" in line for line in said), "no connection failed for want of a descriptor", said[:5])
     tell(len(said) < 100, f"and all in all {len(said)} lines: " + "; ".join(f"{count} times {line}" for line, count in shapes.items()), len(said))
 
 

@@ -26,6 +26,17 @@ fn wanted(listening: &Listening) -> usize {
         .saturating_add(OTHERS)
 }
 
+/// How many connections that come fit at a time, those who wait for a place among them, beside all calls: one at least.
+pub(crate) fn fitting(rt: &HostRuntime, listening: &Listening) -> usize {
+    match most(rt) {
+        None => usize::MAX,
+        Some(most) => most
+            .saturating_sub(listening.callees.len())
+            .saturating_sub(OTHERS)
+            .max(1),
+    }
+}
+
 /// Tells by a line on standard error where serving may take more than may be open.
 pub(crate) fn tell_few(rt: &HostRuntime, listening: &Listening) -> io::Result<()> {
     let wanted = wanted(listening);

@@ -1,5 +1,6 @@
 //! Connections over TCP whose reads and writes don't wait.
 
+use crate::descriptors;
 use crate::ends::{Incoming, Outgoing};
 use crate::waiting::{FIRST_WAITING, WaitingRoom};
 use mio::net::{TcpListener, TcpStream};
@@ -66,6 +67,10 @@ pub(crate) struct TcpSource<'a> {
     browsers: Vec<bool>,
     /// How many connections of browsers are taken at a time.
     most_browsers: usize,
+    /// How many slots have a connection that came.
+    open: usize,
+    /// How many that came fit at a time, those who wait among them.
+    fitting: usize,
     start: Instant,
 }
 
@@ -82,6 +87,7 @@ impl<'a> TcpSource<'a> {
             Ok(source) => source,
             Err(error) => return Err((door, error.kind())),
         };
+        source.fitting = descriptors::fitting(rt, listening);
         match source.open(listening.clients, door) {
             Ok(()) => {}
             Err(error) => return Err((door, error.kind())),
@@ -117,6 +123,8 @@ impl<'a> TcpSource<'a> {
             ready: Vec::new(rt.alloc()),
             browsers: Vec::new(rt.alloc()),
             most_browsers: 0,
+            open: 0,
+            fitting: 0,
             start: Instant::now(rt)?,
         })
     }
@@ -176,14 +184,20 @@ impl<'a> TcpSource<'a> {
         None
     }
 
-    /// Whether somebody may come to this doorway, and would be taken: of browsers so many are at a time.
+    /// Whether somebody may come to this doorway, and would be taken: of browsers so many are at a time, and of all as many as
+    /// fit.
     fn may_come(&self, place: usize) -> bool {
-        match self.doorways.get(place) {
-            None => false,
-            Some(doorway) => {
-                doorway.is_coming && (doorway.door != Door::Browsers || self.takes_browsers())
-            }
-        }
+        let Some(doorway) = self.doorways.get(place) else {
+            return false;
+        };
+        doorway.is_coming
+            && self.takes_any()
+            && (doorway.door != Door::Browsers || self.takes_browsers())
+    }
+
+    /// Whether a descriptor is left for one more.
+    fn takes_any(&self) -> bool {
+        self.open.saturating_add(self.room.count()) < self.fitting
     }
 
     /// Whether one browser more is taken.
@@ -234,6 +248,7 @@ impl<'a> TcpSource<'a> {
         origin: Origin,
     ) -> io::Result<(Incoming, Outgoing, Origin)> {
         let (reader, writer) = self.watch(slot, stream)?;
+        self.open = self.open.saturating_add(1);
         if let Some(here) = self.browsers.get_mut(slot) {
             *here = origin.listener == Door::Browsers.listener();
         }
@@ -392,10 +407,15 @@ impl Source for TcpSource<'_> {
     fn close(&mut self, slot: usize, reader: Incoming, writer: Outgoing)
         ensures { Unit {0} }
     {
+        let mut is_call = false;
         for callee in self.callees.iter_mut() {
             if callee.slot == Some(slot) {
                 callee.slot = None;
+                is_call = true;
             }
+        }
+        if !is_call {
+            self.open = self.open.saturating_sub(1);
         }
         if let Some(here) = self.browsers.get_mut(slot) {
             *here = false;

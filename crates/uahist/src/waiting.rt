@@ -101,6 +101,11 @@ impl WaitingRoom {
         Some((stream, origin))
     }
 
+    /// How many wait.
+    pub fn count(&self) -> usize {
+        self.waiting.len()
+    }
+
     /// How many wait that came to the listener of this number.
     pub fn count_from(&self, listener: usize) -> usize {
         self.waiting
