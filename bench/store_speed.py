@@ -70,7 +70,7 @@ def of_shell(count):
         key = f"x'0301000100000054', {first + k}, 0"
         rows.append(f"BEGIN; INSERT INTO records2 VALUES (1, {k + 1}, {first + k}, {key}, 1, x'616e6e', x'0106{k:08x}'); INSERT OR REPLACE INTO currents2 VALUES ({key}, {first + k}, 1, 1, 0, x'0106{k:08x}'); "
                     f"INSERT OR REPLACE INTO vectors VALUES (1, {k + 1}, {first + k}); COMMIT;\n")
-    begin = f"PRAGMA journal_mode = WAL; PRAGMA synchronous = FULL;\n{made}"
+    begin = f"PRAGMA page_size = 1024; PRAGMA journal_mode = WAL; PRAGMA synchronous = FULL;\n{made}"
     show(f"{count:,} inserts by the shell", *measured(["sqlite3", store], (begin + "".join(rows)).encode()))
     show(f"{count:,} inserts in memory by the shell", *measured(["sqlite3", ":memory:"], (made + "".join(rows)).encode()))
     page = f"SELECT time, pico, extra, value FROM currents2 WHERE node = x'0301000100000054' AND time >= {first + count // 2} AND time <= {first + count // 2 + 999} AND live = 1 ORDER BY time, pico LIMIT 1001;\n"

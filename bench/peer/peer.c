@@ -416,7 +416,7 @@ int main(int argc, char **argv) {
         return 2;
     if (sqlite3_open(argv[1], &db))
         die("open");
-    run("PRAGMA page_size=4096; PRAGMA journal_mode=WAL; PRAGMA synchronous=FULL; PRAGMA "
+    run("PRAGMA page_size=1024; PRAGMA journal_mode=WAL; PRAGMA synchronous=FULL; PRAGMA "
         "locking_mode=EXCLUSIVE;");
     sqlite3_stmt *q = prep("SELECT count(*) FROM sqlite_master");
     sqlite3_step(q);
