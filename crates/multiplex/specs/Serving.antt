@@ -35,16 +35,18 @@ AsksWhoComes most accepted asked (turn ∷ turns) =
 
 module _ {S H R W V E : Type 0} (source : Effects S R W) (input : Input R) (output : Output W)
     (handler : Behavior H V E) (limits : Limits) where
-  -- a server took its turns, in rounds; where it is done it accepted all that it was to, and each
-  -- slot is free; or its world is over; and else it was waited as often as it was to be
-  pub record HasServed (old new : Loop S H R W V E) (done over : Bool) : Type 0 where
+  -- a server took its turns, in rounds, and accepted so many connections; where it is done they are
+  -- all that it was to accept, and each slot is free; or its world is over; and else it was waited
+  -- as often as it was to be
+  pub record HasServed (old new : Loop S H R W V E) (accepted : ℕ) (done over : Bool)
+      : Type 0 where
     pub turns : List (LoopTurn E)
     pub execution : AreTurns source input output handler limits old turns new
     pub rounds : AreInRounds (length old.slots) turns
     pub asks : AsksWhoComes limits.connections 0 true turns
-    pub most : IfSome limits.connections (λ most. count_accepted turns ≤ most)
-    pub ended : done ≡ true
-        → (limits.connections ≡ Some (count_accepted turns)) × AreAllFree new.slots
+    pub accepts : count_accepted turns ≡ accepted
+    pub most : IfSome limits.connections (λ most. accepted ≤ most)
+    pub ended : done ≡ true → (limits.connections ≡ Some accepted) × AreAllFree new.slots
     pub stops : over ≡ true → handler.is_over new.world ≡ true
     pub spent : done ≡ false → over ≡ false → count_waits turns ≡ limits.rounds
 

@@ -24,6 +24,8 @@ pub struct ServeReport {
     pub is_done: bool,
     /// Whether the world was over before.
     pub is_over: bool,
+    /// How many connections were accepted, failed ones counted.
+    pub accepted: u64,
     /// The longest time that one turn of a connection took, in milliseconds, by the source's clock.
     pub longest_turn: u64,
 }

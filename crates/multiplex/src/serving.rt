@@ -187,7 +187,7 @@ pub fn serve<S: Source, H: Handler>(
     ensures { (first : ℕ) → (last : ℕ)
         × HasServed S.effects S.Reader.input S.Writer.output H.behavior limits
         (state source.old slots.old world.old first) (state source.new slots.new world.new last)
-        result.is_done result.is_over }
+        result.accepted result.is_done result.is_over }
 {
     let mut busy = true;
     let mut accepted = 0;
@@ -197,6 +197,7 @@ pub fn serve<S: Source, H: Handler>(
             return ServeReport {
                 is_done: true,
                 is_over: false,
+                accepted,
                 longest_turn,
             };
         }
@@ -204,6 +205,7 @@ pub fn serve<S: Source, H: Handler>(
             return ServeReport {
                 is_done: false,
                 is_over: true,
+                accepted,
                 longest_turn,
             };
         }
@@ -223,6 +225,7 @@ pub fn serve<S: Source, H: Handler>(
     ServeReport {
         is_done: false,
         is_over: false,
+        accepted,
         longest_turn,
     }
 }

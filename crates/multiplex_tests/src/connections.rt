@@ -42,7 +42,7 @@ fn each_reads(alloc: Global, clients: &[Client], texts: &[&[u8]]) -> Result<bool
             return Ok(false);
         }
     }
-    Ok(played.report.is_done)
+    Ok(played.report.is_done && connections == Some(played.report.accepted))
 }
 
 /// Three clients that read and write at these paces.
@@ -639,6 +639,7 @@ fn a_world_that_is_over_ends_its_round_and_all(rt: HostRuntime) -> Result<(), Fa
     };
     let played = play(rt.alloc(), &clients, limits, 4, 0, 1)?;
     assert!(rt; played.report.is_over && !played.report.is_done);
+    assert_eq!(rt; played.report.accepted, 2);
     assert!(rt; played.world.answers.as_slice().len() <= 4);
     assert!(rt; played.world.answers.as_slice().starts_with(b"0^"));
     assert!(rt; played.closed.is_empty());

@@ -1,5 +1,4 @@
-use Rattle.std.proofs.Common.{◌≡◌, length, refl, sym, ap, ◌∙◌, subst, arith, ◌≤◌}
-use Rattle.std.specs.Prelude.{Some, IfSome}
+use Rattle.std.proofs.Common.{◌≡◌, length, refl, sym, ◌∙◌, subst, arith}
 use Rattle.std.proofs.lemmas.Bool.{true≢false}
 use Rattle.multiplex.specs.Rounds.{AreTurnsOf}
 use Rattle.multiplex.specs.Turns.{state}
@@ -29,11 +28,9 @@ returns-then-is_done g c first =
         execution = far.execution;
         rounds = far.rounds;
         asks = far.asks;
-        most = subst (λ n. IfSome c.args.limits.connections (λ most. n ≤ most)) (sym far.accepts)
-            c.loop.invariant.most;
-        ended = λ done.
-            let (all, free) = c.if-is_done.ensures refl in
-            (all ∙ ap (λ n. Some n) (sym far.accepts), free);
+        accepts = far.accepts;
+        most = c.loop.invariant.most;
+        ended = λ done. c.if-is_done.ensures refl;
         stops = λ over. absurd (true≢false (sym over));
         spent = λ undone. absurd (true≢false undone);
       },
@@ -48,8 +45,8 @@ returns-then-is_over g c first =
         execution = far.execution;
         rounds = far.rounds;
         asks = far.asks;
-        most = subst (λ n. IfSome c.args.limits.connections (λ most. n ≤ most)) (sym far.accepts)
-            c.loop.invariant.most;
+        accepts = far.accepts;
+        most = c.loop.invariant.most;
         ended = λ done. absurd (true≢false (sym done));
         stops = λ over. sym c.is_over.ensures ∙ c.if-is_over.true;
         spent = λ undone going. absurd (true≢false going);
@@ -124,8 +121,8 @@ returns g c first =
         execution = far.execution;
         rounds = far.rounds;
         asks = far.asks;
-        most = subst (λ n. IfSome c.args.limits.connections (λ most. n ≤ most)) (sym far.accepts)
-            c.loop.invariant.most;
+        accepts = far.accepts;
+        most = c.loop.invariant.most;
         ended = λ done. absurd (true≢false (sym done));
         stops = λ over. absurd (true≢false (sym over));
         spent = λ undone going. far.waited ∙ omega (arith, c.loop.auto.counter-end, c.loop-test.false);
