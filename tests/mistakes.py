@@ -166,7 +166,7 @@ def values():
     name, password = "want a text, of a user one of 1 to 256 bytes that is neither another user's nor anonymous", "want a text, and no password_file beside it"
     cases = [("an id that is no UUID", "[archive] id", put('id = "3f2c8a10-5b7e-4d21-9c44-0a1b2c3d4e5f"', 'id = "plant-7"'), "want a UUID, as 3f2c8a10-5b1e-4c7d-9a60-2d8f4b6e7c90"),
              ("replica 65", "[archive] replica", put("replica = 1\n", "replica = 65\n"), replica), ("a replica in quotes", "[archive] replica", put("replica = 1\n", 'replica = "1"\n'), replica),
-             ("another word behind broken", "[archive] broken", put("replica = 1\n", "replica = 1\nbroken = 'go on'\n"), 'want "stop", or no such key'),
+             ("another word behind broken", "[archive] broken", put("replica = 1\n", "replica = 1\nbroken = 'go on'\n"), 'want "stop" or "reopen", or no such key'),
              ("an address that is a number", "[server] listen", put(LISTEN, str(PORT)), text), ("anonymous in quotes", "[server] anonymous", put("anonymous = false", 'anonymous = "no"'), truth),
              ("anonymous_access is none", "[server] anonymous_access", server("anonymous_access = 'none'"), access), ("strict is a number", "[server] strict", server("strict = 1"), truth),
              ("slow is 0", "[server] slow", server("slow = 0"), "want a whole number of milliseconds from 1 to 60000"), ("connections is 0", "[server] connections", server("connections = 0"), number),

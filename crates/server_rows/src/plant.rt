@@ -9,7 +9,7 @@ use std::test::Fail;
 use ua_binary::Text;
 use ua_server::ConstantClock;
 use ua_session::Users;
-use ua_settings::{Parts, Peers, Settings};
+use ua_settings::{AfterBreak, Parts, Peers, Settings};
 use ua_space::{Plan, Space, VariablePlan};
 use uuid::Uuid;
 
@@ -63,7 +63,7 @@ pub fn plant_of(alloc: Global, number: u8) -> Option<Settings> {
         peers: Peers::new(alloc),
         door: None,
         web: None,
-        ends_broken: false,
+        after_break: AfterBreak::GoOn,
         is_strict: false,
         slow: None,
         logins: None,

@@ -196,7 +196,8 @@ is_access text = pointwise nat_eq text (codes "read") || pointwise nat_eq text (
 
 -- what `serve` does once its store is broken, as it is spelled
 abbrev pub is_after_break : List ℕ → Bool
-is_after_break text = pointwise nat_eq text (codes "stop")
+is_after_break text =
+    pointwise nat_eq text (codes "stop") || pointwise nat_eq text (codes "reopen")
 
 -- the path of a password file whose first line isn't empty
 abbrev pub is_password_file : Names → List ℕ → Bool

@@ -1,5 +1,5 @@
 -- What settings a file gives.
-use Rattle.std.specs.Prelude.{◌≡◌, ◌⊎◌, ℕ, pos, negsuc, Bool, false, List, [], map, codes, nat_eq, Option, None, Some, option_map, option_and_then, is_some, unwrap_or, Result, Err, if◌then◌else◌}
+use Rattle.std.specs.Prelude.{◌≡◌, ◌⊎◌, ℕ, pos, Bool, false, List, [], map, codes, nat_eq, Option, None, Some, option_map, option_and_then, is_some, unwrap_or, Result, Err, if◌then◌else◌}
 use Rattle.std.specs.List.{filter_map, list_any}
 use Rattle.std.specs.Cmp.Lexicographic.{pointwise}
 use Rattle.std.specs.Result.{result_map_both}
@@ -23,6 +23,8 @@ use Rattle.ua_settings.specs.Settings.{SettingsValues}
 use Rattle.ua_session.specs.Users.{Allowed}
 use Rattle.ua_session.specs.declared.identity.Access.{Access}
 use Rattle.ua_session.specs.declared.identity.Access.TheVariants.{Read, Write}
+use Rattle.ua_settings.specs.declared.after_break.AfterBreak.{AfterBreak}
+use Rattle.ua_settings.specs.declared.after_break.AfterBreak.TheVariants.{GoOn, Stop, Reopen}
 use Rattle.ua_settings.specs.declared.peers.PeerCall.{PeerCall}
 use Rattle.ua_session.specs.declared.identity.User.{User as NamedUser}
 
@@ -71,6 +73,13 @@ variable_in variable =
 abbrev pub access_at : List ℕ → Members → Access
 access_at key members =
     if pointwise nat_eq (text_at key members) (codes "read") then Read else Write
+
+-- what is done once the store is broken, by the text at a key: it goes on where none is there
+abbrev pub after_break_at : List ℕ → Members → AfterBreak
+after_break_at key members = let text = text_at key members in
+    if pointwise nat_eq text (codes "stop") then Stop
+    else if pointwise nat_eq text (codes "reopen") then Reopen
+    else GoOn
 
 -- the password that a table gives: its own, or the first line of its file
 abbrev pub password_in : List PasswordLine → Members → List ℕ
@@ -155,7 +164,7 @@ listed_in lines document space = record {
 }
 
 -- what the tables `archive` and `server` give, with what others list; 64 connections at a time, and
--- 256 MiB, where the tables don't say, no end once the store is broken, files of any rights, no
+-- 256 MiB, where the tables don't say, faults once the store is broken, files of any rights, no
 -- turn that is told, and no limit of refused logins
 abbrev pub values_of : (archive server : Members) → Listed → SettingsValues
 values_of archive server listed = record {
@@ -172,7 +181,7 @@ values_of archive server listed = record {
   peers = listed.peers;
   door = listed.door;
   web = listed.web;
-  ends_broken = pointwise nat_eq (text_at (codes "broken") archive) (codes "stop");
+  after_break = after_break_at (codes "broken") archive;
   is_strict = truth_at (codes "strict") server;
   slow = number_there (codes "slow") server;
   logins = number_there (codes "logins") server;

@@ -1,13 +1,15 @@
 -- What a server is set to.
-use Rattle.std.specs.Prelude.{◌≤◌, List, [], ℕ, length, replicate, codes, true, false, None}
+use Rattle.std.specs.Prelude.{◌≤◌, List, [], ℕ, length, replicate, codes, Bool, true, false, None}
 use Rattle.ua_session.specs.declared.identity.Access.TheVariants.{Write}
+use Rattle.ua_settings.specs.declared.after_break.AfterBreak.{AfterBreak}
+use Rattle.ua_settings.specs.declared.after_break.AfterBreak.TheVariants.{GoOn}
 use Rattle.ua_settings.specs.declared.settings.Parts.{Parts}
 
 -- the archive's id, the number of this replica of it, and the file of its store, none for memory;
 -- where the server listens, the URL of its endpoint, the URI of the application; who may use it;
 -- its nodes; how many connections it serves at a time, and how many MiB may wait to be written;
 -- the peers that it calls, where peers come to it, if not to the address where clients do, and
--- where browsers come to it, if they do; whether it ends once its store is broken, whether others
+-- where browsers come to it, if they do; what it does once its store is broken, whether others
 -- may have a hand in its files, and from how many milliseconds on a turn is told; behind how many
 -- refused logins from one address its next ones wait, and whether what happens is told
 abbrev pub SettingsValues : Type 0
@@ -30,12 +32,16 @@ bare = record {
   peers = [];
   door = None;
   web = None;
-  ends_broken = false;
+  after_break = GoOn;
   is_strict = false;
   slow = None;
   logins = None;
   events = false;
 }
+
+-- over a store that is broken nobody is served: `serve` ends, or opens it anew
+abbrev pub ends_serving : AfterBreak → Bool
+ends_serving choice = elim choice [ GoOn ↦ false | _ ↦ true ]
 
 -- a text of settings has at most 65,536 bytes
 abbrev pub IsSettingsText : List ℕ → Type 0

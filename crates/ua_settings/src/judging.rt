@@ -109,7 +109,7 @@ fn fits_text(known: &Known<'_>, holds: Holds, text: &str) -> bool
         Holds::UserName => is_user_name(known, text),
         Holds::FolderId => is_among(text, known.folders.as_slice()),
         Holds::Access => text == "read" || text == "write",
-        Holds::AfterBreak => text == "stop",
+        Holds::AfterBreak => text == "stop" || text == "reopen",
         Holds::PasswordFile => !line_of(known.passwords, text).is_empty(),
         Holds::Replica
         | Holds::UpTo(_)

@@ -44,7 +44,7 @@ pub(crate) enum Holds {
     FolderId,
     /// `read` or `write`.
     Access,
-    /// `stop`.
+    /// `stop` or `reopen`.
     AfterBreak,
     /// The path of a password file whose first line isn't empty.
     PasswordFile,

@@ -1,6 +1,7 @@
 //! What a server is set to: its endpoint's URL, its application, its namespace, its users, and the peers that it calls.
 #![tactic(auto)]
 
+mod after_break;
 mod door;
 mod fault;
 mod judging;
@@ -13,6 +14,7 @@ mod reading;
 mod settings;
 mod web;
 
+pub use after_break::AfterBreak;
 pub use door::DoorSettings;
 pub use fault::SettingsFault;
 pub use keys::Section;

@@ -7,10 +7,11 @@ ghost use Rattle.toml.specs.View.{view, table_view};
 ghost use Rattle.ua_settings.specs.File.{tables, text_at, many_tables, items_in};
 ghost use Rattle.ua_settings.specs.Judging.{is_replica};
 ghost use Rattle.std.specs.List.{filter_map};
-ghost use Rattle.ua_settings.specs.Reading.{number_or, number_there, access_at, replica_in};
+ghost use Rattle.ua_settings.specs.Reading.{number_or, number_there, access_at, after_break_at, replica_in};
 ghost use Rattle.ua_settings.specs.Sound.{IsUpTo};
 ghost use Rattle.toml.specs.Data.{as_array};
 
+use crate::after_break::AfterBreak;
 use crate::keys::Section;
 use stamp::ReplicaNo;
 use std::alloc::{AllocError, Global};
@@ -65,6 +66,20 @@ pub(crate) fn access(table: &Table, key: &str) -> Access
         Access::Read
     } else {
         Access::Write
+    }
+}
+
+/// What is done once the store is broken, by the text at a key.
+pub(crate) fn after_break(table: &Table, key: &str) -> AfterBreak
+    ensures { result ≡ after_break_at key.now (table_view table.now) }
+{
+    let text = text(table, key);
+    if text == "stop" {
+        AfterBreak::Stop
+    } else if text == "reopen" {
+        AfterBreak::Reopen
+    } else {
+        AfterBreak::GoOn
     }
 }
 

@@ -17,8 +17,8 @@ use crate::door::DoorSettings;
 use crate::fault::SettingsFault;
 use crate::keys::Section;
 use crate::looking::{
-    access, find_text, has_array, items, number, number_or, number_there, replica, replicas_in,
-    table_at, tables_of, text, texts_in, truth,
+    access, after_break, find_text, has_array, items, number, number_or, number_there, replica,
+    replicas_in, table_at, tables_of, text, texts_in, truth,
 };
 use crate::password::{PasswordLine, line_of};
 use crate::peers::Peers;
@@ -368,7 +368,7 @@ fn settings_of(
         peers: listed.peers,
         door: listed.door,
         web: listed.web,
-        ends_broken: text(archive, "broken") == "stop",
+        after_break: after_break(archive, "broken"),
         is_strict: truth(server, "strict"),
         slow: number_there(server, "slow", 60_000),
         logins: number_there(server, "logins", 1_000),

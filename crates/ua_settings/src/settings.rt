@@ -8,6 +8,7 @@ ghost use Rattle.toml.specs.View.{table_view};
 ghost use Rattle.ua_settings.specs.Reading.{IsReadOrStarved};
 ghost use Rattle.ua_settings.specs.Settings.{bare, IsSettingsText};
 
+use crate::after_break::AfterBreak;
 use crate::door::DoorSettings;
 use crate::fault::SettingsFault;
 use crate::judging::judge;
@@ -62,8 +63,8 @@ pub struct Parts {
     pub door: Option<DoorSettings>,
     /// Where browsers come to; none where they don't.
     pub web: Option<WebSettings>,
-    /// Whether `serve` ends once its store is broken.
-    pub ends_broken: bool,
+    /// What `serve` does once its store is broken.
+    pub after_break: AfterBreak,
     /// Whether settings are refused whose files others may write, or read passwords in.
     pub is_strict: bool,
     /// From how many milliseconds on a turn of a connection is told; none: none is.
@@ -91,7 +92,7 @@ pub struct Settings {
     peers: Peers,
     door: Option<DoorSettings>,
     web: Option<WebSettings>,
-    ends_broken: bool,
+    after_break: AfterBreak,
     is_strict: bool,
     slow: Option<u32>,
     logins: Option<u32>,
@@ -118,7 +119,7 @@ impl Model for Settings {
           peers = s.peers;
           door = s.door;
           web = s.web;
-          ends_broken = s.ends_broken;
+          after_break = s.after_break;
           is_strict = s.is_strict;
           slow = s.slow;
           logins = s.logins;
@@ -165,7 +166,7 @@ impl Settings {
             peers: Peers::new(alloc),
             door: None,
             web: None,
-            ends_broken: false,
+            after_break: AfterBreak::GoOn,
             is_strict: false,
             slow: None,
             logins: None,
@@ -221,7 +222,7 @@ impl Settings {
             peers: parts.peers,
             door: parts.door,
             web: parts.web,
-            ends_broken: parts.ends_broken,
+            after_break: parts.after_break,
             is_strict: parts.is_strict,
             slow: parts.slow,
             logins: parts.logins,
@@ -304,11 +305,11 @@ impl Settings {
         self.waiting
     }
 
-    /// Whether `serve` ends once its store is broken.
-    pub fn ends_broken(&self) -> bool
-        ensures { result ≡ self.now.ends_broken }
+    /// What `serve` does once its store is broken.
+    pub fn after_break(&self) -> AfterBreak
+        ensures { result ≡ self.now.after_break }
     {
-        self.ends_broken
+        self.after_break
     }
 
     /// Whether settings are refused whose files others may write, or read passwords in.

@@ -23,7 +23,7 @@ static WANTED: [(&str, &str); 23] = [
         "want a text that is no other id, of a variable one of 1 to 256 bytes",
     ),
     ("replica", "want a whole number from 1 to 64"),
-    ("broken", "want \"stop\", or no such key"),
+    ("broken", "want \"stop\" or \"reopen\", or no such key"),
     ("anonymous", "want true or false"),
     ("strict", "want true or false"),
     (

@@ -2,7 +2,7 @@ use std::alloc::Global;
 use std::test::Fail;
 use ua_binary::{NodeIdRef, Text};
 use ua_session::{Access, Identity, Sessions, Users};
-use ua_settings::{PasswordLine, Place, Settings, SettingsFault, password_files};
+use ua_settings::{AfterBreak, PasswordLine, Place, Settings, SettingsFault, password_files};
 use ua_space::BuildFault;
 
 /// A settings file with each kind of table.
@@ -439,6 +439,36 @@ fn accesses_are_read(rt: HostRuntime) -> Result<(), Fail> {
         let text = format!(in rt.alloc(); "{HEAD}{rest}\n")?;
         let read = access_in(rt.alloc(), text.as_str(), name);
         assert_eq!(rt; read, Some(*access), "{rest}");
+    }
+    Ok(())
+}
+
+/// What stands in `[archive]`, and what is done then once the store is broken; none where it is refused.
+static BREAKS: [(&str, Option<AfterBreak>); 7] = [
+    ("", Some(AfterBreak::GoOn)),
+    ("broken = 'stop'\n", Some(AfterBreak::Stop)),
+    ("broken = 'reopen'\n", Some(AfterBreak::Reopen)),
+    ("broken = 'Reopen'\n", None),
+    ("broken = 'go on'\n", None),
+    ("broken = ''\n", None),
+    ("broken = true\n", None),
+];
+
+/// What is done by a text once the store is broken; none where it is refused.
+fn broken_in(alloc: Global, text: &str) -> Option<AfterBreak> {
+    match Settings::read(alloc, text) {
+        Ok(settings) => Some(settings.after_break()),
+        Err(_) => None,
+    }
+}
+
+#[test]
+fn breaks_are_read(rt: HostRuntime) -> Result<(), Fail> {
+    for (key, broken) in &BREAKS {
+        let text = format!(in rt.alloc();
+            "[archive]\n{key}id = '00000000000000000000000000000000'\nreplica = 1\n[server]\nlisten = ''\nurl = ''\napplication = ''\nnamespace = ''\nanonymous = true\n"
+        )?;
+        assert_eq!(rt; broken_in(rt.alloc(), text.as_str()), *broken, "{key}");
     }
     Ok(())
 }
