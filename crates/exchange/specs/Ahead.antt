@@ -1,7 +1,8 @@
 -- A frame of many records, of which some first ones are learned ahead of its turn.
-use Rattle.std.specs.Prelude.{◌≡◌, ℕ, ◌+◌, ◌-◌, false, List, [], take, length, Option, None, Some, Result, Ok, Err, option_to_list}
+use Rattle.std.specs.Prelude.{◌≡◌, ℕ, ◌+◌, ◌-◌, ◌<◌, ◌≤◌, nat_lt, count_by, false, List, [], take, length, Option, None, Some, Result, Ok, Err, option_to_list}
 use Rattle.std.specs.Option.{option_map_or, option_and_then}
 use Rattle.std.specs.Result.{result_err}
+use Rattle.stamp.specs.Numbers.{number_of}
 use Rattle.records.specs.Contents.{Content, merged}
 use Rattle.records.specs.declared.record.Record.{Record}
 use Rattle.archive.specs.Store.{Store, CountsFaults, KeepsContent}
@@ -23,20 +24,30 @@ first_records p s waiting =
 abbrev pub new_among : List Record → Content → ℕ
 new_among rs R = capped (length (merged rs R) - length R)
 
--- what is told where n first ones of these were learned: how many were new, or that none has to be
--- learned ahead; or why the next one wasn't, or that the store met a fault before any was
-abbrev pub ReportsAhead : (old new : Store) → List Record → (n : ℕ)
+-- at most so many new records of a frame are learned in one step
+abbrev pub piece : ℕ
+piece = 100
+
+-- how many of these records a vector lacks
+abbrev pub lacking_of : (vector : List ℕ) → List Record → ℕ
+lacking_of vector = count_by (λ r. nat_lt (number_of vector r.origin) r.number)
+
+-- what is told where so many first ones of these were learned: how many were new, one at least, or
+-- that none has to be learned ahead; or why the next one wasn't, or that the store met a fault
+-- before any was
+abbrev pub ReportsAhead : (old new : Store) → List Record → (learned : ℕ)
     → Result (Option ℕ) ExchangeFault → Type 0
-ReportsAhead old new rs n (Ok None) = KeepsContent old new
-ReportsAhead old new rs n (Ok (Some count)) =
-    new.honest → count ≡ new_among (take n rs) old.content
-ReportsAhead old new rs n (Err (Learn k why)) = new.honest → StopsAt old.content rs n why
-ReportsAhead old new rs n (Err (StoreMet fault)) = n ≡ 0
-ReportsAhead old new rs n (Err other) = ⊥
+ReportsAhead old new rs learned (Ok None) = KeepsContent old new
+ReportsAhead old new rs learned (Ok (Some added)) =
+    new.honest → (added ≡ new_among (take learned rs) old.content) × (0 < added)
+ReportsAhead old new rs learned (Err (Learn at cause)) =
+    new.honest → StopsAt old.content rs learned cause
+ReportsAhead old new rs learned (Err (StoreMet fault)) = learned ≡ 0
+ReportsAhead old new rs learned (Err other) = ⊥
 
 -- the dialog counts those that were new
 abbrev pub counting : DialogState → Result (Option ℕ) ExchangeFault → DialogState
-counting s (Ok (Some count)) = record s { learned = capped (s.learned + count) }
+counting s (Ok (Some added)) = record s { learned = capped (s.learned + added) }
 counting s told = s
 
 -- some first ones of these records, or none, were learned ahead of their frame's turn, in order
@@ -44,6 +55,7 @@ pub record LearnsAhead (old new : Store) (before after : DialogState) (rs : List
     (result : Result (Option ℕ) ExchangeFault) : Type 0 where
   pub learned : ℕ
   pub tells : ReportsAhead old new rs learned result
+  pub few : new.honest → new_among (take learned rs) old.content ≤ piece
   pub stands : after ≡ counting before result
   pub content : new.honest → new.broken ≡ false
       → new.content ≡ merged (take learned rs) old.content

@@ -1,10 +1,10 @@
 //! Frames of many records, of which some first ones are learned ahead of their turn, so that others are served in between.
 
-ghost use Rattle.std.specs.Prelude.{◌≡◌, ◌≤◌, length, IfSome};
+ghost use Rattle.std.specs.Prelude.{◌≡◌, ◌≤◌, take, length, IfSome};
 ghost use Rattle.std.specs.List.{AllByRecursion};
 ghost use Rattle.records.specs.Spelling.{IsLawfulRecord};
 ghost use Rattle.archive.specs.Store.{IsAskedWithin};
-ghost use Rattle.exchange.specs.Ahead.{first_records, LearnsAhead};
+ghost use Rattle.exchange.specs.Ahead.{first_records, lacking_of, piece, LearnsAhead};
 ghost use Rattle.exchange.specs.Dialogs.{party_of};
 
 use crate::dialog::Dialog;
@@ -23,7 +23,8 @@ const PIECE: usize = 100;
 
 /// How many first records have a piece of those that a vector lacks, where it lacks more of them than that.
 fn piece_end(records: &[Record], held: &Vector) -> Option<usize>
-    ensures { IfSome result (λ end. end ≤ length records.now) }
+    ensures end { IfSome result (λ end. end ≤ length records.now) }
+    ensures lacking { IfSome result (λ end. lacking_of held.now (take end records.now) ≡ piece) }
 {
     let mut lacking: usize = 0;
     for (end, record) in records.iter().enumerate() {
@@ -66,8 +67,8 @@ impl Dialog {
     /// replica: a hundred of these. The frame stays, and what is asked for again goes on behind them; once fewer are new,
     /// nothing is done, and `take` learns the rest and answers. So a long frame doesn't keep others waiting.
     ///
-    /// Answers how many records were new; none where nothing had to be done, and then the content stays. Errors are `Learn`, where a
-    /// record is refused or the store met a fault at it, and `Store`; what was learned before it is held.
+    /// Answers how many records were new, one at least; none where nothing had to be done, and then the content stays. Errors are
+    /// `Learn`, where a record is refused or the store met a fault at it, and `Store`; what was learned before it is held.
     pub fn learn_ahead<A: Archive>(
         &mut self,
         alloc: Global,

@@ -1,8 +1,8 @@
-use Rattle.std.proofs.Common.{◌∙◌, ◌≤◌, ◌+◌, length, ℕ, List, Option, Some, Result, Ok, Err, ap, sym, subst}
+use Rattle.std.proofs.Common.{◌≡◌, take, ◌∙◌, ◌≤◌, ◌+◌, length, ℕ, List, Option, Some, Result, Ok, Err, ap, sym, subst}
 use Rattle.std.proofs.lemmas.Result.{err_from_is_err_and}
 use Rattle.records.specs.declared.record.Record.{Record}
 use Rattle.exchange.specs.declared.fault.ExchangeFault.{ExchangeFault}
-use Rattle.exchange.specs.Ahead.{first_records, LearnsAhead}
+use Rattle.exchange.specs.Ahead.{first_records, lacking_of, piece, LearnsAhead}
 use Rattle.exchange.specs.Dialogs.{DialogState, capped, party_of}
 use Rattle.exchange.proofs.AheadLemmas.{ahead_asked, ahead_fails, ahead_learned, ahead_met}
 use Rattle.exchange.proofs.dialog.Dialog.learn_ahead.Goals as goal
@@ -36,8 +36,9 @@ returns-in_err-added-clause-learns g c =
     (sym (p.1 ∙ ap Err p.2))
     (subst (λ (rs : List Record). LearnsAhead a d s s rs (Err fault)) (c.as_slice-2.ensures ∙ c.in-Some.ensures.0)
     (ahead_met a b d s c.as_slice-2.result.now c.in-Some-piece_end.end
-    (subst (λ (rs : List Record). c.in-Some-piece_end.end ≤ length rs) (c.as_slice.ensures ∙ sym c.as_slice-2.ensures) c.in-Some-piece_end.ensures)
-    c.in_ok-held.held _ c.in_ok-held.ensures.asks fault c.in_err-added.ensures.merges))
+    (subst (λ (rs : List Record). c.in-Some-piece_end.end ≤ length rs) (c.as_slice.ensures ∙ sym c.as_slice-2.ensures) c.in-Some-piece_end.ensures.end)
+    c.in_ok-held.held c.in_ok-held.ensures.asks (subst (λ (rs : List Record). lacking_of c.in_ok-held.held (take c.in-Some-piece_end.end rs) ≡ piece) (c.as_slice.ensures ∙ sym c.as_slice-2.ensures) c.in-Some-piece_end.ensures.lacking) fault
+    c.in_err-added.ensures.merges))
 
 pub returns-clause-learns : goal.returns-clause-learns
 returns-clause-learns g c =
@@ -51,5 +52,6 @@ returns-clause-learns g c =
     (sym c.count_learned.ensures)
     (subst (λ (rs : List Record). LearnsAhead a d s (record s { learned = capped (s.learned + added) }) rs (Ok (Some added))) (c.as_slice-2.ensures ∙ c.in-Some.ensures.0)
     (ahead_learned a b d s c.as_slice-2.result.now c.in-Some-piece_end.end
-    (subst (λ (rs : List Record). c.in-Some-piece_end.end ≤ length rs) (c.as_slice.ensures ∙ sym c.as_slice-2.ensures) c.in-Some-piece_end.ensures)
-    c.in_ok-held.held _ c.in_ok-held.ensures.asks added c.in_ok-added.ensures.merges))
+    (subst (λ (rs : List Record). c.in-Some-piece_end.end ≤ length rs) (c.as_slice.ensures ∙ sym c.as_slice-2.ensures) c.in-Some-piece_end.ensures.end)
+    c.in_ok-held.held c.in_ok-held.ensures.asks (subst (λ (rs : List Record). lacking_of c.in_ok-held.held (take c.in-Some-piece_end.end rs) ≡ piece) (c.as_slice.ensures ∙ sym c.as_slice-2.ensures) c.in-Some-piece_end.ensures.lacking) added
+    c.in_ok-added.ensures.merges))
