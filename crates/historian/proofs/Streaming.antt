@@ -17,7 +17,7 @@ use Rattle.ua_binary.specs.declared.values.Ticks.{Ticks}
 use Rattle.records.specs.Contents.{Content}
 use Rattle.archive.specs.Store.{Store, StepResult}
 use Rattle.archive.specs.Steps.{Fallible, Refines, give, each}
-use Rattle.historian.specs.Answers.{Answer, Response, IsTooLarge}
+use Rattle.historian.specs.Answers.{Answer, Response, IsTooLarge, longest_response}
 use Rattle.historian.specs.Reading.{Served, answer_items}
 use Rattle.historian.specs.Telling.{Appends, AppendsAll, AppendsOne, ComesWritten, IsCutShort, IsLeftOut, Written}
 use Rattle.historian.proofs.Items.{acts-refused, acts-wanting, acts-items}
@@ -66,7 +66,7 @@ some_of (x ∷ xs) i within = x
 
 -- it is written behind the others
 pub puts-more : {E Y : Type 0} (format : Format E Y) (put one : Put) (old now new : List ℕ)
-    (values : List Y) (value : Y) → length now ≤ 16777216 → OnOk put (Appends format values old now)
+    (values : List Y) (value : Y) → length now ≤ longest_response → OnOk put (Appends format values old now)
     → Puts OutOfMemory one now new (format.canon value) → IfOk one (λ _. format.Fits value)
     → OnOk (result_and put one) (Appends format (values ++ (value ∷ [])) old new)
 puts-more format (Ok _) (Ok _) old now new values value few (inl before) puts fits = inl (
@@ -98,7 +98,7 @@ left-out-more format old values value status (inr large) =
 
 -- too many bytes stand there, so it isn't written
 pub skips-more : {E Y : Type 0} (format : Format E Y) (old now : List ℕ) (values : List Y)
-    (value : Y) → 16777216 < length now → Appends format values old now
+    (value : Y) → longest_response < length now → Appends format values old now
     → Appends format (values ++ (value ∷ [])) old now
 skips-more format old now values value many before = inr (many, by before)
   where
@@ -112,7 +112,7 @@ skips-more format old now values value many before = inr (many, by before)
     by (inr cut) = omega (arith, cut.1, longer)
 
 pub skips : {E Y : Type 0} (format : Format E Y) (put : Put) (old now : List ℕ) (values : List Y)
-    (value : Y) → 16777216 < length now → OnOk put (Appends format values old now)
+    (value : Y) → longest_response < length now → OnOk put (Appends format values old now)
     → OnOk put (Appends format (values ++ (value ∷ [])) old now)
 skips format (Ok _) old now values value many before =
     skips-more format old now values value many before
@@ -120,7 +120,7 @@ skips format (Err fault) old now values value many before = tt
 
 -- the last fault is told, or that all were written
 pub appends-more : {E Y : Type 0} (format : Format E Y) (put one : Result (Unit {0}) Status)
-    (old now new : List ℕ) (values : List Y) (value : Y) → length now ≤ 16777216
+    (old now new : List ℕ) (values : List Y) (value : Y) → length now ≤ longest_response
     → AppendsAll format values put old now → AppendsOne format value one now new
     → AppendsAll format (values ++ (value ∷ [])) (result_and one put) old new
 appends-more format (Ok _) (Ok _) old now new values value few before is =
@@ -138,7 +138,7 @@ appends-more format put (Err status) old now new values value few before is = by
 
 -- one isn't read, since too many bytes stand there, or one before has too many
 pub appends-skips : {E Y : Type 0} (format : Format E Y) (put : Result (Unit {0}) Status)
-    (old now : List ℕ) (values : List Y) (value : Y) → OnOk put (16777216 < length now)
+    (old now : List ℕ) (values : List Y) (value : Y) → OnOk put (longest_response < length now)
     → AppendsAll format values put old now → AppendsAll format (values ++ (value ∷ [])) put old now
 appends-skips format (Ok _) old now values value many before =
     skips-more format old now values value many before
@@ -149,7 +149,7 @@ appends-skips format (Err status) old now values value many before =
 
 -- not too many bytes stand there, so they are those of all items
 pub is-whole : {E Y : Type 0} (format : Format E Y) (values : List Y) (old now : List ℕ)
-    → length now ≤ 16777216 → Appends format values old now
+    → length now ≤ longest_response → Appends format values old now
     → (now ≡ old ++ flat_map format.canon values) × AllByRecursion format.Fits values
 is-whole format values old now few (inl whole) = whole
 is-whole format values old now few (inr cut) = absurd (omega (arith, few, cut.0))
@@ -191,8 +191,8 @@ writes-all format head values count first headed counted valued ended empty h n 
 pub is-over : {E Y : Type 0} (format : Format E Y) (head : List ℕ) (values : List Y) (count : ℕ)
     (first headed counted : List ℕ) → first ≡ [] → headed ≡ first ++ head
     → counted ≡ headed ++ (signed w32).canon (pos count) → length values ≡ count
-    → 16777216 < length (counted ++ flat_map format.canon values)
-    → 16777216 < length (bytes_of format head values)
+    → longest_response < length (counted ++ flat_map format.canon values)
+    → longest_response < length (bytes_of format head values)
 is-over format head values count first headed counted empty h n same many =
     let whole = counted ++ flat_map format.canon values in
     let sum = length-append whole ((signed w32).canon (negsuc 0)) in
@@ -204,8 +204,8 @@ is-over format head values count first headed counted empty h n same many =
 pub is-too-large : {E Y : Type 0} (format : Format E Y) (head : List ℕ) (values : List Y) (count : ℕ)
     (first headed counted now : List ℕ) → first ≡ [] → headed ≡ first ++ head
     → counted ≡ headed ++ (signed w32).canon (pos count) → length values ≡ count
-    → 16777216 < length now → Appends format values counted now
-    → 16777216 < length (bytes_of format head values)
+    → longest_response < length now → Appends format values counted now
+    → longest_response < length (bytes_of format head values)
 is-too-large format head values count first headed counted now empty h n same many written =
     let front = by written in
     is-over format head values count first headed counted empty h n same (omega (arith, many, front))
@@ -218,7 +218,7 @@ is-too-large format head values count first headed counted now empty h n same ma
 -- memory for the bytes was wanting, or they are too many
 pub left-out : (now : Ticks) (handle : ℕ) (told : Response) (result : Result (Unit {0}) Status)
     (status fault : Status) (bytes whole : List ℕ) → result ≡ Err status → status ≡ fault
-    → IsLeftOut whole fault → (16777216 < length whole → IsTooLarge now handle told)
+    → IsLeftOut whole fault → (longest_response < length whole → IsTooLarge now handle told)
     → Written now handle told result bytes
 left-out now handle told result status fault bytes whole is from why over =
     subst (λ (r : Result (Unit {0}) Status). Written now handle told r bytes) (sym is) (by why)

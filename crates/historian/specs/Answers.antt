@@ -84,9 +84,13 @@ response now handle v =
       | Err status ↦ service_fault now handle status
     ]
 
+-- the most bytes of a response that is sent, whatever a client takes: 16 MiB
+abbrev pub longest_response : ℕ
+longest_response = 16777216
+
 -- it is longer than any response that is sent
 abbrev pub IsTooLarge : Ticks → ℕ → Response → Type 0
-IsTooLarge now handle told = 16777216 < length (response now handle told)
+IsTooLarge now handle told = longest_response < length (response now handle told)
 
 -- what answers a message of this handle: its response, which has a spelling; or where that is too
 -- large, a ServiceFault that says so

@@ -19,7 +19,7 @@ use Rattle.historian.specs.declared.service.Service.{Service}
 use Rattle.historian.specs.declared.service.ServiceRequest.{ServiceRequest as Opened}
 use Rattle.historian.specs.declared.answer.Answer.{Answer as Made}
 use Rattle.historian.specs.declared.answer.Answer.TheVariants as made
-use Rattle.historian.specs.Answers.{Answer, Endpoints, Created, Activated, Closed, Updated, Response, HasEncoding, IsTooLarge, response}
+use Rattle.historian.specs.Answers.{Answer, Endpoints, Created, Activated, Closed, Updated, Response, HasEncoding, IsTooLarge, response, longest_response}
 use Rattle.historian.specs.Requests.{Call, call_in, Request}
 use Rattle.historian.specs.Reading.{Served}
 use Rattle.historian.specs.Services.{MessageOutcome}
@@ -101,7 +101,8 @@ Written now handle told (Err status) bytes =
 
 -- of these bytes so many were written that they are seen to be too many for a response
 abbrev pub IsCutShort : List ℕ → List ℕ → Type 0
-IsCutShort whole written = (16777216 < length written) × (length written ≤ length whole)
+IsCutShort whole written =
+    (longest_response < length written) × (length written ≤ length whole)
 
 -- these values, which have spellings, were appended in this format; or enough of them to see that
 -- they are too many for a response
@@ -128,7 +129,7 @@ Responds old new service sessions now handle result bytes =
 abbrev pub IsLeftOut : List ℕ → Status → Type 0
 IsLeftOut bytes status =
     (status ≡ BAD_OUT_OF_MEMORY)
-    ⊎ ((status ≡ BAD_RESPONSE_TOO_LARGE) × (16777216 < length bytes))
+    ⊎ ((status ≡ BAD_RESPONSE_TOO_LARGE) × (longest_response < length bytes))
 
 -- this value, which has a spelling, was appended in this format; or nothing was, and it is told why
 abbrev pub AppendsOne : {E A : Type 0} → Format E A → A → Result (Unit {0}) Status → List ℕ

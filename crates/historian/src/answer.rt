@@ -4,8 +4,8 @@ ghost use Rattle.std.specs.Prelude.{◌≡◌, ◌++◌, Ok, OnOk, IfOk, IfErr};
 ghost use Rattle.historian.specs.Answers.{type_of, response_body_of, HasEncoding, response};
 ghost use Rattle.historian.specs.Telling.{service_answer, IsEncodable};
 
-use crate::responses::put_head;
-use ua_binary::{BinaryFault, Status, Ticks};
+use crate::responses::{RequestContext, put_head};
+use ua_binary::{BinaryFault, Status};
 use ua_services::{
     CreateSessionResponse, EndpointDescription, HistoryUpdateResult, put_activate_session_response,
     put_create_session_response, put_get_endpoints_response, put_history_update_response,
@@ -53,16 +53,16 @@ impl Answer {
         }
     }
 
-    /// Appends the response to a request with this handle, whose body has a spelling. The one error is `OutOfMemory`, which may
-    /// leave a part.
-    pub(crate) fn put(&self, out: &mut Vec<u8>, now: Ticks, handle: u32) -> Result<(), BinaryFault>
+    /// Appends the response to a request, whose body has a spelling. The one error is `OutOfMemory`, which may leave a part.
+    pub(crate) fn put(&self, out: &mut Vec<u8>, context: RequestContext) -> Result<(), BinaryFault>
         requires { IsEncodable self.now }
         ensures ok { OnOk result
-            (out.new.items ≡ out.old.items ++ response now handle (Ok (service_answer self.now))) }
+            (out.new.items
+            ≡ out.old.items ++ response context.now context.handle (Ok (service_answer self.now))) }
         ensures spelled { IfOk result (λ _. HasEncoding (service_answer self.now)) }
         ensures err { IfErr result (λ fault. fault ≡ BinaryFault.OutOfMemory) }
     {
-        put_head(out, self.type_id(), now, handle, Status::GOOD)?;
+        put_head(out, self.type_id(), context, Status::GOOD)?;
         self.put_body(out)
     }
 }

@@ -12,12 +12,12 @@ ghost use Rattle.historian.specs.Services.{site_of, answered_call};
 ghost use Rattle.historian.specs.Telling.{Appends, Written, Responds};
 
 use crate::requests::browse_request;
-use crate::responses::{LONGEST_RESPONSE, put_head};
+use crate::responses::{LONGEST_RESPONSE, RequestContext, put_head};
 use crate::server::Server;
 use crate::service::ServiceRequest;
 use archive::Archive;
 use std::alloc::Global;
-use ua_binary::{BinaryFault, Encode, Listing, Status, Ticks, put_count, put_i32};
+use ua_binary::{BinaryFault, Encode, Listing, Status, put_count, put_i32};
 use ua_services::{BrowseDescription, BrowseResult};
 use ua_session::Sessions;
 use ua_space::Space;
@@ -92,18 +92,17 @@ fn put_browsed(
 fn put_browse<A>(
     server: &Server<A>,
     nodes: &[BrowseDescription<'_>],
-    now: Ticks,
-    handle: u32,
+    context: RequestContext,
     body: &mut Vec<u8>,
 ) -> Result<(), Status>
     requires { body.old.items ≡ [] }
-    ensures { Written now handle (browse server.now.settings.space (map browse_fields nodes.now))
-        result body.new.items }
+    ensures { Written context.now context.handle
+        (browse server.now.settings.space (map browse_fields nodes.now)) result body.new.items }
 {
     if let Some(status) = list_refusal(MOST_BROWSED, nodes.len()) {
         return Err(status);
     }
-    put_head(body, BROWSE_RESPONSE, now, handle, Status::GOOD)?;
+    put_head(body, BROWSE_RESPONSE, context, Status::GOOD)?;
     put_count(body, nodes.len())?;
     put_browsed(server.alloc, server.settings.space(), nodes, body)?;
     if body.len() > LONGEST_RESPONSE {
@@ -120,19 +119,18 @@ fn put_browse<A>(
 pub(crate) fn browse<A: Archive>(
     server: &Server<A>,
     sessions: &Sessions,
-    now: Ticks,
-    handle: u32,
+    context: RequestContext,
     request: ServiceRequest<'_>,
     body: &mut Vec<u8>,
 ) -> Result<(), Status>
     requires { body.old.items ≡ [] }
     ensures { Responds (A.state server.now.replica.archive)
         (A.state server.now.replica.archive)
-        (answered_call (site_of server.now.settings (A.state server.now.replica.archive)) now
-        (node_of request.entry.token) (call_in service.Browse request.entry.body) sessions.now)
-        sessions.now now handle result body.new.items }
+        (answered_call (site_of server.now.settings (A.state server.now.replica.archive))
+        context.now (node_of request.entry.token) (call_in service.Browse request.entry.body)
+        sessions.now) sessions.now context.now context.handle result body.new.items }
 {
     let asked = browse_request(server.alloc, request.body)?;
     sessions.user_of(request.token)?;
-    put_browse(server, &asked.nodes, now, handle, body)
+    put_browse(server, &asked.nodes, context, body)
 }

@@ -12,6 +12,7 @@ ghost use Rattle.hist_read.specs.Node.{refused_read};
 ghost use Rattle.hist_read.specs.Carrying.{TellsWithin};
 ghost use Rattle.historian.specs.declared.service.Service.TheVariants as service;
 ghost use Rattle.historian.specs.Reading.{history_rules, released, read_history_of, query_of, read_history};
+ghost use Rattle.historian.specs.Answers.{longest_response};
 ghost use Rattle.historian.specs.Requests.{call_in};
 ghost use Rattle.historian.specs.Services.{site_of, answered_call};
 ghost use Rattle.historian.specs.Telling.{AppendsOne, AppendsAll, ComesWritten, Responds};
@@ -19,13 +20,13 @@ ghost use Rattle.historian.specs.Telling.{AppendsOne, AppendsAll, ComesWritten, 
 use crate::browsing::list_refusal;
 use crate::reading::judge_value;
 use crate::requests::history_read_request;
-use crate::responses::{LONGEST_RESPONSE, put_head};
+use crate::responses::{LONGEST_RESPONSE, RequestContext, put_head};
 use crate::server::Server;
 use crate::service::ServiceRequest;
 use archive::Archive;
 use hist_read::{Query, read_node_within};
 use std::alloc::Global;
-use ua_binary::{Status, Ticks, put_count, put_i32};
+use ua_binary::{Status, put_count, put_i32};
 use ua_services::{
     HistoryData, HistoryReadDetails, HistoryReadRequest, HistoryReadResult, HistoryReadValueId,
     TimestampsToReturn, put_history_read_result,
@@ -88,8 +89,8 @@ fn released(release: bool, read: HistoryReadResult) -> HistoryReadResult
 
 /// What is told of a read that is too long for a response: nothing of it, where continuation points may only be given back.
 fn too_long(release: bool) -> Option<HistoryReadResult>
-    ensures told { (read : Told) → TellsWithin (Some 16777216) None read
-        → TellsWithin (Some 16777216) result (released release read) }
+    ensures told { (read : Told) → TellsWithin (Some longest_response) None read
+        → TellsWithin (Some longest_response) result (released release read) }
     ensures short { IfSome result IsShortHistoryRead }
 {
     if release {
@@ -111,7 +112,7 @@ fn read_history_of<A: Archive>(
         × Refines (A.state archive.old) (A.state archive.new) used
         (read_history_of (A.state archive.old).id space.now terms.query terms.release
         (history_read_fields item.entry)) value
-        × TellsWithin (Some 16777216) result value }
+        × TellsWithin (Some longest_response) result value }
     ensures short { IfSome result IsShortHistoryRead }
 {
     if let Err(status) = judge_history(space, item) {
@@ -159,8 +160,8 @@ fn put_history<A: Archive>(
 
 /// Whether one more may be read behind so many bytes: they aren't too many for a response, and no read before was too long.
 fn may_go_on(written: usize, put: Result<(), Status>) -> bool
-    ensures few { IsTrue result → written ≤ 16777216 }
-    ensures many { IsFalse result → OnOk put (16777216 < written) }
+    ensures few { IsTrue result → written ≤ longest_response }
+    ensures many { IsFalse result → OnOk put (longest_response < written) }
 {
     if written > LONGEST_RESPONSE {
         return false;
@@ -223,8 +224,7 @@ fn query_of(
 /// is too large.
 fn put_read_history<A: Archive>(
     server: &mut Server<A>,
-    now: Ticks,
-    handle: u32,
+    context: RequestContext,
     asked: &HistoryReadRequest<'_>,
     body: &mut Vec<u8>,
 ) -> Result<(), Status>
@@ -232,14 +232,14 @@ fn put_read_history<A: Archive>(
     ensures comes { ComesWritten (A.state server.old.replica.archive)
         (A.state server.new.replica.archive)
         (read_history (A.state server.old.replica.archive).id server.old.settings.space
-        (history_asked asked.now)) now handle result body.new.items }
+        (history_asked asked.now)) context.now context.handle result body.new.items }
     ensures settings { server.new.settings ≡ server.old.settings }
 {
     if let Some(status) = list_refusal(MOST_HISTORIES, asked.nodes.len()) {
         return Err(status);
     }
     let query = query_of(asked.details, asked.timestamps)?;
-    put_head(body, HISTORY_READ_RESPONSE, now, handle, Status::GOOD)?;
+    put_head(body, HISTORY_READ_RESPONSE, context, Status::GOOD)?;
     put_count(body, asked.nodes.len())?;
     let terms = HistoryTerms {
         alloc: server.alloc,
@@ -271,20 +271,19 @@ fn put_read_history<A: Archive>(
 pub(crate) fn read_history<A: Archive>(
     server: &mut Server<A>,
     sessions: &Sessions,
-    now: Ticks,
-    handle: u32,
+    context: RequestContext,
     request: ServiceRequest<'_>,
     body: &mut Vec<u8>,
 ) -> Result<(), Status>
     requires { body.old.items ≡ [] }
     ensures responds { Responds (A.state server.old.replica.archive)
         (A.state server.new.replica.archive)
-        (answered_call (site_of server.old.settings (A.state server.old.replica.archive)) now
-        (node_of request.entry.token) (call_in service.HistoryRead request.entry.body)
-        sessions.now) sessions.now now handle result body.new.items }
+        (answered_call (site_of server.old.settings (A.state server.old.replica.archive))
+        context.now (node_of request.entry.token) (call_in service.HistoryRead request.entry.body)
+        sessions.now) sessions.now context.now context.handle result body.new.items }
     ensures settings { server.new.settings ≡ server.old.settings }
 {
     let asked = history_read_request(server.alloc, request.body)?;
     sessions.user_of(request.token)?;
-    put_read_history(server, now, handle, &asked, body)
+    put_read_history(server, context, &asked, body)
 }

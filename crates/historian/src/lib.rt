@@ -20,7 +20,7 @@ mod user_space;
 
 pub use laws::readers_change_nothing;
 pub use message::answer_message;
-pub use responses::put_service_fault;
+pub use responses::{RequestContext, put_service_fault};
 pub use server::Server;
 pub use service::ClientMessage;
 pub use updating::{granted_type, update_one};

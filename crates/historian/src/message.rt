@@ -13,7 +13,7 @@ use crate::answer::Answer;
 use crate::browsing::browse;
 use crate::histories::read_history;
 use crate::reading::read;
-use crate::responses::put_service_fault;
+use crate::responses::{RequestContext, put_service_fault};
 use crate::server::Server;
 use crate::service::{ClientMessage, Service, ServiceRequest};
 use crate::sessions::{activate_session, close_session, create_session, get_endpoints};
@@ -26,16 +26,15 @@ use ua_session::Sessions;
 /// Writes the response that tells an answer; or tells why there is none, or that memory was wanting.
 fn write_response(
     answer: Result<Answer, Status>,
-    now: Ticks,
-    handle: u32,
+    context: RequestContext,
     body: &mut Vec<u8>,
 ) -> Result<(), Status>
     requires short { IfOk answer IsEncodable }
     requires empty { body.old.items ≡ [] }
     ensures { (told : Response) → ReportsAnswer told answer
-        → Written now handle told result body.new.items }
+        → Written context.now context.handle told result body.new.items }
 {
-    answer?.put(body, now, handle)?;
+    answer?.put(body, context)?;
     Ok(())
 }
 
@@ -43,17 +42,17 @@ fn write_response(
 fn serve<A: Archive>(
     server: &mut Server<A>,
     sessions: &mut Sessions,
-    now: Ticks,
-    handle: u32,
+    context: RequestContext,
     request: ServiceRequest<'_>,
     body: &mut Vec<u8>,
 ) -> Result<(), Status>
     requires { body.old.items ≡ [] }
     ensures responds { Responds (A.state server.old.replica.archive)
         (A.state server.new.replica.archive)
-        (answered_call (site_of server.old.settings (A.state server.old.replica.archive)) now
-        (node_of request.entry.token) (call_in request.entry.service request.entry.body)
-        sessions.old) sessions.new now handle result body.new.items }
+        (answered_call (site_of server.old.settings (A.state server.old.replica.archive))
+        context.now (node_of request.entry.token)
+        (call_in request.entry.service request.entry.body) sessions.old) sessions.new context.now
+        context.handle result body.new.items }
     ensures settings { server.new.settings ≡ server.old.settings }
 {
     let answer = match request.service {
@@ -66,15 +65,15 @@ fn serve<A: Archive>(
         }
         Service::CloseSession => close_session(sessions, request.token, request.body),
         Service::Browse => {
-            return browse(server, sessions, now, handle, request, body);
+            return browse(server, sessions, context, request, body);
         }
-        Service::Read => return read(server, sessions, now, handle, request, body),
+        Service::Read => return read(server, sessions, context, request, body),
         Service::HistoryRead => {
-            return read_history(server, sessions, now, handle, request, body);
+            return read_history(server, sessions, context, request, body);
         }
-        Service::HistoryUpdate => update_history(server, sessions, now, request),
+        Service::HistoryUpdate => update_history(server, sessions, context.now, request),
     };
-    write_response(answer, now, handle, body)
+    write_response(answer, context, body)
 }
 
 /// Performs what a message asks, and writes its response.
@@ -94,18 +93,19 @@ fn perform<A: Archive>(
     ensures settings { server.new.settings ≡ server.old.settings }
 {
     let handle = message.handle();
+    let context = RequestContext { now, handle };
     match message.request {
-        Ok(request) => serve(server, sessions, now, handle, request, body),
+        Ok(request) => serve(server, sessions, context, request, body),
         Err(status) => Err(status),
     }
 }
 
 /// Makes the ServiceFault (Part 4, 7.35) that tells a status, in place of what stands in `body`.
-fn refuse(body: &mut Vec<u8>, now: Ticks, handle: u32, status: Status) -> Result<(), AllocError>
-    ensures { OnOk result (body.new.items ≡ service_fault now handle status) }
+fn refuse(body: &mut Vec<u8>, context: RequestContext, status: Status) -> Result<(), AllocError>
+    ensures { OnOk result (body.new.items ≡ service_fault context.now context.handle status) }
 {
     body.clear();
-    match put_service_fault(body, now, handle, status) {
+    match put_service_fault(body, context, status) {
         Ok(()) => Ok(()),
         Err(_) => Err(AllocError),
     }
@@ -133,9 +133,10 @@ pub fn answer_message<A: Archive>(
     ensures settings { server.new.settings ≡ server.old.settings }
 {
     let handle = message.handle();
+    let context = RequestContext { now, handle };
     match perform(server, sessions, now, message, body) {
         Ok(()) => Ok(()),
         Err(Status::BAD_OUT_OF_MEMORY) => Err(AllocError),
-        Err(status) => refuse(body, now, handle, status),
+        Err(status) => refuse(body, context, status),
     }
 }

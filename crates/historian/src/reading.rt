@@ -12,7 +12,7 @@ ghost use Rattle.ua_variant.specs.Variant.{IsShortVariant};
 ghost use Rattle.ua_space.specs.Attributes.{IsShortAnswered};
 ghost use Rattle.ua_variant.specs.DataValue.{IsDataValue, IsShortData, data_value};
 ghost use Rattle.ua_variant.specs.declared.data.DataValue.{DataValue as Data};
-ghost use Rattle.ua_services.specs.Attributes.{read_fields};
+ghost use Rattle.ua_services.specs.Attributes.{read_fields, read_asked};
 ghost use Rattle.archive.specs.Fault.{status_told};
 ghost use Rattle.archive.specs.Reading.{range_of};
 ghost use Rattle.archive.specs.Store.{Store, Asks, StepResult};
@@ -29,7 +29,7 @@ ghost use Rattle.historian.specs.UserSpaces.{seen_by};
 
 use crate::browsing::list_refusal;
 use crate::requests::read_request;
-use crate::responses::{LONGEST_RESPONSE, put_head};
+use crate::responses::{LONGEST_RESPONSE, RequestContext, put_head};
 use crate::server::Server;
 use crate::service::ServiceRequest;
 use archive::{Archive, Direction, StepError, StoreFault};
@@ -37,7 +37,7 @@ use hist_read::{is_short_value, with_stamps};
 use records::{Held, Moment};
 use std::alloc::Global;
 use ua_binary::{BinaryFault, NodeId, NodeIdRef, QualifiedRef, Status, Ticks, put_count, put_i32};
-use ua_services::{ReadValueId, TimestampsToReturn};
+use ua_services::{ReadRequest, ReadValueId, TimestampsToReturn};
 use ua_session::{Access, Sessions};
 use ua_space::{Answered, Space};
 use ua_variant::{DataValue, Variant, put_data_value, put_value_at};
@@ -63,6 +63,7 @@ const LAST: Moment = Moment {
 /// On which terms items are read: what the user may do, which moments are wanted, and the moment of the read.
 #[derive(Clone, Copy)]
 struct ReadTerms {
+    alloc: Global,
     access: Access,
     stamps: TimestampsToReturn,
     now: Ticks,
@@ -248,10 +249,8 @@ fn put_refused(status: Status, out: &mut Vec<u8>) -> Result<(), BinaryFault>
 /// Appends the live value of an archived variable with the moments that are wanted, or why there is none.
 #[inline(never)]
 fn put_archived<A: Archive>(
-    alloc: Global,
     archive: &mut A,
-    stamps: TimestampsToReturn,
-    now: Ticks,
+    terms: ReadTerms,
     node: NodeIdRef<'_>,
     out: &mut Vec<u8>,
 ) -> Result<(), BinaryFault>
@@ -259,11 +258,11 @@ fn put_archived<A: Archive>(
         × Refines (A.state archive.old) (A.state archive.new) (mark ∷ [])
         (value_step (step status_told) (latest (node_of node.entry))) value
         × Puts BinaryFault.OutOfMemory result out.old.items out.new.items
-        (data_value.canon (item_told stamps now value))
-        × IfOk result (λ _. IsDataValue (item_told stamps now value)) }
+        (data_value.canon (item_told terms.stamps terms.now value))
+        × IfOk result (λ _. IsDataValue (item_told terms.stamps terms.now value)) }
 {
-    match archived_value(alloc, archive, node) {
-        Ok(value) => put_data_value(out, &shown(stamps, now, value)),
+    match archived_value(terms.alloc, archive, node) {
+        Ok(value) => put_data_value(out, &shown(terms.stamps, terms.now, value)),
         Err(status) => put_refused(status, out),
     }
 }
@@ -287,7 +286,6 @@ fn find_item(space: &Space, access: Access, item: &ReadValueId<'_>) -> Result<An
 /// Appends what is told of an item: its value, or why it is refused, as `find_item` has it, and then as of an archived variable;
 /// or what came in the way.
 fn put_item<A: Archive>(
-    alloc: Global,
     space: &Space,
     archive: &mut A,
     terms: ReadTerms,
@@ -308,9 +306,7 @@ fn put_item<A: Archive>(
             Answered::Value(value) => {
                 put_valued(terms.stamps, terms.now, item.attribute_id, value, out)
             }
-            Answered::Archived => {
-                put_archived(alloc, archive, terms.stamps, terms.now, item.node_id, out)
-            }
+            Answered::Archived => put_archived(archive, terms, item.node_id, out),
         },
     }
 }
@@ -318,7 +314,6 @@ fn put_item<A: Archive>(
 /// Appends what is told of items, in order, until these are too many bytes for a response. All of them are read until then,
 /// also where memory for the bytes runs out.
 fn put_items<A: Archive>(
-    alloc: Global,
     space: &Space,
     archive: &mut A,
     terms: ReadTerms,
@@ -337,50 +332,48 @@ fn put_items<A: Archive>(
     let mut put = Ok(());
     for item in items {
         if out.len() <= LONGEST_RESPONSE {
-            let one = put_item(alloc, space, archive, terms, item, out);
+            let one = put_item(space, archive, terms, item, out);
             put = put.and(one);
         }
     }
     put
 }
 
-/// Writes the response of a Read of these items for a user who may do this; or tells why it is refused as a whole, that
+/// Writes the response of a Read for a user who may do this; or tells why it is refused as a whole, that
 /// memory was wanting, or that the response is too large.
 fn put_read<A: Archive>(
     server: &mut Server<A>,
     access: Access,
-    now: Ticks,
-    handle: u32,
-    timestamps: Option<TimestampsToReturn>,
-    nodes: &[ReadValueId<'_>],
+    context: RequestContext,
+    asked: &ReadRequest<'_>,
     body: &mut Vec<u8>,
 ) -> Result<(), Status>
     requires { body.old.items ≡ [] }
     ensures comes { ComesWritten (A.state server.old.replica.archive)
         (A.state server.new.replica.archive)
-        (read (seen_by server.old.settings.space access) now
-        (timestamps, map read_fields nodes.now)) now handle result body.new.items }
+        (read (seen_by server.old.settings.space access) context.now (read_asked asked.now))
+        context.now context.handle result body.new.items }
     ensures settings { server.new.settings ≡ server.old.settings }
 {
-    if let Some(status) = list_refusal(MOST_READ, nodes.len()) {
+    if let Some(status) = list_refusal(MOST_READ, asked.nodes.len()) {
         return Err(status);
     }
-    let Some(stamps) = timestamps else {
+    let Some(stamps) = asked.timestamps else {
         return Err(Status::BAD_TIMESTAMPS_TO_RETURN_INVALID);
     };
-    put_head(body, READ_RESPONSE, now, handle, Status::GOOD)?;
-    put_count(body, nodes.len())?;
+    put_head(body, READ_RESPONSE, context, Status::GOOD)?;
+    put_count(body, asked.nodes.len())?;
     let terms = ReadTerms {
+        alloc: server.alloc,
         access,
         stamps,
-        now,
+        now: context.now,
     };
     put_items(
-        server.alloc,
         server.settings.space(),
         &mut server.replica.archive,
         terms,
-        nodes,
+        &asked.nodes,
         body,
     )?;
     if body.len() > LONGEST_RESPONSE {
@@ -399,29 +392,20 @@ fn put_read<A: Archive>(
 pub(crate) fn read<A: Archive>(
     server: &mut Server<A>,
     sessions: &Sessions,
-    now: Ticks,
-    handle: u32,
+    context: RequestContext,
     request: ServiceRequest<'_>,
     body: &mut Vec<u8>,
 ) -> Result<(), Status>
     requires { body.old.items ≡ [] }
     ensures responds { Responds (A.state server.old.replica.archive)
         (A.state server.new.replica.archive)
-        (answered_call (site_of server.old.settings (A.state server.old.replica.archive)) now
-        (node_of request.entry.token) (call_in service.Read request.entry.body) sessions.now)
-        sessions.now now handle result body.new.items }
+        (answered_call (site_of server.old.settings (A.state server.old.replica.archive))
+        context.now (node_of request.entry.token) (call_in service.Read request.entry.body)
+        sessions.now) sessions.now context.now context.handle result body.new.items }
     ensures settings { server.new.settings ≡ server.old.settings }
 {
     let asked = read_request(server.alloc, request.body)?;
     let user = sessions.user_of(request.token)?;
     let access = server.settings.users().access_of(user);
-    put_read(
-        server,
-        access,
-        now,
-        handle,
-        asked.timestamps,
-        &asked.nodes,
-        body,
-    )
+    put_read(server, access, context, &asked, body)
 }

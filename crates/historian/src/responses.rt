@@ -12,21 +12,30 @@ pub(crate) const LONGEST_RESPONSE: usize = 16_777_216;
 /// The type id of a ServiceFault.
 const SERVICE_FAULT: u32 = 397;
 
+/// When a request is served, and its handle: what the header of its response repeats, whatever it tells.
+#[derive(Clone, Copy)]
+pub struct RequestContext {
+    /// The moment that it is served at.
+    pub now: Ticks,
+    /// By which the client knows its response.
+    pub handle: u32,
+}
+
 /// Appends what every response begins with: its type id, the moment, the request's handle and a status.
 /// The one error is `OutOfMemory`, which may leave a part.
 #[inline(always)]
 pub(crate) fn put_head(
     out: &mut Vec<u8>,
     type_id: u32,
-    now: Ticks,
-    handle: u32,
+    context: RequestContext,
     status: Status,
 ) -> Result<(), BinaryFault>
-    ensures ok { OnOk result (out.new.items ≡ out.old.items ++ head type_id now handle status) }
+    ensures ok { OnOk result
+        (out.new.items ≡ out.old.items ++ head type_id context.now context.handle status) }
     ensures err { IfErr result (λ fault. fault ≡ BinaryFault.OutOfMemory) }
 {
     put_node_id(out, &NodeId::Numeric(0, type_id))?;
-    put_response_header(now, handle, status, out)?;
+    put_response_header(context.now, context.handle, status, out)?;
     Ok(())
 }
 
@@ -35,12 +44,12 @@ pub(crate) fn put_head(
 #[inline(always)]
 pub fn put_service_fault(
     out: &mut Vec<u8>,
-    now: Ticks,
-    handle: u32,
+    context: RequestContext,
     status: Status,
 ) -> Result<(), BinaryFault>
-    ensures ok { OnOk result (out.new.items ≡ out.old.items ++ service_fault now handle status) }
+    ensures ok { OnOk result
+        (out.new.items ≡ out.old.items ++ service_fault context.now context.handle status) }
     ensures err { IfErr result (λ fault. fault ≡ BinaryFault.OutOfMemory) }
 {
-    put_head(out, SERVICE_FAULT, now, handle, status)
+    put_head(out, SERVICE_FAULT, context, status)
 }

@@ -37,6 +37,14 @@ use ua_variant::ValueType;
 /// The most details of a HistoryUpdate.
 const MOST_UPDATES: usize = 100;
 
+/// On which terms details are performed: the user whom the records name, and the moment of the update.
+#[derive(Clone, Copy)]
+struct UpdateTerms<'a> {
+    alloc: Global,
+    user: &'a str,
+    now: Ticks,
+}
+
 /// An update that is refused as a whole; it takes no memory.
 fn refused(alloc: Global, status: Status) -> HistoryUpdateResult
     ensures told { result ≡ refused_update status }
@@ -139,21 +147,20 @@ fn update_of<A: Archive>(
 
 /// What one of the details is answered.
 fn update_item<A: Archive>(
-    alloc: Global,
     seen: UserSpace<'_>,
     archive: &mut A,
-    user: &str,
-    now: Ticks,
+    terms: UpdateTerms<'_>,
     details: &HistoryUpdateDetails<'_>,
 ) -> HistoryUpdateResult
-    requires user { IsUserName user.now }
+    requires user { IsUserName terms.user.now }
     requires values { HasShortValues (details_of details.now) }
     ensures acts { (used : List StepResult)
         × Refines (A.state archive.old) (A.state archive.new) used
-        (update_item (A.state archive.old).own (user_space_of seen.entry) user.now now
-        (details_of details.now)) result }
+        (update_item (A.state archive.old).own (user_space_of seen.entry) terms.entry.user.now
+        terms.entry.now (details_of details.now)) result }
     ensures short { IsShortUpdate result }
 {
+    let alloc = terms.alloc;
     let Some(node) = node_asked(details) else {
         return refused(alloc, Status::BAD_HISTORY_OPERATION_UNSUPPORTED);
     };
@@ -161,7 +168,7 @@ fn update_item<A: Archive>(
         Ok(value_type) => value_type,
         Err(status) => return refused(alloc, status),
     };
-    match asked_for(alloc, user, now, node) {
+    match asked_for(alloc, terms.user, terms.now, node) {
         Ok(request) => update_of(alloc, archive, &request, value_type, details),
         Err(_) => refused(alloc, Status::BAD_OUT_OF_MEMORY),
     }
@@ -210,33 +217,35 @@ pub fn update_one<A: Archive>(
     ensures short { IsShortUpdate result }
 {
     let seen = seen_by(&server.settings, user);
-    let archive = &mut server.replica.archive;
-    update_item(server.alloc, seen, archive, user, now, details)
+    let terms = UpdateTerms {
+        alloc: server.alloc,
+        user,
+        now,
+    };
+    update_item(seen, &mut server.replica.archive, terms, details)
 }
 
 /// What details are answered, in order, each over what those before it left.
 fn update_items<A: Archive>(
-    alloc: Global,
     seen: UserSpace<'_>,
     archive: &mut A,
-    user: &str,
-    now: Ticks,
+    terms: UpdateTerms<'_>,
     items: &[HistoryUpdateDetails<'_>],
     results: &mut Vec<HistoryUpdateResult>,
 )
-    requires user { IsUserName user.now }
+    requires user { IsUserName terms.user.now }
     requires values { AllByRecursion HasShortValues (map details_of items.now) }
     requires empty { results.old.items ≡ [] }
     requires room { length items.now ≤ vec_capacity results.old }
     ensures acts { (used : List StepResult)
         × Refines (A.state archive.old) (A.state archive.new) used
-        (each (update_item (A.state archive.old).own (user_space_of seen.entry) user.now now)
-        (map details_of items.now)) results.new.items }
+        (each (update_item (A.state archive.old).own (user_space_of seen.entry)
+        terms.entry.user.now terms.entry.now) (map details_of items.now)) results.new.items }
     ensures count { length results.new.items ≡ length items.now }
     ensures short { All IsShortUpdate results.new.items }
 {
     for details in items {
-        let result = update_item(alloc, seen, archive, user, now, details);
+        let result = update_item(seen, archive, terms, details);
         results.push(result).unwrap();
     }
 }
@@ -264,16 +273,16 @@ fn update_all<A: Archive>(
     let Ok(mut results) = Vec::with_capacity(server.alloc, details.len()) else {
         return Err(Status::BAD_OUT_OF_MEMORY);
     };
-    let seen = UserSpace {
-        space: server.settings.space(),
-        access: server.settings.users().access_of(user),
-    };
-    update_items(
-        server.alloc,
-        seen,
-        &mut server.replica.archive,
+    let seen = seen_by(&server.settings, user);
+    let terms = UpdateTerms {
+        alloc: server.alloc,
         user,
         now,
+    };
+    update_items(
+        seen,
+        &mut server.replica.archive,
+        terms,
         details,
         &mut results,
     );

@@ -13,7 +13,7 @@ ghost use Rattle.ua_connection.specs.Turns.{IsOwn, Answered, SendsTurn, ending_o
 use crate::turn::Step;
 use archive::Archive;
 use counted_io::ServeFault;
-use historian::{ClientMessage, Server, answer_message, put_service_fault};
+use historian::{ClientMessage, RequestContext, Server, answer_message, put_service_fault};
 use ua_binary::{Status, Ticks};
 use ua_channel::{Channel, ChannelFault};
 use ua_session::Sessions;
@@ -36,15 +36,15 @@ pub(crate) struct Message<'a> {
 #[inline(never)]
 fn make_fault(
     body: &mut Vec<u8>,
-    now: Ticks,
-    handle: u32,
+    context: RequestContext,
     status: Status,
 ) -> Result<(), ChannelFault>
-    ensures ok { OnOk result (body.new.items ≡ service_fault now handle status) }
+    ensures ok { OnOk result
+        (body.new.items ≡ service_fault context.now context.handle status) }
     ensures err { IfErr result (λ fault. fault ≡ ChannelFault.OutOfMemory) }
 {
     body.clear();
-    match put_service_fault(body, now, handle, status) {
+    match put_service_fault(body, context, status) {
         Ok(()) => Ok(()),
         Err(_) => Err(ChannelFault::OutOfMemory),
     }
@@ -54,17 +54,17 @@ fn make_fault(
 #[inline(always)]
 fn replace_if_too_large(
     channel: &Channel,
-    now: Ticks,
-    handle: u32,
+    context: RequestContext,
     body: &mut Vec<u8>,
 ) -> Result<(), ChannelFault>
-    ensures ok { OnOk result (body.new.items ≡ fitted channel.now now handle body.old.items) }
+    ensures ok { OnOk result
+        (body.new.items ≡ fitted channel.now context.now context.handle body.old.items) }
     ensures err { IfErr result (λ fault. fault ≡ ChannelFault.OutOfMemory) }
 {
     if channel.fits(body.len()) {
         return Ok(());
     }
-    make_fault(body, now, handle, Status::BAD_RESPONSE_TOO_LARGE)
+    make_fault(body, context, Status::BAD_RESPONSE_TOO_LARGE)
 }
 
 /// Sends the response in `body`, or where it isn't within what the client takes a ServiceFault that says so. No more is kept of
@@ -73,18 +73,18 @@ fn replace_if_too_large(
 fn send_fitting(
     channel: &mut Channel,
     request_id: u32,
-    now: Ticks,
-    handle: u32,
+    context: RequestContext,
     body: &mut Vec<u8>,
     out: &mut Vec<u8>,
 ) -> Result<(), ChannelFault>
     requires { IsReady channel.old }
     ensures { Writes channel.old
-        (message_bytes channel.old request_id (fitted channel.old now handle body.old.items))
-        (chunk_count channel.old (fitted channel.old now handle body.old.items)) result
-        out.old.items out.new.items channel.new }
+        (message_bytes channel.old request_id
+        (fitted channel.old context.now context.handle body.old.items))
+        (chunk_count channel.old (fitted channel.old context.now context.handle body.old.items))
+        result out.old.items out.new.items channel.new }
 {
-    match replace_if_too_large(channel, now, handle, body) {
+    match replace_if_too_large(channel, context, body) {
         Ok(()) => {
             let sent = channel.wrap(request_id, body.as_slice(), out);
             body.clear();
@@ -100,18 +100,17 @@ fn send_fitting(
 fn send_starved(
     channel: &mut Channel,
     request_id: u32,
-    now: Ticks,
-    handle: u32,
+    context: RequestContext,
     body: &mut Vec<u8>,
     out: &mut Vec<u8>,
 ) -> Result<Step, ServeFault>
     requires { IsReady channel.old }
     ensures sends { SendsTurn channel.old request_id
-        (service_fault now handle BAD_OUT_OF_MEMORY) result out.old.items out.new.items
-        channel.new }
+        (service_fault context.now context.handle BAD_OUT_OF_MEMORY) result out.old.items
+        out.new.items channel.new }
     ensures own { IsOwn ⊥ 65536 result }
 {
-    match make_fault(body, now, handle, Status::BAD_OUT_OF_MEMORY) {
+    match make_fault(body, context, Status::BAD_OUT_OF_MEMORY) {
         Ok(()) => {}
         Err(_) => return Err(ServeFault::OutOfMemory),
     }
@@ -148,11 +147,12 @@ pub(crate) fn respond<A: Archive>(
     let (request_id, now) = (message.request_id, message.now);
     let request = ClientMessage::read(message.bytes);
     let handle = request.handle();
+    let context = RequestContext { now, handle };
     match answer_message(server, sessions, now, request, body) {
-        Ok(()) => match send_fitting(channel, request_id, now, handle, body, out) {
+        Ok(()) => match send_fitting(channel, request_id, context, body, out) {
             Ok(()) => Ok(Step::Continues),
-            Err(_) => send_starved(channel, request_id, now, handle, body, out),
+            Err(_) => send_starved(channel, request_id, context, body, out),
         },
-        Err(_) => send_starved(channel, request_id, now, handle, body, out),
+        Err(_) => send_starved(channel, request_id, context, body, out),
     }
 }

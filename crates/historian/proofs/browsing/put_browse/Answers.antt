@@ -12,7 +12,7 @@ use Rattle.ua_services.specs.declared.browsing.BrowseDescription.{BrowseDescript
 use Rattle.ua_services.specs.declared.browsing.BrowseResult.{BrowseResult}
 use Rattle.ua_space.specs.declared.layout.Layout.{Layout}
 use Rattle.hist_update.specs.Codes.{list_refusal}
-use Rattle.historian.specs.Answers.{Response, Browsed, HasEncoding, IsTooLarge, head, response}
+use Rattle.historian.specs.Answers.{Response, Browsed, HasEncoding, IsTooLarge, head, response, longest_response}
 use Rattle.historian.specs.Browsing.{browse_node, browse}
 use Rattle.historian.specs.Telling.{Appends}
 use Rattle.historian.proofs.Items.{few_taken}
@@ -52,8 +52,8 @@ few_spelled results few spelled =
 
 pub returns-then-len-gt-LONGEST_RESPONSE : goal.returns-then-len-gt-LONGEST_RESPONSE
 returns-then-len-gt-LONGEST_RESPONSE g c =
-    let now = c.args.now in
-    let handle = c.args.handle in
+    let now = c.args.context.now in
+    let handle = c.args.context.handle in
     let space = c.args.server.now.settings.space in
     let nodes = c.args.nodes.now in
     let results = map (browse_node space) (map browse_fields nodes) in
@@ -63,14 +63,14 @@ returns-then-len-gt-LONGEST_RESPONSE g c =
     let P : Layout → Type 0 = λ s. Appends browse_result
     (map browsed_fields (map (browse_node s) (map browse_fields nodes)))
     c.put_count.new.out.items c.put_browsed.new.out.items in
-    let many : 16777216 < length c.put_browsed.new.out.items = omega (
+    let many : longest_response < length c.put_browsed.new.out.items = omega (
       arith,
       c.if-len-gt-LONGEST_RESPONSE.true,
       c.len.ensures,
       c.put_browsed.new.out.ok,
     ) in
     let large : IsTooLarge now handle (Ok (Browsed results)) =
-    subst (λ (bytes : List ℕ). 16777216 < length bytes) (same now handle results)
+    subst (λ (bytes : List ℕ). longest_response < length bytes) (same now handle results)
     (is-too-large browse_result (head 530 now handle GOOD) (map browsed_fields results)
     (length nodes) c.args.body.now.items c.put_head.new.out.items c.put_count.new.out.items
     c.put_browsed.new.out.items c.requires c.in_ok-put_head.ensures.ok
@@ -84,8 +84,8 @@ returns-then-len-gt-LONGEST_RESPONSE g c =
 
 pub returns : goal.returns
 returns g c =
-    let now = c.args.now in
-    let handle = c.args.handle in
+    let now = c.args.context.now in
+    let handle = c.args.context.handle in
     let space = c.args.server.now.settings.space in
     let nodes = c.args.nodes.now in
     let results = map (browse_node space) (map browse_fields nodes) in
@@ -95,7 +95,7 @@ returns g c =
     let P : Layout → Type 0 = λ s. Appends browse_result
     (map browsed_fields (map (browse_node s) (map browse_fields nodes)))
     c.put_count.new.out.items c.put_browsed.new.out.items in
-    let few : length c.put_browsed.new.out.items ≤ 16777216 = omega (
+    let few : length c.put_browsed.new.out.items ≤ longest_response = omega (
       arith,
       c.if-len-gt-LONGEST_RESPONSE.false,
       c.len.ensures,

@@ -4,6 +4,7 @@ use Rattle.ua_binary.specs.declared.codes.Status.{Status}
 use Rattle.ua_services.specs.Browsing.{ReferenceFields, browse_fields, browsed_fields, browse_result}
 use Rattle.ua_services.specs.declared.browsing.BrowseDescription.{BrowseDescription}
 use Rattle.ua_space.specs.declared.layout.Layout.{Layout}
+use Rattle.historian.specs.Answers.{longest_response}
 use Rattle.historian.specs.Browsing.{browse_node}
 use Rattle.historian.specs.Telling.{Appends}
 use Rattle.historian.proofs.Streaming.{puts-more, skips-more, some_of}
@@ -35,7 +36,7 @@ one_more space nodes i other x within is =
 -- it is written, or would be too much
 writes : (space : Layout) (nodes : List BrowseDescription) (i : ℕ) (other x : BrowseDescription)
     (old now new : List ℕ) (value : Status × List ReferenceFields) → i < length nodes
-    → x ≡ get_or nodes i other → value ≡ told_one space x → length now ≤ 16777216
+    → x ≡ get_or nodes i other → value ≡ told_one space x → length now ≤ longest_response
     → Appends browse_result (told_of space (take i nodes)) old now
     → new ≡ now ++ browse_result.canon value → browse_result.Fits value
     → Appends browse_result (told_of space (take (i + 1) nodes)) old new
@@ -58,7 +59,7 @@ loop-description-preserved c =
     let now = c.loop-description.out.items in
     elim c.if-len-le-LONGEST_RESPONSE.branch [
       | then-len-le-LONGEST_RESPONSE+in-Ok+in_ok-put-in-Ok w ↦
-          let few : length now ≤ 16777216 = omega (
+          let few : length now ≤ longest_response = omega (
             arith,
             w.if-len-le-LONGEST_RESPONSE.true,
             c.len.ensures,
@@ -71,7 +72,7 @@ loop-description-preserved c =
       | else-len-le-LONGEST_RESPONSE w ↦
           let other = some_of nodes i c.loop-description-test.true in
           let x = get_or nodes i other in
-          let many : 16777216 < length now = omega (
+          let many : longest_response < length now = omega (
             arith,
             w.if-len-le-LONGEST_RESPONSE.false,
             c.len.ensures,

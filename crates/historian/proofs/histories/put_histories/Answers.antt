@@ -13,6 +13,7 @@ use Rattle.archive.specs.Store.{Store, StepResult, NoMemory}
 use Rattle.archive.specs.Steps.{Refines, each}
 use Rattle.hist_read.specs.Node.{refused_read}
 use Rattle.hist_read.specs.declared.query.Query.{Query}
+use Rattle.historian.specs.Answers.{longest_response}
 use Rattle.historian.specs.Reading.{history_rules, read_history_of}
 use Rattle.historian.specs.Telling.{AppendsAll}
 use Rattle.historian.proofs.Items.{each-next-by, acts-none, acts-starved}
@@ -68,7 +69,7 @@ loop-item-preserved g c =
           let all = each-next-by a b e a.id b.id history_read_fields read c.args.items.now
           c.loop-item.item-index _ _ values more value c.loop-item.invariant.id
           (used, acts) (mark, act) c.loop-item-test.true refl refl in
-          let few : length c.loop-item.out.items ≤ 16777216 = omega (
+          let few : length c.loop-item.out.items ≤ longest_response = omega (
             arith,
             c.may_go_on.ensures.few w.if-may_go_on.true,
             c.len.ensures,
@@ -103,8 +104,8 @@ loop-item-preserved g c =
           let all = each-next-by a b b a.id b.id history_read_fields read items
           c.loop-item.item-index other item values more value c.loop-item.invariant.id
           (used, acts) act c.loop-item-test.true refl refl in
-          let many : OnOk c.loop-item.put (16777216 < length c.loop-item.out.items) =
-          subst (λ n. OnOk c.loop-item.put (16777216 < n))
+          let many : OnOk c.loop-item.put (longest_response < length c.loop-item.out.items) =
+          subst (λ n. OnOk c.loop-item.put (longest_response < n))
           (omega (arith, c.len.ensures, c.loop-item.out.ok))
           (c.may_go_on.ensures.many w.if-may_go_on.false) in
           let shown' : AppendsAll history_read_result (map history_fields more) c.loop-item.put old

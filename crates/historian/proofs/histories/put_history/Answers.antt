@@ -6,6 +6,7 @@ use Rattle.ua_binary.specs.declared.codes.Status.{Status}
 use Rattle.ua_services.specs.History.{IsHistoryRead, history_fields, history_read_result}
 use Rattle.ua_services.specs.declared.history.HistoryReadResult.{HistoryReadResult}
 use Rattle.hist_read.specs.Carrying.{TellsWithin}
+use Rattle.historian.specs.Answers.{longest_response}
 use Rattle.historian.specs.Telling.{AppendsOne}
 use Rattle.historian.proofs.histories.put_history.Goals as goal
 
@@ -18,7 +19,7 @@ spelled read is = is
 pub returns-in_default : goal.returns-in_default
 returns-in_default g c =
     let (used, value, acts, within) = c.read_history_of.ensures.acts in
-    let large = subst (λ (o : Option HistoryReadResult). TellsWithin (Some 16777216) o value)
+    let large = subst (λ (o : Option HistoryReadResult). TellsWithin (Some longest_response) o value)
     c.in_default.is within in
     (used, value, acts, (refl, inr (refl, large.0)))
 
@@ -39,7 +40,7 @@ pub returns : goal.returns
 returns g c =
     let (used, value, acts, within) = c.read_history_of.ensures.acts in
     let is : c.in-Some.read ≡ value =
-    (subst (λ (o : Option HistoryReadResult). TellsWithin (Some 16777216) o value) c.in-Some.is
+    (subst (λ (o : Option HistoryReadResult). TellsWithin (Some longest_response) o value) c.in-Some.is
     within).0 in (
       used,
       value,

@@ -16,7 +16,7 @@ use Rattle.records.specs.Contents.{Content}
 use Rattle.archive.specs.Store.{StepResult}
 use Rattle.archive.specs.Steps.{Refines, each}
 use Rattle.hist_read.specs.declared.query.Query.{Query}
-use Rattle.historian.specs.Answers.{Histories, head, response}
+use Rattle.historian.specs.Answers.{Histories, head, response, longest_response}
 use Rattle.hist_update.specs.Codes.{list_refusal}
 use Rattle.historian.specs.Telling.{ComesWritten}
 use Rattle.historian.specs.Reading.{unless_refused, answer_items, read_history_of, query_of, read_history}
@@ -72,7 +72,7 @@ returns-in-Some-clause-comes g c =
     ap (list_refusal 100) (asked_count asked c.len.result c.len.ensures)
     ∙ sym c.list_refusal.ensures ∙ c.in-Some.is in
     written-refused s (read_history s.id space (history_asked asked)) c.in-Some.status
-    c.args.now c.args.handle c.args.body.now.items
+    c.args.context.now c.args.context.handle c.args.body.now.items
     (λ R marks. ap (λ (o : Option Status). unless_refused o R
     (histories_by s.id space asked.release_continuation_points nodes R
     (query_of asked.details asked.timestamps)) marks) refused)
@@ -90,10 +90,10 @@ returns-in_err-query-clause-comes g c =
     let refused : query_of asked.details asked.timestamps ≡ Err p.0 =
     sym c.in_err-query.ensures ∙ ap Err (sym p.2) in
     subst (λ (r : Result (Unit {0}) Status). ComesWritten s s
-    (read_history s.id space (history_asked asked)) c.args.now c.args.handle r
+    (read_history s.id space (history_asked asked)) c.args.context.now c.args.context.handle r
     c.args.body.now.items) (sym p.1)
     (written-refused s (read_history s.id space (history_asked asked)) p.0
-    c.args.now c.args.handle c.args.body.now.items
+    c.args.context.now c.args.context.handle c.args.body.now.items
     (λ R marks. ap (λ (o : Option Status). unless_refused o R
     (histories_by s.id space asked.release_continuation_points nodes R
     (query_of asked.details asked.timestamps)) marks) taken
@@ -112,8 +112,8 @@ returns-in_err-put_head-clause-comes g c =
     ∙ sym c.list_refusal.ensures ∙ c.in_default.is in
     let p = err_from_is_err_and c.from_residual-in_err-put_head.result c.from_residual-in_err-put_head.ensures.1 in
     written-wanting s (read_history s.id space (history_asked asked)) Histories
-    (read_history_of s.id space query asked.release_continuation_points) nodes c.args.now
-    c.args.handle c.from_residual-in_err-put_head.result p.0 c.in_err-put_head.field-0.0 c.put_head.new.out.items
+    (read_history_of s.id space query asked.release_continuation_points) nodes c.args.context.now
+    c.args.context.handle c.from_residual-in_err-put_head.result p.0 c.in_err-put_head.field-0.0 c.put_head.new.out.items
     (asked_items s.id space asked query taken (sym c.in_ok-query.ensures)) p.1 p.2
     c.in_err-put_head.ensures.err
 
@@ -129,8 +129,8 @@ returns-in_err-put_count-clause-comes g c =
     ∙ sym c.list_refusal.ensures ∙ c.in_default.is in
     let p = err_from_is_err_and c.from_residual-in_err-put_count.result c.from_residual-in_err-put_count.ensures.1 in
     written-wanting s (read_history s.id space (history_asked asked)) Histories
-    (read_history_of s.id space query asked.release_continuation_points) nodes c.args.now
-    c.args.handle c.from_residual-in_err-put_count.result p.0 c.in_err-put_count.field-0.0 c.put_count.new.out.items
+    (read_history_of s.id space query asked.release_continuation_points) nodes c.args.context.now
+    c.args.context.handle c.from_residual-in_err-put_count.result p.0 c.in_err-put_count.field-0.0 c.put_count.new.out.items
     (asked_items s.id space asked query taken (sym c.in_ok-query.ensures)) p.1 p.2
     c.in_err-put_count.ensures.0
 
@@ -144,8 +144,8 @@ returns-in_err-put_histories-clause-comes g c =
     let nodes = map history_read_fields asked.nodes.items in
     let query = c.in_ok-query.query in
     let release = asked.release_continuation_points in
-    let now = c.args.now in
-    let handle = c.args.handle in
+    let now = c.args.context.now in
+    let handle = c.args.context.handle in
     let taken : list_refusal 100 (length nodes) ≡ None =
     ap (list_refusal 100) (asked_count asked c.len.result c.len.ensures)
     ∙ sym c.list_refusal.ensures ∙ c.in_default.is in
@@ -171,7 +171,7 @@ returns-in_err-put_histories-clause-comes g c =
     c.put_histories.new.out.items
     (c.put_count.new.out.items ++ flat_map history_read_result.canon (map history_fields values))
     p.1 p.2 shown (λ many.
-    subst (λ (bytes : List ℕ). 16777216 < length bytes) (same now handle values)
+    subst (λ (bytes : List ℕ). longest_response < length bytes) (same now handle values)
     (is-over history_read_result (head 667 now handle GOOD) (map history_fields values)
     c.len-2.result c.args.body.now.items c.put_head.new.out.items c.put_count.new.out.items
     c.requires c.in_ok-put_head.ensures.ok c.in_ok-put_count.ensures
@@ -187,8 +187,8 @@ returns-then-len-gt-LONGEST_RESPONSE-clause-comes g c =
     let nodes = map history_read_fields asked.nodes.items in
     let query = c.in_ok-query.query in
     let release = asked.release_continuation_points in
-    let now = c.args.now in
-    let handle = c.args.handle in
+    let now = c.args.context.now in
+    let handle = c.args.context.handle in
     let taken : list_refusal 100 (length nodes) ≡ None =
     ap (list_refusal 100) (asked_count asked c.len.result c.len.ensures)
     ∙ sym c.list_refusal.ensures ∙ c.in_default.is in
@@ -211,7 +211,7 @@ returns-then-len-gt-LONGEST_RESPONSE-clause-comes g c =
     (subst (P c.space.result.now) c.deref.ensures.value (used, all)))
     (inr (inr (
       refl,
-      subst (λ (bytes : List ℕ). 16777216 < length bytes) (same now handle values)
+      subst (λ (bytes : List ℕ). longest_response < length bytes) (same now handle values)
           (is-too-large history_read_result (head 667 now handle GOOD) (map history_fields values)
           c.len-2.result c.args.body.now.items c.put_head.new.out.items c.put_count.new.out.items
           c.put_histories.new.out.items c.requires c.in_ok-put_head.ensures.ok
@@ -234,8 +234,8 @@ returns-in_err-put_i32-clause-comes g c =
     let nodes = map history_read_fields asked.nodes.items in
     let query = c.in_ok-query.query in
     let release = asked.release_continuation_points in
-    let now = c.args.now in
-    let handle = c.args.handle in
+    let now = c.args.context.now in
+    let handle = c.args.context.handle in
     let taken : list_refusal 100 (length nodes) ≡ None =
     ap (list_refusal 100) (asked_count asked c.len.result c.len.ensures)
     ∙ sym c.list_refusal.ensures ∙ c.in_default.is in
@@ -270,8 +270,8 @@ returns-clause-comes g c =
     let nodes = map history_read_fields asked.nodes.items in
     let query = c.in_ok-query.query in
     let release = asked.release_continuation_points in
-    let now = c.args.now in
-    let handle = c.args.handle in
+    let now = c.args.context.now in
+    let handle = c.args.context.handle in
     let taken : list_refusal 100 (length nodes) ≡ None =
     ap (list_refusal 100) (asked_count asked c.len.result c.len.ensures)
     ∙ sym c.list_refusal.ensures ∙ c.in_default.is in

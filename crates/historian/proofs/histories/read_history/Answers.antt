@@ -19,12 +19,12 @@ returns-in_err-asked-clause-responds g c =
     let token = node_of c.args.request.token in
     let sessions = c.args.sessions.now in
     let p = err_from_is_err_and c.from_residual.result c.from_residual.ensures.1 in
-    let does = answered_call config c.args.now token
+    let does = answered_call config c.args.context.now token
     (call_in service.HistoryRead c.args.request.body) sessions in
-    responds-refused s s does sessions c.args.now c.args.handle p.0 c.from_residual.result
+    responds-refused s s does sessions c.args.context.now c.args.context.handle p.0 c.from_residual.result
     c.args.body.now.items
     (performs-here s does sessions (Err p.0)
-    (performs-unread config c.args.now token sessions service.HistoryRead
+    (performs-unread config c.args.context.now token sessions service.HistoryRead
     (λ (asked : HistoryReadRequest). HistoryRead (history_asked asked)) c.args.request.body
     c.in_err-asked.field-0.0 (Err p.0) c.in_err-asked.ensures (ap Err p.2))) p.1
 
@@ -37,12 +37,12 @@ returns-in_err-user_of-clause-responds g c =
     let asked = history_asked c.in_ok-asked.asked in
     let p = err_from_is_err_and c.from_residual-in_err-user_of.result
     c.from_residual-in_err-user_of.ensures.1 in
-    let does = answered_call config c.args.now token
+    let does = answered_call config c.args.context.now token
     (call_in service.HistoryRead c.args.request.body) sessions in
-    responds-refused s s does sessions c.args.now c.args.handle p.0
+    responds-refused s s does sessions c.args.context.now c.args.context.handle p.0
     c.from_residual-in_err-user_of.result c.args.body.now.items
     (performs-here s does sessions (Err p.0)
-    (performs-outside config c.args.now token sessions service.HistoryRead (HistoryRead asked)
+    (performs-outside config c.args.context.now token sessions service.HistoryRead (HistoryRead asked)
     c.args.request.body (λ R user. read_history config.id config.settings.space asked R)
     c.in_err-user_of.field-0.0 p.0 (Err p.0) c.in_ok-asked.ensures (λ R marks. refl)
     (sym c.in_err-user_of.ensures.value) p.2 refl)) p.1
@@ -53,8 +53,8 @@ returns-clause-responds g c =
     let b = g.A.Archive.state c.put_read_history.new.server.replica.archive in
     let config = site_of c.args.server.now.settings a in
     let asked = history_asked c.in_ok-asked.asked in
-    performs-with (λ (told : Response). Written c.args.now c.args.handle told
-    c.put_read_history.result c.put_read_history.new.body.items) a b config c.args.now
+    performs-with (λ (told : Response). Written c.args.context.now c.args.context.handle told
+    c.put_read_history.result c.put_read_history.new.body.items) a b config c.args.context.now
     (node_of c.args.request.token) c.args.sessions.now service.HistoryRead (HistoryRead asked)
     c.args.request.body c.in_ok-user_of.field-0.now
     (λ R user. read_history config.id config.settings.space asked R) c.in_ok-asked.ensures

@@ -13,6 +13,7 @@ use Rattle.hist_read.specs.Carrying.{IsReadTooLong, TellsWithin}
 use Rattle.hist_read.specs.Node.{refused_read, read_node}
 use Rattle.hist_read.proofs.Carried.{refused_within}
 use Rattle.hist_read.specs.declared.query.Query.{Query}
+use Rattle.historian.specs.Answers.{longest_response}
 use Rattle.historian.specs.Reading.{history_rules, read_history_of, released}
 use Rattle.historian.proofs.ReadingParts.{history_by}
 use Rattle.historian.proofs.Items.{acts-none, acts-starved, acts-past, acts-made}
@@ -37,16 +38,16 @@ past a b space query release item node read passed same acts =
 
 -- what is shown of a read that isn't too long isn't too long either
 shown-within : (release : Bool) (read value shown : HistoryReadResult)
-    → TellsWithin (Some 16777216) (Some read) value → shown ≡ released release read
-    → TellsWithin (Some 16777216) (Some shown) (released release value)
+    → TellsWithin (Some longest_response) (Some read) value → shown ≡ released release read
+    → TellsWithin (Some longest_response) (Some shown) (released release value)
 shown-within release read value shown within is = (
   is ∙ ap (released release) within.0,
   by (release && not (nat_le 2147483648 value.status.0)),
 )
   where
-    by : (is_less : Bool) → IsReadTooLong (cond is_less (refused_read GOOD) value) 16777216 → ⊥
+    by : (is_less : Bool) → IsReadTooLong (cond is_less (refused_read GOOD) value) longest_response → ⊥
     by true long =
-        (refused_within 16777216 GOOD (refused_read GOOD) refl (omega arith)).1 long
+        (refused_within longest_response GOOD (refused_read GOOD) refl (omega arith)).1 long
     by false long = within.1 long
 
 pub returns-in-Err-clause-acts : goal.returns-in-Err-clause-acts
@@ -62,7 +63,7 @@ returns-in-Err-clause-acts g c =
       acts.0,
       c.nothing.result,
       acts.1,
-      refused_within 16777216 c.in-Err.status c.nothing.result c.nothing.ensures.told (omega arith),
+      refused_within longest_response c.in-Err.status c.nothing.result c.nothing.ensures.told (omega arith),
     )
 
 pub returns-in_default-to_owned-clause-acts : goal.returns-in_default-to_owned-clause-acts
@@ -78,7 +79,7 @@ returns-in_default-to_owned-clause-acts g c =
       acts.0,
       c.nothing-in_default-to_owned.result,
       acts.1,
-      refused_within 16777216 BAD_OUT_OF_MEMORY c.nothing-in_default-to_owned.result
+      refused_within longest_response BAD_OUT_OF_MEMORY c.nothing-in_default-to_owned.result
           c.nothing-in_default-to_owned.ensures.told (omega arith),
     )
 
@@ -96,7 +97,7 @@ returns-in_default-read_node_within-clause-acts g c =
       released release value,
       all.1,
       c.too_long.ensures.told value
-          (subst (λ (o : Option HistoryReadResult). TellsWithin (Some 16777216) o value)
+          (subst (λ (o : Option HistoryReadResult). TellsWithin (Some longest_response) o value)
           c.in_default-read_node_within.is within),
     )
 
@@ -113,6 +114,6 @@ returns-clause-acts g c =
       released release value,
       all.1,
       shown-within release c.in-Some.read value c.released.result
-          (subst (λ (o : Option HistoryReadResult). TellsWithin (Some 16777216) o value)
+          (subst (λ (o : Option HistoryReadResult). TellsWithin (Some longest_response) o value)
           c.in-Some.is within) c.released.ensures.told,
     )

@@ -6,6 +6,7 @@ use Rattle.ua_services.specs.declared.history.HistoryReadResult.{HistoryReadResu
 use Rattle.hist_read.specs.Carrying.{TellsWithin}
 use Rattle.hist_read.specs.Node.{refused_read}
 use Rattle.hist_read.proofs.Carried.{refused_within}
+use Rattle.historian.specs.Answers.{longest_response}
 use Rattle.historian.specs.Reading.{released}
 use Rattle.historian.proofs.histories.too_long.Goals as goal
 
@@ -18,13 +19,13 @@ shows-nothing read good =
 
 pub returns-then-release-clause-told : goal.returns-then-release-clause-told
 returns-then-release-clause-told c = λ read large.
-    subst (λ (release : Bool). TellsWithin (Some 16777216) (Some c.nothing.result)
+    subst (λ (release : Bool). TellsWithin (Some longest_response) (Some c.nothing.result)
     (released release read)) (sym c.if-release.true)
-    (subst (λ (shown : HistoryReadResult). TellsWithin (Some 16777216) (Some c.nothing.result) shown)
+    (subst (λ (shown : HistoryReadResult). TellsWithin (Some longest_response) (Some c.nothing.result) shown)
     (c.nothing.ensures.told ∙ shows-nothing read large.1)
-    (refused_within 16777216 GOOD c.nothing.result c.nothing.ensures.told (omega arith)))
+    (refused_within longest_response GOOD c.nothing.result c.nothing.ensures.told (omega arith)))
 
 pub returns-else-release-clause-told : goal.returns-else-release-clause-told
 returns-else-release-clause-told c = λ read large.
-    subst (λ (release : Bool). TellsWithin (Some 16777216) None (released release read))
+    subst (λ (release : Bool). TellsWithin (Some longest_response) None (released release read))
     (sym c.if-release.false) large

@@ -19,7 +19,7 @@ returns-clause-responds g c =
     let token = node_of c.args.request.token in
     let S = c.args.sessions.now in
     let does : Service → Content → Fallible MessageOutcome =
-    λ service. answered_call config c.args.now token (call_in service c.args.request.body) S in
+    λ service. answered_call config c.args.context.now token (call_in service c.args.request.body) S in
     let P : Service → Type 0 = λ s.
     Performs a b (does s) c.match-request.sessions c.match-request.answer in
     let performs : Performs a b (does c.args.request.service) c.match-request.sessions
@@ -27,25 +27,25 @@ returns-clause-responds g c =
       | in-GetEndpoints w ↦ subst P (sym w.in-GetEndpoints.is)
           (rw (w.server-is, w.sessions-is, w.answer-is)
           (performs-here a (does service.GetEndpoints) S w.get_endpoints-answer.result
-          (w.get_endpoints-answer.ensures.performs config c.args.now token S refl)))
+          (w.get_endpoints-answer.ensures.performs config c.args.context.now token S refl)))
       | in-CreateSession w ↦ subst P (sym w.in-CreateSession.is)
           (rw (w.server-is, w.sessions-is, w.answer-is)
           (performs-here a (does service.CreateSession) w.create_session-answer.new.sessions
           w.create_session-answer.result
-          (w.create_session-answer.ensures.performs config c.args.now token refl)))
+          (w.create_session-answer.ensures.performs config c.args.context.now token refl)))
       | in-ActivateSession w ↦ subst P (sym w.in-ActivateSession.is)
           (rw (w.server-is, w.sessions-is, w.answer-is)
           (performs-here a (does service.ActivateSession) w.activate_session-answer.new.sessions
           w.activate_session-answer.result
-          (w.activate_session-answer.ensures.performs config c.args.now refl)))
+          (w.activate_session-answer.ensures.performs config c.args.context.now refl)))
       | in-CloseSession w ↦ subst P (sym w.in-CloseSession.is)
           (rw (w.server-is, w.sessions-is, w.answer-is)
           (performs-here a (does service.CloseSession) w.close_session-answer.new.sessions
           w.close_session-answer.result
-          (w.close_session-answer.ensures.performs config c.args.now)))
+          (w.close_session-answer.ensures.performs config c.args.context.now)))
       | in-HistoryUpdate w ↦ subst P (sym w.in-HistoryUpdate.is)
           (rw (w.server-is, w.sessions-is, w.answer-is) (w.update_history-answer.ensures.performs))
     ] in
-    responds-finished a b (does c.args.request.service) c.match-request.sessions c.args.now
-    c.args.handle c.match-request.answer c.write_response.result c.write_response.new.body.items
+    responds-finished a b (does c.args.request.service) c.match-request.sessions c.args.context.now
+    c.args.context.handle c.match-request.answer c.write_response.result c.write_response.new.body.items
     performs c.write_response.ensures

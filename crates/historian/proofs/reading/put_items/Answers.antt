@@ -15,6 +15,7 @@ use Rattle.ua_space.specs.declared.attributes.Answered.TheVariants.{Value, Archi
 use Rattle.records.specs.Contents.{Content}
 use Rattle.archive.specs.Store.{StepResult, NoMemory}
 use Rattle.archive.specs.Steps.{Refines, each, and_then, give}
+use Rattle.historian.specs.Answers.{longest_response}
 use Rattle.historian.specs.Reading.{read_item, item_at, item_told, unless_met, value_of_item}
 use Rattle.historian.specs.Telling.{Appends}
 use Rattle.historian.specs.UserSpaces.{UserSpace, seen_by}
@@ -72,7 +73,7 @@ loop-item-preserved g c =
           let all = each-next a b e read_fields (read_item seen now stamps) c.args.items.now
           c.loop-item.item-index _ _ values more value (used, acts)
           (mark ∷ [], act) c.loop-item-test.true refl refl in
-          let few : length c.loop-item.out.items ≤ 16777216 = omega (
+          let few : length c.loop-item.out.items ≤ longest_response = omega (
             arith,
             w.if-len-le-LONGEST_RESPONSE.true,
             c.len.ensures,
@@ -108,7 +109,7 @@ loop-item-preserved g c =
           let all = each-next a b b read_fields (read_item seen now stamps) items
           c.loop-item.item-index other item values more value (used, acts)
           act c.loop-item-test.true refl refl in
-          let many : 16777216 < length c.loop-item.out.items = omega (
+          let many : longest_response < length c.loop-item.out.items = omega (
             arith,
             w.if-len-le-LONGEST_RESPONSE.false,
             c.len.ensures,

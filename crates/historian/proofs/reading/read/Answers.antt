@@ -1,9 +1,8 @@
-use Rattle.std.proofs.Common.{◌∙◌, List, map, Err, refl, sym, ap, subst}
+use Rattle.std.proofs.Common.{◌∙◌, Err, refl, sym, ap, subst}
 use Rattle.std.proofs.lemmas.Result.{err_from_is_err_and}
 use Rattle.ua_binary.specs.Binary.{node_of}
 use Rattle.ua_services.specs.declared.attributes.ReadRequest.{ReadRequest}
-use Rattle.ua_services.specs.declared.attributes.ReadValueId.{ReadValueId}
-use Rattle.ua_services.specs.Attributes.{read_fields, read_asked}
+use Rattle.ua_services.specs.Attributes.{read_asked}
 use Rattle.ua_session.specs.declared.identity.Access.{Access}
 use Rattle.ua_session.specs.Users.{access_of}
 use Rattle.historian.specs.declared.service.Service.TheVariants as service
@@ -23,12 +22,12 @@ returns-in_err-asked-clause-responds g c =
     let token = node_of c.args.request.token in
     let sessions = c.args.sessions.now in
     let p = err_from_is_err_and c.from_residual.result c.from_residual.ensures.1 in
-    let does = answered_call config c.args.now token
+    let does = answered_call config c.args.context.now token
     (call_in service.Read c.args.request.body) sessions in
-    responds-refused s s does sessions c.args.now c.args.handle p.0 c.from_residual.result
+    responds-refused s s does sessions c.args.context.now c.args.context.handle p.0 c.from_residual.result
     c.args.body.now.items
     (performs-here s does sessions (Err p.0)
-    (performs-unread config c.args.now token sessions service.Read
+    (performs-unread config c.args.context.now token sessions service.Read
     (λ (asked : ReadRequest). Read (read_asked asked)) c.args.request.body
     c.in_err-asked.field-0.0 (Err p.0) c.in_err-asked.ensures (ap Err p.2))) p.1
 
@@ -41,13 +40,13 @@ returns-in_err-user-clause-responds g c =
     let asked = read_asked c.in_ok-asked.asked in
     let p = err_from_is_err_and c.from_residual-in_err-user.result
     c.from_residual-in_err-user.ensures.1 in
-    let does = answered_call config c.args.now token
+    let does = answered_call config c.args.context.now token
     (call_in service.Read c.args.request.body) sessions in
-    responds-refused s s does sessions c.args.now c.args.handle p.0
+    responds-refused s s does sessions c.args.context.now c.args.context.handle p.0
     c.from_residual-in_err-user.result c.args.body.now.items
     (performs-here s does sessions (Err p.0)
-    (performs-outside config c.args.now token sessions service.Read (Read asked) c.args.request.body
-    (λ R user. read (space_for config.settings user) c.args.now asked R) c.in_err-user.field-0.0 p.0
+    (performs-outside config c.args.context.now token sessions service.Read (Read asked) c.args.request.body
+    (λ R user. read (space_for config.settings user) c.args.context.now asked R) c.in_err-user.field-0.0 p.0
     (Err p.0)
     c.in_ok-asked.ensures (λ R marks. refl) (sym c.in_err-user.ensures.value) p.2 refl)) p.1
 
@@ -60,17 +59,14 @@ returns-clause-responds g c =
     let bytes = c.put_read.new.body.items in
     let user = c.in_ok-user.user.now in
     let may = c.access_of-access.ensures ∙ ap (λ users. access_of users user) c.users.ensures in
-    let Q : Access → List ReadValueId → Type 0 =
-    λ access nodes. ComesWritten a b
-    (read (seen_by config.settings.space access) c.args.now
-    (c.in_ok-asked.asked.timestamps, map read_fields nodes)) c.args.now c.args.handle
-    c.put_read.result bytes in
-    let comes = subst (λ access. Q access c.deref.result.now) may c.put_read.ensures.comes in
+    let Q : Access → Type 0 = λ access.
+    ComesWritten a b (read (seen_by config.settings.space access) c.args.context.now asked)
+    c.args.context.now c.args.context.handle c.put_read.result bytes in
     performs-with (λ (told : Response).
-    Written c.args.now c.args.handle told c.put_read.result bytes) a b config c.args.now
+    Written c.args.context.now c.args.context.handle told c.put_read.result bytes) a b config c.args.context.now
     (node_of c.args.request.token) c.args.sessions.now service.Read
     (Read asked) c.args.request.body user
-    (λ R user. read (space_for config.settings user) c.args.now asked R) c.in_ok-asked.ensures
+    (λ R user. read (space_for config.settings user) c.args.context.now asked R) c.in_ok-asked.ensures
     (λ R marks. refl)
     (sym c.in_ok-user.ensures.value)
-    (subst (Q (access_of config.settings.users user)) c.deref.ensures.value comes)
+    (subst Q may c.put_read.ensures.comes)

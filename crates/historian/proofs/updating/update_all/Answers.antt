@@ -3,7 +3,6 @@ use Rattle.std.specs.Prelude.{Option}
 use Rattle.std.proofs.lemmas.List.{length-map}
 use Rattle.ua_binary.specs.declared.codes.Status.{Status}
 use Rattle.ua_services.specs.Updates.{details_of}
-use Rattle.ua_session.specs.Users.{access_of}
 use Rattle.archive.specs.Store.{StepResult}
 use Rattle.archive.specs.Steps.{Refines, each}
 use Rattle.historian.specs.Answers.{Updated as AllUpdated}
@@ -54,10 +53,6 @@ returns-clause-comes g c =
     let taken : list_refusal 100 (length details) ≡ None =
     ap (list_refusal 100) (length-map c.args.details.now details_of)
     ∙ sym c.list_refusal.ensures ∙ c.in_default.is in
-    let seen : UserSpace =
-    record { layout = c.space.result.now; access = c.access_of.result } in
-    let may = c.access_of.ensures ∙ ap (λ users. access_of users user) c.users.ensures in
-    let same : seen ≡ space = λ i. record { layout = c.space.ensures i; access = may i } in
     let P : UserSpace → Type 0 = λ space.
     (used : List StepResult)
     × Refines a b used (each (update_item a.own space user c.args.now) details)
@@ -67,4 +62,4 @@ returns-clause-comes g c =
     (λ R marks. ap (λ (o : Option Status).
     unless_refused o R (answer_items AllUpdated
     (update_item a.own space user c.args.now) details R) marks) taken)
-    (subst P same c.update_items.ensures.acts)
+    (subst P c.seen_by-seen.ensures c.update_items.ensures.acts)

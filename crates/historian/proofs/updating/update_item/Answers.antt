@@ -16,10 +16,10 @@ returns-in_default-clause-acts g c =
     let s = g.A.Archive.state c.args.archive.now in
     let space = user_space_of c.args.seen in
     let details = details_of c.args.details.now in
-    let request = asked_for c.args.user.now c.args.now in
+    let request = asked_for c.args.terms.user.now c.args.terms.now in
     let node : node_asked details ≡ None =
     sym c.node_asked.ensures ∙ ap (option_map node_of) c.in_default.is in
-    acts-none s (update_item s.own space c.args.user.now c.args.now details) c.refused.result
+    acts-none s (update_item s.own space c.args.terms.user.now c.args.terms.now details) c.refused.result
     (λ R marks.
     ap (λ o. update_by s.own request details R (type_granted space o) marks) node
     ∙ ap (λ x. give (x, R) marks) (sym c.refused.ensures.told))
@@ -29,10 +29,10 @@ returns-in-Err-clause-acts g c =
     let s = g.A.Archive.state c.args.archive.now in
     let space = user_space_of c.args.seen in
     let details = details_of c.args.details.now in
-    let request = asked_for c.args.user.now c.args.now in
+    let request = asked_for c.args.terms.user.now c.args.terms.now in
     let node : node_asked details ≡ Some (node_of c.in-Some.node) =
     sym c.node_asked.ensures ∙ ap (option_map node_of) c.in-Some.is in
-    acts-none s (update_item s.own space c.args.user.now c.args.now details) c.refused-in-Err.result
+    acts-none s (update_item s.own space c.args.terms.user.now c.args.terms.now details) c.refused-in-Err.result
     (λ R marks.
     ap (λ o. update_by s.own request details R (type_granted space o) marks) node
     ∙ ap (λ t. update_by s.own request details R t marks) (sym c.type_of.ensures.told ∙ c.in-Err.is)
@@ -43,10 +43,10 @@ returns-in-Err-asked_for-clause-acts g c =
     let s = g.A.Archive.state c.args.archive.now in
     let space = user_space_of c.args.seen in
     let details = details_of c.args.details.now in
-    let request = asked_for c.args.user.now c.args.now in
+    let request = asked_for c.args.terms.user.now c.args.terms.now in
     let node : node_asked details ≡ Some (node_of c.in-Some.node) =
     sym c.node_asked.ensures ∙ ap (option_map node_of) c.in-Some.is in
-    acts-starved s (update_item s.own space c.args.user.now c.args.now details)
+    acts-starved s (update_item s.own space c.args.terms.user.now c.args.terms.now details)
     c.refused-in-Err-asked_for.result (λ R later.
     ap (λ o. update_by s.own request details R (type_granted space o) (NoMemory ∷ later)) node
     ∙ ap (λ t. update_by s.own request details R t (NoMemory ∷ later))
@@ -59,11 +59,11 @@ returns-in-Ok-asked_for-clause-acts g c =
     let b = g.A.Archive.state c.update_of.new.archive in
     let space = user_space_of c.args.seen in
     let details = details_of c.args.details.now in
-    let request = asked_for c.args.user.now c.args.now in
+    let request = asked_for c.args.terms.user.now c.args.terms.now in
     let type = c.in-Ok.value_type in
     let node : node_asked details ≡ Some (node_of c.in-Some.node) =
     sym c.node_asked.ensures ∙ ap (option_map node_of) c.in-Some.is in
-    acts-past a b (update_item a.own space c.args.user.now c.args.now details)
+    acts-past a b (update_item a.own space c.args.terms.user.now c.args.terms.now details)
     (update_of a.own (λ _. c.in-Ok-asked_for.request) type details) c.update_of.result
     c.update_of.ensures.acts (λ R marks.
     ap (λ o. update_by a.own request details R (type_granted space o) (Done ∷ marks)) node

@@ -24,7 +24,7 @@ loop-details-preserved g c =
     record {
       own = c.update_item-result.ensures.acts.1.passes.own ∙ c.loop-details.invariant.own;
       acts = each-next-by a b d a.own b.own details_of
-          (λ own. update_item own (user_space_of c.args.seen) c.args.user.now c.args.now) c.args.items.now
+          (λ own. update_item own (user_space_of c.args.seen) c.args.terms.user.now c.args.terms.now) c.args.items.now
           c.loop-details.details-index _ c.details-item.result c.loop-details.results.items
           c.push.new.self.items
           c.update_item-result.result c.loop-details.invariant.own c.loop-details.invariant.acts
@@ -53,11 +53,11 @@ loop-details-init g c =
     let a = g.A.Archive.state c.args.archive.now in
     let P : List HistoryUpdateResult → Type 0 =
     λ l. (used : List StepResult)
-    × Refines a a used (each (update_item a.own (user_space_of c.args.seen) c.args.user.now c.args.now) [])
+    × Refines a a used (each (update_item a.own (user_space_of c.args.seen) c.args.terms.user.now c.args.terms.now) [])
     l in
     record {
       acts = subst P (sym c.requires.empty) (acts-none a
-          (each (update_item a.own (user_space_of c.args.seen) c.args.user.now c.args.now) []) []
+          (each (update_item a.own (user_space_of c.args.seen) c.args.terms.user.now c.args.terms.now) []) []
           (λ R marks. refl));
       short = subst (All IsShortUpdate) (sym c.requires.empty) (All-nil IsShortUpdate);
       count = search rules;
@@ -69,7 +69,7 @@ pub returns-clause-acts : goal.returns-clause-acts
 returns-clause-acts g c =
     let a = g.A.Archive.state c.args.archive.now in
     let b = g.A.Archive.state c.loop-details.archive in
-    let update = update_item a.own (user_space_of c.args.seen) c.args.user.now c.args.now in
+    let update = update_item a.own (user_space_of c.args.seen) c.args.terms.user.now c.args.terms.now in
     let P : List HistoryUpdateDetails → Type 0 = λ items.
     (used : List StepResult) × Refines a b used
     (each update (map details_of items)) c.loop-details.results.items in

@@ -11,7 +11,7 @@ abbrev pub invariant-loop-details : goal.invariant-loop-details
 invariant-loop-details g l = record {
   acts : (used : List StepResult) × Refines (g.A.Archive.state l.fn.archive)
       (g.A.Archive.state l.archive) used (each
-      (update_item (g.A.Archive.state l.fn.archive).own (user_space_of l.seen) l.user l.now)
+      (update_item (g.A.Archive.state l.fn.archive).own (user_space_of l.seen) l.terms.user.now l.terms.now)
       (map details_of (take l.details-index l.items))) l.results.items;
   short : All IsShortUpdate l.results.items;
   count : vec_len l.results ≡ l.details-index;
