@@ -99,4 +99,5 @@ unfolding talks_behind
 talks_once_behind a b c start last came out rest ending stays passes once = record {
   talks = talks_behind a b c start last came out rest ending stays passes once.talks;
   one = once.one;
+  some = once.some;
 }

@@ -55,15 +55,17 @@ module _ {A C L : Type 0} (state : A → Store) where
   answer_moves gave told stay v w (Browser web) new made ending a =
       (a.settings, transitions_grow _ _ _ _ a.answers.1.1)
   answer_moves gave told stay v w (Peer peer) new made ending (inl a) = (
-    a.settings,
-    grows_more _ _ _ (own_grows state _ _ a.between _ a.asks) (talks_grow _ _ _ _ _ _ _ _ a.talks),
+    a.stays.settings,
+    grows_more _ _ _ (own_grows state _ _ a.between _ a.takes.asks)
+        (talks_grow _ _ _ _ _ _ _ _ a.once.talks),
   )
   answer_moves gave told stay v w (Peer peer) new made ending (inr (inl a)) = (
-    a.settings,
-    grows_more _ _ _ (own_grows state _ _ a.between _ a.asks) (ahead_grows _ _ _ _ _ _ a.learns),
+    a.stays.settings,
+    grows_more _ _ _ (own_grows state _ _ a.between _ a.takes.asks)
+        (ahead_grows _ _ _ _ _ _ a.learns),
   )
   answer_moves gave told stay v w (Peer peer) new made ending (inr (inr a)) =
-      (a.settings, own_grows state _ _ _ a.asked a.asks)
+      (a.stays.settings, own_grows state _ _ _ a.asked a.asks)
 
   -- what is told
   log_moves : (told : Telling L) (event : LogEvent) (v w : World A C L) → Logs told event v w

@@ -1,5 +1,5 @@
 -- What stands first on a connection, and what it is answered.
-use Rattle.std.specs.Prelude.{◌≡◌, ◌⊎◌, ℕ, ℤ, Bool, true, false, ◌≤◌, List, [], ◌∷◌, length, Option, None, Some, Result, Ok, Err}
+use Rattle.std.specs.Prelude.{◌≡◌, ◌⊎◌, ℕ, ℤ, Bool, true, false, List, [], ◌∷◌, Option, None, Some, Result, Ok, Err}
 use Rattle.std.specs.Option.{option_map}
 use Rattle.std.specs.Result.{result_map_both}
 use Rattle.archive.specs.Store.{Store}
@@ -13,7 +13,7 @@ use Rattle.counted_io.specs.declared.fault.ServeFault.TheVariants.{OutOfMemory}
 use Rattle.ua_connection.specs.Environments.{Environment}
 use Rattle.ua_connection.specs.Client.{Ending as ClientEnding}
 use Rattle.ua_connection.specs.Turns.{ConnectionState, Advances, NeedsBytes}
-use Rattle.ua_peers.specs.Peers.{Talks, TalksOnce}
+use Rattle.ua_peers.specs.Peers.{TalksOnce}
 use Rattle.ua_peers.specs.declared.peers.PeerEnded.{PeerEnded}
 use Rattle.conversation.specs.declared.ended.Ended.TheVariants as ended
 use Rattle.conversation.specs.declared.other_end.PeerDialog.{PeerDialog}
@@ -80,38 +80,48 @@ Tells said ends made ending =
     ((made ≡ said) × (ending ≡ peer_ending ends))
     ⊎ ((made ≡ []) × (ending ≡ Some (Err OutOfMemory)))
 
--- the frame that stood first in a peer's dialog, if it was whole, and no other one was answered
--- over an archive, since its records are taken; what the server is set to stays, and nothing is
--- told. Between the two the archive may have been asked how many records of its own number it holds
-pub record AnswersPeer {A C L : Type 0} (state : A → Store) (gave : C → List ℤ → C → Type 0)
-    (v : World A C L) (peer : PeerDialog) (made : List ℕ) (ending : Option ConversationEnding)
-    (w : World A C L) (next : OtherEnd) : Type 0 where
+-- a turn of a peer's connection at this time: the clock is read where the settings need the time,
+-- no answer to a login is held back any more, and all else but the archive stays as it was
+pub record StaysAtPeer {A C L : Type 0} (gave : C → List ℤ → C → Type 0) (time : ℤ)
+    (v w : World A C L) : Type 0 where
   pub readings : List ℤ
-  pub time : ℤ
-  pub between : A
-  pub held : Option ℕ
-  pub said : List ℕ
-  pub rest : List ℕ
-  pub ends : Option (Result PeerEnded ServeFault)
-  pub last : DialogState
-  pub settings : w.server.settings ≡ v.server.settings
   pub clock : gave v.clock readings w.clock
   pub timed : IsTimed v.server.settings readings time
+  pub settings : w.server.settings ≡ v.server.settings
   pub log : w.log ≡ v.log
   pub logins : w.logins ≡ unheld v.logins
   pub from : w.from ≡ v.from
   pub now : w.now ≡ v.now
   pub calls : w.calls ≡ v.calls
   pub connections : w.connections ≡ v.connections
-  pub restoring : w.restoring ≡ restoring_with v.restoring held
-  pub asks : AsksOwn state (is_own_asked v.server.settings peer.frames.waiting)
-      v.server.replica.archive between (Ok held)
+
+-- the records of the frame that stands first are taken at this time, once the archive was asked how
+-- many records of its own number it holds, where it is; whether these come back is noted
+pub record TakesFirst {A C L : Type 0} (state : A → Store) (time : ℤ) (waiting : List ℕ)
+    (v w : World A C L) (between : A) : Type 0 where
+  pub held : Option ℕ
+  pub asks : AsksOwn state (is_own_asked v.server.settings waiting) v.server.replica.archive between
+      (Ok held)
   pub admitted : IsAdmitted v.server.settings time
       (own_bound (restoring_with v.restoring held) (state between).own held)
-      (party_of (state between)) peer.frames.waiting
-  pub talks : Talks peer.dialog (state between) (state w.server.replica.archive)
+      (party_of (state between)) waiting
+  pub restoring : w.restoring ≡ restoring_with v.restoring held
+
+-- the frame that stood first in a peer's dialog, if it was whole, and no other one was answered
+-- over an archive, since its records are taken
+pub record AnswersPeer {A C L : Type 0} (state : A → Store) (gave : C → List ℤ → C → Type 0)
+    (v : World A C L) (peer : PeerDialog) (made : List ℕ) (ending : Option ConversationEnding)
+    (w : World A C L) (next : OtherEnd) : Type 0 where
+  pub time : ℤ
+  pub between : A
+  pub said : List ℕ
+  pub rest : List ℕ
+  pub ends : Option (Result PeerEnded ServeFault)
+  pub last : DialogState
+  pub stays : StaysAtPeer gave time v w
+  pub takes : TakesFirst state time peer.frames.waiting v w between
+  pub once : TalksOnce peer.dialog (state between) (state w.server.replica.archive)
       peer.frames.waiting said rest ends last
-  pub one : length talks.taken ≤ 1
   pub tells : Tells said ends made ending
   pub leaves : next ≡ unless_over ending (Peer (peer_at last rest))
 
@@ -121,23 +131,14 @@ pub record AnswersPeer {A C L : Type 0} (state : A → Store) (gave : C → List
 pub record RefusesPeer {A C L : Type 0} (state : A → Store) (gave : C → List ℤ → C → Type 0)
     (v : World A C L) (peer : PeerDialog) (made : List ℕ) (ending : Option ConversationEnding)
     (w : World A C L) (next : OtherEnd) : Type 0 where
-  pub readings : List ℤ
   pub time : ℤ
   pub asked : Result (Option ℕ) StoreFault
   pub said : List ℕ
   pub ends : Option (Result PeerEnded ServeFault)
-  pub settings : w.server.settings ≡ v.server.settings
-  pub clock : gave v.clock readings w.clock
-  pub timed : IsTimed v.server.settings readings time
-  pub log : w.log ≡ v.log
-  pub logins : w.logins ≡ unheld v.logins
-  pub from : w.from ≡ v.from
-  pub now : w.now ≡ v.now
-  pub calls : w.calls ≡ v.calls
-  pub connections : w.connections ≡ v.connections
-  pub restoring : w.restoring ≡ restoring_behind v.restoring asked
+  pub stays : StaysAtPeer gave time v w
   pub asks : AsksOwn state (is_own_asked v.server.settings peer.frames.waiting)
       v.server.replica.archive w.server.replica.archive asked
+  pub restoring : w.restoring ≡ restoring_behind v.restoring asked
   pub refuses : Refuses v.server.settings time v.restoring
       (party_of (state w.server.replica.archive)) peer.frames.waiting asked said ends
   pub tells : Tells said ends made ending
@@ -145,34 +146,18 @@ pub record RefusesPeer {A C L : Type 0} (state : A → Store) (gave : C → List
 
 -- some first records of the frame that stood first in a peer's dialog were learned ahead of its
 -- turn, since they are taken: the frame stays, and nothing is said, or why the next one wasn't
--- learned, which ends the dialog. Between the two the archive may have been asked how many records
--- of its own number it holds
+-- learned, which ends the dialog
 pub record LearnsFromPeer {A C L : Type 0} (state : A → Store) (gave : C → List ℤ → C → Type 0)
     (v : World A C L) (peer : PeerDialog) (made : List ℕ) (ending : Option ConversationEnding)
     (w : World A C L) (next : OtherEnd) : Type 0 where
-  pub readings : List ℤ
   pub time : ℤ
   pub between : A
-  pub held : Option ℕ
   pub result : Result (Option ℕ) ExchangeFault
   pub said : List ℕ
   pub ends : Option (Result PeerEnded ServeFault)
   pub last : DialogState
-  pub settings : w.server.settings ≡ v.server.settings
-  pub clock : gave v.clock readings w.clock
-  pub timed : IsTimed v.server.settings readings time
-  pub log : w.log ≡ v.log
-  pub logins : w.logins ≡ unheld v.logins
-  pub from : w.from ≡ v.from
-  pub now : w.now ≡ v.now
-  pub calls : w.calls ≡ v.calls
-  pub connections : w.connections ≡ v.connections
-  pub restoring : w.restoring ≡ restoring_with v.restoring held
-  pub asks : AsksOwn state (is_own_asked v.server.settings peer.frames.waiting)
-      v.server.replica.archive between (Ok held)
-  pub admitted : IsAdmitted v.server.settings time
-      (own_bound (restoring_with v.restoring held) (state between).own held)
-      (party_of (state between)) peer.frames.waiting
+  pub stays : StaysAtPeer gave time v w
+  pub takes : TakesFirst state time peer.frames.waiting v w between
   pub learns : LearnsAhead (state between) (state w.server.replica.archive) peer.dialog last
       (first_records (party_of (state between)) peer.dialog peer.frames.waiting) result
   pub told : TellsAhead result said ends

@@ -19,6 +19,7 @@ use Rattle.conversation.specs.Logins.{delay_of, no_logins}
 use Rattle.historian.specs.declared.server.Server.{Server}
 use Rattle.conversation.specs.Starting.{StartsCall}
 use Rattle.conversation.specs.Moves.{Moves}
+use Rattle.ua_settings.specs.Settings.{ends_serving}
 
 -- who is at the other end of a connection that came from there, before its first byte
 abbrev pub first_end : (from : Option (List Network)) → Origin → OtherEnd
@@ -46,7 +47,7 @@ new_world server clock log = record {
 -- the store is broken, and the settings say that nobody is served then
 abbrev pub serves_nobody : {A C L : Type 0} → (A → Store) → World A C L → Bool
 serves_nobody state w =
-    w.server.settings.ends_broken && (state w.server.replica.archive).broken
+    ends_serving w.server.settings.after_break && (state w.server.replica.archive).broken
 
 -- a connection begins with a stranger, with a browser, or with nobody known at its other end, at
 -- the door of its listener, which is told and counted, or is a call of a peer; answers to logins

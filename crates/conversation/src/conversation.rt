@@ -60,7 +60,8 @@ impl<A: Archive, C: Clock, L: Log> Handler for Conversation<A, C, L> {
 
     /// Whether the store is broken, and the settings say that nobody is served then.
     fn is_over(world: &World<A, C, L>) -> bool {
-        world.server.settings.ends_broken() && world.server.replica.archive.is_broken()
+        world.server.settings.after_break().ends_serving()
+            && world.server.replica.archive.is_broken()
     }
 
     /// Nothing came yet, and nobody is known, but for strangers at the door of peers, and for browsers. That it came is told, and

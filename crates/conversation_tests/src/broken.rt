@@ -14,9 +14,12 @@ use ua_settings::Settings;
 /// One connection over a store that breaks.
 type Talk = Conversation<ScriptedArchive, ConstantClock, Faults>;
 
-/// A plant whose server ends once its store is broken, and one that goes on.
+/// A plant whose server ends once its store is broken, one that opens it anew, and one that goes on.
 const ENDS: &str =
     "[archive]\nid = '00000000000000000000000000000000'\nreplica = 1\nbroken = 'stop'\n[server]\nlisten = ''\nurl = ''\napplication = ''\nnamespace = ''\nanonymous = true\n";
+
+const IS_OPENED_ANEW: &str =
+    "[archive]\nid = '00000000000000000000000000000000'\nreplica = 1\nbroken = 'reopen'\n[server]\nlisten = ''\nurl = ''\napplication = ''\nnamespace = ''\nanonymous = true\n";
 
 const GOES_ON: &str =
     "[archive]\nid = '00000000000000000000000000000000'\nreplica = 1\n[server]\nlisten = ''\nurl = ''\napplication = ''\nnamespace = ''\nanonymous = true\n";
@@ -42,6 +45,10 @@ fn a_broken_store_ends_all_where_the_settings_say_so(rt: HostRuntime) -> Result<
     let alloc = rt.alloc();
     assert_eq!(rt;
         over_around(alloc, ENDS, Failure::BrokenBefore)?,
+        (false, true)
+    );
+    assert_eq!(rt;
+        over_around(alloc, IS_OPENED_ANEW, Failure::BrokenBefore)?,
         (false, true)
     );
     assert_eq!(rt; over_around(alloc, ENDS, Failure::Refused)?, (false, false));

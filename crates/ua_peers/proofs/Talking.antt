@@ -126,7 +126,7 @@ first-none a s held left out sound e is none =
     let same : left ≡ held = is ∙ ap (after_next held) e in
     subst (λ (o : List ℕ). TalksOnce s a a held.waiting o left.waiting None s) (sym none)
     (subst (λ (h : ReceivedFrames). TalksOnce s a a held.waiting [] h.waiting None s) (sym same)
-    (once-start s a held.waiting))
+    (once-start s a held.waiting (sym (next-cut held sound) ∙ e)))
 
 pub leaves-none : (s : DialogState) (held left : ReceivedFrames) → held.failed ≡ false
     → next_of held ≡ Ok None → left ≡ after_next held (next_of held) → LeavesOne held left s s None

@@ -1,6 +1,7 @@
 -- How the frames of a dialog make the dialog.
 use Rattle.std.proofs.Common.{◌≡◌, ◌⊎◌, ℕ, suc, ◌+◌, Bool, true, false, List, [], ◌∷◌, ◌++◌, map, take, drop, length, Option, Some, None, Result, Ok, Err, refl, sym, ◌∙◌, ap, subst, append_assoc, arith, inl, inr, option_to_list}
 use Rattle.std.specs.List.{flat_map}
+use Rattle.std.proofs.lemmas.Option.{none-some}
 use Rattle.std.proofs.lemmas.List.{map-append, append-nil, take-append-drop, take_all}
 use Rattle.std.proofs.lemmas.Grind.{flat_map-append}
 use Rattle.std.proofs.Math.Bool.{or-false}
@@ -193,10 +194,11 @@ talks-start start a rest = record {
   crash = λ h R held left m. inl (m, λ u. refl);
 }
 
-pub once-start : (start : DialogState) (a : Store) (rest : List ℕ)
+pub once-start : (start : DialogState) (a : Store) (rest : List ℕ) → frame_header rest ≡ Ok None
     → TalksOnce start a a rest [] rest None start
 unfolding talks-start
-once-start start a rest = record { talks = talks-start start a rest; one = omega (arith) }
+once-start start a rest short =
+    record { talks = talks-start start a rest; one = omega (arith); some = λ none goes. short }
 
 same-party : (a b : Store) (faults : List StoreFault) → CountsFaults a b faults
     → party_of b ≡ party_of a
@@ -495,6 +497,7 @@ unfolding talks-frame
 once-frame a b before next frame waiting said result stands within body takes = record {
   talks = talks-frame a b before next frame waiting said result stands within body takes;
   one = omega (arith);
+  some = λ none goes. absurd (cc);
 }
 
 -- what came is no frame
@@ -531,4 +534,5 @@ unfolding talks-malformed
 once-malformed a before waiting beside fault malformed told = record {
   talks = talks-malformed a before waiting beside fault malformed told;
   one = omega (arith);
+  some = λ none goes. absurd (none-some _ (sym goes));
 }

@@ -172,11 +172,12 @@ pub record Talks (start : DialogState) (old new : Store) (came out rest : List �
       × (old.broken ≡ false → (after_all (party_of old) (side_of start R) taken).content ≡ R))
       ⊎ ((old.broken ≡ false) × IsLeftBy (party_of old) (side_of start R) taken left)
 
--- the same, by one frame at most
+-- the same, by one frame at most; and by one, while the dialog is open, unless none is whole
 pub record TalksOnce (start : DialogState) (old new : Store) (came out rest : List ℕ)
     (ending : Option (Result PeerEnded ServeFault)) (last : DialogState) : Type 0 where
   pub talks : Talks start old new came out rest ending last
   pub one : length talks.taken ≤ 1
+  pub some : talks.taken ≡ [] → ending ≡ None → frame_header came ≡ Ok None
 
 -- the dialog is open, and no whole frame is left
 abbrev pub Waits : DialogState → Store → Store → List ℕ → List ℕ → DialogState → Type 0

@@ -35,58 +35,65 @@ returns-then-append-clause-answers g c =
       elim so [
         | inl taken ↦ let (between, held, asks, admitted, restoring, meets) = taken in elim meets [
           | inl once ↦ inl (record {
-            readings = readings;
             time = c.time_at-time.result;
             between = between;
-            held = held;
             said = answered.new.said.items;
             rest = answered.new.peer.frames.waiting;
             ends = ends;
             last = answered.new.peer.dialog;
-            settings = answered.ensures.settings;
-            clock = gave;
-            timed = timed;
-            log = refl;
-            logins = c.release.ensures;
-            from = refl;
-            now = refl;
-            calls = refl;
-            connections = refl;
-            restoring = restoring;
-            asks = asks;
-            admitted = subst (λ (t : ℤ). IsAdmitted server.settings t
-                (own_bound (restoring_with c.args.world.now.restoring held)
-                (g.A.Archive.state between).own held) (party_of (g.A.Archive.state between))
-                c.args.peer.now.frames.waiting) same admitted;
-            talks = once.talks;
-            one = once.one;
+            stays = record {
+              readings = readings;
+              clock = gave;
+              timed = timed;
+              settings = answered.ensures.settings;
+              log = refl;
+              logins = c.release.ensures;
+              from = refl;
+              now = refl;
+              calls = refl;
+              connections = refl;
+            };
+            takes = record {
+              held = held;
+              asks = asks;
+              admitted = subst (λ (t : ℤ). IsAdmitted server.settings t
+                  (own_bound (restoring_with c.args.world.now.restoring held)
+                  (g.A.Archive.state between).own held) (party_of (g.A.Archive.state between))
+                  c.args.peer.now.frames.waiting) same admitted;
+              restoring = restoring;
+            };
+            once = once;
             tells = inl (refl, is);
             leaves = left_so _ answered.new.peer answered.ensures.goes;
           })
           | inr ahead ↦ let (result, learns, told, frames) = ahead in inr (inl (record {
-            readings = readings;
             time = c.time_at-time.result;
             between = between;
-            held = held;
             result = result;
             said = answered.new.said.items;
             ends = ends;
             last = answered.new.peer.dialog;
-            settings = answered.ensures.settings;
-            clock = gave;
-            timed = timed;
-            log = refl;
-            logins = c.release.ensures;
-            from = refl;
-            now = refl;
-            calls = refl;
-            connections = refl;
-            restoring = restoring;
-            asks = asks;
-            admitted = subst (λ (t : ℤ). IsAdmitted server.settings t
-                (own_bound (restoring_with c.args.world.now.restoring held)
-                (g.A.Archive.state between).own held) (party_of (g.A.Archive.state between))
-                c.args.peer.now.frames.waiting) same admitted;
+            stays = record {
+              readings = readings;
+              clock = gave;
+              timed = timed;
+              settings = answered.ensures.settings;
+              log = refl;
+              logins = c.release.ensures;
+              from = refl;
+              now = refl;
+              calls = refl;
+              connections = refl;
+            };
+            takes = record {
+              held = held;
+              asks = asks;
+              admitted = subst (λ (t : ℤ). IsAdmitted server.settings t
+                  (own_bound (restoring_with c.args.world.now.restoring held)
+                  (g.A.Archive.state between).own held) (party_of (g.A.Archive.state between))
+                  c.args.peer.now.frames.waiting) same admitted;
+              restoring = restoring;
+            };
             learns = learns;
             told = told;
             tells = inl (refl, is);
@@ -96,22 +103,24 @@ returns-then-append-clause-answers g c =
           }))
         ]
         | inr refused ↦ let (asked, asks, refuses, restoring, left) = refused in inr (inr (record {
-          readings = readings;
           time = c.time_at-time.result;
           asked = asked;
           said = answered.new.said.items;
           ends = ends;
-          settings = answered.ensures.settings;
-          clock = gave;
-          timed = timed;
-          log = refl;
-          logins = c.release.ensures;
-          from = refl;
-          now = refl;
-          calls = refl;
-          connections = refl;
-          restoring = restoring;
+          stays = record {
+            readings = readings;
+            clock = gave;
+            timed = timed;
+            settings = answered.ensures.settings;
+            log = refl;
+            logins = c.release.ensures;
+            from = refl;
+            now = refl;
+            calls = refl;
+            connections = refl;
+          };
           asks = asks;
+          restoring = restoring;
           refuses = subst (λ (t : ℤ). Refuses server.settings t c.args.world.now.restoring party
               c.args.peer.now.frames.waiting asked answered.new.said.items ends) same refuses;
           tells = inl (refl, is);
@@ -135,58 +144,65 @@ returns-else-append-clause-answers g c =
       elim so [
         | inl taken ↦ let (between, held, asks, admitted, restoring, meets) = taken in elim meets [
           | inl once ↦ inl (record {
-            readings = readings;
             time = c.time_at-time.result;
             between = between;
-            held = held;
             said = answered.new.said.items;
             rest = answered.new.peer.frames.waiting;
             ends = ends;
             last = answered.new.peer.dialog;
-            settings = answered.ensures.settings;
-            clock = gave;
-            timed = timed;
-            log = refl;
-            logins = c.release.ensures;
-            from = refl;
-            now = refl;
-            calls = refl;
-            connections = refl;
-            restoring = restoring;
-            asks = asks;
-            admitted = subst (λ (t : ℤ). IsAdmitted server.settings t
-                (own_bound (restoring_with c.args.world.now.restoring held)
-                (g.A.Archive.state between).own held) (party_of (g.A.Archive.state between))
-                c.args.peer.now.frames.waiting) same admitted;
-            talks = once.talks;
-            one = once.one;
+            stays = record {
+              readings = readings;
+              clock = gave;
+              timed = timed;
+              settings = answered.ensures.settings;
+              log = refl;
+              logins = c.release.ensures;
+              from = refl;
+              now = refl;
+              calls = refl;
+              connections = refl;
+            };
+            takes = record {
+              held = held;
+              asks = asks;
+              admitted = subst (λ (t : ℤ). IsAdmitted server.settings t
+                  (own_bound (restoring_with c.args.world.now.restoring held)
+                  (g.A.Archive.state between).own held) (party_of (g.A.Archive.state between))
+                  c.args.peer.now.frames.waiting) same admitted;
+              restoring = restoring;
+            };
+            once = once;
             tells = inr (refl, refl);
             leaves = refl;
           })
           | inr ahead ↦ let (result, learns, told, frames) = ahead in inr (inl (record {
-            readings = readings;
             time = c.time_at-time.result;
             between = between;
-            held = held;
             result = result;
             said = answered.new.said.items;
             ends = ends;
             last = answered.new.peer.dialog;
-            settings = answered.ensures.settings;
-            clock = gave;
-            timed = timed;
-            log = refl;
-            logins = c.release.ensures;
-            from = refl;
-            now = refl;
-            calls = refl;
-            connections = refl;
-            restoring = restoring;
-            asks = asks;
-            admitted = subst (λ (t : ℤ). IsAdmitted server.settings t
-                (own_bound (restoring_with c.args.world.now.restoring held)
-                (g.A.Archive.state between).own held) (party_of (g.A.Archive.state between))
-                c.args.peer.now.frames.waiting) same admitted;
+            stays = record {
+              readings = readings;
+              clock = gave;
+              timed = timed;
+              settings = answered.ensures.settings;
+              log = refl;
+              logins = c.release.ensures;
+              from = refl;
+              now = refl;
+              calls = refl;
+              connections = refl;
+            };
+            takes = record {
+              held = held;
+              asks = asks;
+              admitted = subst (λ (t : ℤ). IsAdmitted server.settings t
+                  (own_bound (restoring_with c.args.world.now.restoring held)
+                  (g.A.Archive.state between).own held) (party_of (g.A.Archive.state between))
+                  c.args.peer.now.frames.waiting) same admitted;
+              restoring = restoring;
+            };
             learns = learns;
             told = told;
             tells = inr (refl, refl);
@@ -194,22 +210,24 @@ returns-else-append-clause-answers g c =
           }))
         ]
         | inr refused ↦ let (asked, asks, refuses, restoring, left) = refused in inr (inr (record {
-          readings = readings;
           time = c.time_at-time.result;
           asked = asked;
           said = answered.new.said.items;
           ends = ends;
-          settings = answered.ensures.settings;
-          clock = gave;
-          timed = timed;
-          log = refl;
-          logins = c.release.ensures;
-          from = refl;
-          now = refl;
-          calls = refl;
-          connections = refl;
-          restoring = restoring;
+          stays = record {
+            readings = readings;
+            clock = gave;
+            timed = timed;
+            settings = answered.ensures.settings;
+            log = refl;
+            logins = c.release.ensures;
+            from = refl;
+            now = refl;
+            calls = refl;
+            connections = refl;
+          };
           asks = asks;
+          restoring = restoring;
           refuses = subst (λ (t : ℤ). Refuses server.settings t c.args.world.now.restoring party
               c.args.peer.now.frames.waiting asked answered.new.said.items ends) same refuses;
           tells = inr (refl, refl);
