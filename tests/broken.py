@@ -1,11 +1,14 @@
 #!/usr/bin/env python3
-"""Serves over a store whose disk takes no more from some moment on, with `[archive] broken = "stop"` and without it.
+"""Serves over a store whose disk takes no more from some moment on, with `[archive] broken = "stop"`, with `"reopen"`, and without it.
 
     tests/broken.py PROGRAM [ROUNDS]
 
 With the key the client is told 80040000, the program ends with `store broken` and status 3 within a second, other clients'
 connections are closed, the turn in which it broke is told with `slow`, and once the disk is well a new start has each insert that was answered Good, and at most the one that
-broke it. Without the key it goes on, and answers 80040000 to each insert, till it is started again. Needs gcc. A line a round.
+broke it. With `"reopen"` a sync that fails once is told, the same connections go on in their sessions, also that of another
+client, and `--connections` counts on; a second one ends the program by `store broken`, and a disk that stays ill, as it is opened
+anew, by that or by `store refused`. Without the key it goes on, and answers 80040000 to each insert, till it is started again.
+Needs gcc. A line a round.
 """
 import os, re, socket, struct, subprocess, sys, tempfile, time
 import running, usage
@@ -20,6 +23,7 @@ ill = os.path.join(folder, "ill")
 library = running.built("unsynced.c", "unsynced.so", folder)
 INSERTED, UNAVAILABLE = struct.pack("<I", 0x00A20000), struct.pack("<I", 0x80040000)
 SAID = "uahist: store broken\nuahist: a read or a write of its disk failed\n"
+ANEW = "uahist: store broken, opened anew\n"
 
 
 class Connection:
@@ -56,16 +60,17 @@ class Connection:
             return True
 
 
-def started(key, slow=None):
+def started(key, slow=None, once=False, connections=None):
     port = running.free_port()
     running.write_settings(settings, "settings.toml", 1, port, store)
     text = open(settings).read()
-    open(settings, "w").write(text.replace("[archive]\n", "[archive]\nbroken = 'stop'\n", 1) if key else text)
+    open(settings, "w").write(text.replace("[archive]\n", f"[archive]\nbroken = '{key}'\n", 1) if key else text)
     if slow:
         text = open(settings).read()
         open(settings, "w").write(text.replace("[server]\n", "[server]\nslow = 100\n", 1))
-    environment = dict(os.environ, LD_PRELOAD=library, UNSYNCED=ill, **({"UNSYNCED_MS": str(slow)} if slow else {}))
-    server = subprocess.Popen([program, "serve", "--settings", settings], env=environment, stderr=subprocess.PIPE, text=True)
+    environment = dict(os.environ, LD_PRELOAD=library, UNSYNCED=ill, **({"UNSYNCED_MS": str(slow)} if slow else {}), **({"UNSYNCED_ONCE": "1"} if once else {}))
+    words = [program, "serve", "--settings", settings] + (["--connections", str(connections)] if connections else [])
+    server = subprocess.Popen(words, env=environment, stderr=subprocess.PIPE, text=True)
     assert running.listens(port, server), server.stderr.read()
     return server, port
 
@@ -75,10 +80,71 @@ def dumped():
     return len(done.stdout.splitlines())
 
 
+def breaks(writer, k):
+    """An insert whose sync fails is answered 80040000."""
+    open(ill, "w").close()
+    answer = writer.insert(k)
+    assert UNAVAILABLE in answer and INSERTED not in answer, answer.hex()
+
+
+def opened_anew(held, first):
+    """A store that breaks once is opened anew, and its connections stay; a second break ends the program. How many records are there."""
+    server, port = started("reopen", once=True, connections=4)
+    other, writer = Connection(port), Connection(port)
+    assert INSERTED in writer.insert(first)
+    breaks(writer, first + 1)
+    assert INSERTED in writer.insert(first + 2) and INSERTED in other.insert(first + 3)
+    assert INSERTED in Connection(port).insert(first + 4) and not running.is_over(server)
+    breaks(other, first + 5)
+    status, said = server.wait(10), server.stderr.read()
+    assert (status, said) == (3, ANEW + SAID), (status, said)
+    assert writer.is_closed() and other.is_closed()
+    found = dumped()
+    assert held + 4 <= found <= held + 6, (held, found)
+    print(f"with reopen: behind one 80040000 two clients go on in their sessions, and a third comes; the second break ends it; {found - held} records more are there")
+    return found
+
+
+def counted_on(held, first):
+    """A run of so many connections ends once they are over, those before the break and those behind it together."""
+    server, port = started("reopen", once=True, connections=2)
+    writer = Connection(port)
+    breaks(writer, first)
+    assert INSERTED in writer.insert(first + 1)
+    writer.line.close()
+    last = Connection(port)
+    assert INSERTED in last.insert(first + 2)
+    last.line.close()
+    status, said = server.wait(10), server.stderr.read()
+    assert (status, said) == (0, ANEW), (status, said)
+    found = dumped()
+    assert held + 2 <= found <= held + 3, (held, found)
+    print("with reopen: a run of two connections, one of which met the break, ends by itself without a fault")
+    return found
+
+
+def refused_anew(held, first):
+    """Where the disk stays ill the file is refused as it is opened anew, or the store breaks again."""
+    server, port = started("reopen")
+    writer = Connection(port)
+    breaks(writer, first)
+    try:
+        writer.insert(first + 1)
+    except (ConnectionError, OSError):
+        pass
+    status, said = server.wait(10), server.stderr.read()
+    os.remove(ill)
+    assert status == 3 and (said == ANEW + SAID or re.match(r"uahist: store refused \(\d\)\n", said)), (status, said)
+    found = dumped()
+    assert held <= found <= held + 2, (held, found)
+    print(f"with reopen, over a disk that stays ill, it ends with status 3: {said.splitlines()[0]}")
+    return found
+
+
 def main():
     held = 0
     for k in range(rounds):
-        server, port = started(True)
+        server, port = started("stop")
         other, writer = Connection(port), Connection(port)
         for n in range(10):
             assert INSERTED in writer.insert(100 * k + n)
@@ -95,7 +161,7 @@ def main():
         assert held + 10 <= found <= held + 11, (held, found)
         print(f"round {k + 1}: 10 inserts answered Good, one 80040000; the program ended by itself after {took * 1000:.0f} ms, and {found - held} records more are there", flush=True)
         held = found
-    server, port = started(True, 300)
+    server, port = started("stop", 300)
     writer = Connection(port)
     open(ill, "w").close()
     answer = writer.insert(100 * rounds)
@@ -105,7 +171,9 @@ def main():
     assert UNAVAILABLE in answer and status == 3 and turn and int(turn[1]) >= 300, (status, said)
     print(f"the turn in which a slow disk failed is told before the store is told to be broken: {turn[1]} ms", flush=True)
     held = dumped()
-    server, port = started(False)
+    for k, case in enumerate((opened_anew, counted_on, refused_anew)):
+        held = case(held, 100 * rounds + 10 * (k + 1))
+    server, port = started(None)
     writer = Connection(port)
     assert INSERTED in writer.insert(90)
     open(ill, "w").close()

@@ -1,5 +1,5 @@
 /* A disk that takes no more: while the file UNSYNCED names stands, fsync and fdatasync fail with EIO, after UNSYNCED_MS milliseconds.
-   Loaded by LD_PRELOAD; see broken.py. */
+   With UNSYNCED_ONCE the file goes with the first that fails. Loaded by LD_PRELOAD; see broken.py. */
 #define _GNU_SOURCE
 #include <dlfcn.h>
 #include <errno.h>
@@ -11,6 +11,7 @@ static int fails(void) {
   if (!path || access(path, F_OK) != 0) return 0;
   const char *wait = getenv("UNSYNCED_MS");
   if (wait) usleep(1000 * atoi(wait));
+  if (getenv("UNSYNCED_ONCE")) unlink(path);
   errno = EIO;
   return 1;
 }

@@ -19,3 +19,4 @@ pub mod ExposedFiles
 pub mod CheckingParts
 pub mod Logged
 pub mod Begun
+pub mod Reopened

@@ -47,10 +47,15 @@ use Rattle.archive.specs.Store.{Store}
 use Rattle.ua_server.specs.Exposing.{IsTaken, JudgesStrict}
 use Rattle.ua_server.specs.Host.{Machine, KnownMachine}
 use Rattle.conversation.specs.declared.door.Door.TheVariants.{Both, Clients, Peers, Browsers}
+use Rattle.archive.specs.declared.fault.StoreFault.{StoreFault}
+use Rattle.multiplex.specs.declared.limits.Limits.{Limits}
+use Rattle.ua_server.specs.declared.reopening.StoreFile.{StoreFile}
 use Rattle.ua_server.specs.Network.{Serving}
+use Rattle.ua_server.specs.Reopening.{Stage}
+use Rattle.ua_server.specs.Serving.{ServesOn, FollowsRun, run_result}
 use Rattle.peer_check.specs.declared.comparing.Extent.{Extent}
 use Rattle.ua_server.specs.Calls.{compared_before}
-use Rattle.ua_server.specs.Program.{SettingsAt, FindsNoPlace, OpensBy, CallsPeer, Calling, ImportsTo, ImportsFrom, Scene, PrintsCall, PrintsSynced, Shows, Findings, IsMistaken, DoesCommand, DoesLine, Runs, OpensUnless, line_refusal, settings_path, store_use}
+use Rattle.ua_server.specs.Program.{SettingsAt, FindsNoPlace, Listens, ListensNowhere, OpensBy, CallsPeer, Calling, ImportsTo, ImportsFrom, Scene, PrintsCall, PrintsSynced, Shows, Findings, IsMistaken, DoesCommand, DoesLine, Runs, OpensUnless, line_refusal, settings_path, store_use}
 use Rattle.ua_server.specs.declared.program.StoreUse.{StoreUse}
 use Rattle.ua_server.specs.Telling.{Known, dump_fault, fault_of, report_fault, Readings}
 use Rattle.ua_server.proofs.ProgramParts.{IsUnbegun}
@@ -363,6 +368,45 @@ from-line known (Some path) gave settings words first last old new line (inr fro
     (record old { unread = known.rows from.rows; host = from.opened })
     (record new { unread = known.rows from.rest }) line from.imports
 
+-- what comes of a run of connections isn't a refused line
+run-line : (broken : Bool) (line : LineFault) → Err (Line line) ≡ run_result broken → ⊥
+run-line true line is = absurd cc
+run-line false line is = absurd cc
+
+-- nor is what comes of it over a store that was opened anew, or wasn't
+on-line : {C E : Type 0} (known : KnownMachine) (gave : Readings C) (told : Known E)
+    (limits : Limits) (old new : Stage known C E) (reopening : Result (Unit {0}) StoreFault)
+    (line : LineFault) → ServesOn known gave told limits old new reopening (Err (Line line)) → ⊥
+on-line known gave told limits old new (Ok done) line (accepted, broken, run, same, is) =
+    run-line broken line is
+on-line known gave told limits old new (Err cause) line (same, is) = absurd cc
+
+-- nor what follows a run
+follows-line : {C E : Type 0} (known : KnownMachine) (gave : Readings C) (told : Known E)
+    (limits : Limits) (broken : Bool) (file : Option StoreFile) (old new : Stage known C E)
+    (line : LineFault)
+    → FollowsRun known gave told limits broken file old new (Err (Line line)) → ⊥
+follows-line known gave told limits true (Some file) old new line
+    (middle, reopening, reopens, on) =
+    on-line known gave told limits middle new reopening line on
+follows-line known gave told limits true None old new line (same, is) = run-line true line is
+follows-line known gave told limits false (Some file) old new line (same, is) =
+    run-line false line is
+follows-line known gave told limits false None old new line (same, is) = run-line false line is
+
+-- no serving ends as a refused line
+served-line : {C E : Type 0} (known : KnownMachine) (gave : Readings C) (told : Known E)
+    (settings : SettingsValues) (count : ℕ) (old new : Serving known.Host known.Archive C E)
+    (line : LineFault)
+    → Listens known gave told settings count old new (Err (Line line)) → ⊥
+served-line known gave told settings count old new line
+    (inl (listening, is, source, listened, had, serves)) =
+    follows-line known gave told _ _ _ _ _ line serves.served.follows
+served-line known gave told settings count old new line (inr (cause, is, nowhere)) =
+    let same : cause ≡ Line line = cc in
+    unheard-line known settings old new line
+    (subst (λ (f : ProgramFault). ListensNowhere known settings f old new) same nowhere)
+
 -- no command ends as a refused line
 never-line : {C E : Type 0} (known : KnownMachine) (gave : Readings C) (told : Known E)
     (line : CommandLine) (settings : SettingsValues) (first last : known.Archive)
@@ -371,7 +415,7 @@ never-line : {C E : Type 0} (known : KnownMachine) (gave : Readings C) (told : K
 never-line known gave told (Answer path hex now) settings first last old new fault
     (same, (used, given, answered, answers, is)) = answered-line answered fault is
 never-line known gave told (Serve path count) settings first last old new fault (same, so) =
-    unheard-line known settings
+    served-line known gave told settings count
     (record { host = old.host; archive = first; clock = old.clock; errors = old.errors })
     (record { host = new.host; archive = last; clock = new.clock; errors = new.errors }) fault so
 never-line known gave told (Dump path) settings first last old new fault

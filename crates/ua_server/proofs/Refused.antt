@@ -12,7 +12,7 @@ use Rattle.ua_server.specs.declared.program.ProgramFault.TheVariants as program
 use Rattle.ua_server.specs.Host.{KnownMachine}
 use Rattle.ua_server.specs.Listening.{IsListening, HasNoAddress, door_fault}
 use Rattle.ua_server.specs.Network.{Serving, IsServingFault}
-use Rattle.ua_server.specs.Program.{IsRefusedPlace, Listens}
+use Rattle.ua_server.specs.Program.{IsRefusedPlace, Listens, ListensNowhere}
 use Rattle.ua_server.specs.Telling.{Known, Readings}
 
 -- why nothing is listened at: memory was wanting, or an address is none, and nothing was asked for;
@@ -27,7 +27,7 @@ IsUnheard known settings fault old new =
 module _ {C E : Type 0} (known : KnownMachine) (gave : Readings C) (told : Known E)
     (settings : SettingsValues) (count : ℕ) (old new : Serving known.Host known.Archive C E) where
   abbrev At : ProgramFault → Type 0
-  At fault = Listens known gave told settings count old new (Err fault)
+  At fault = ListensNowhere known settings fault old new
 
   -- an address is none
   no-address : (fault : ProgramFault) → HasNoAddress settings fault → new.host ≡ old.host
@@ -76,12 +76,17 @@ module _ {C E : Type 0} (known : KnownMachine) (gave : Readings C) (told : Known
       record old { host = host } in
       stays ∙ ap at same
 
-  pub unheard : (fault : ProgramFault) → IsUnheard known settings fault old.host new.host
+  nowhere : (fault : ProgramFault) → IsUnheard known settings fault old.host new.host
       → new ≡ record old { host = new.host } → At fault
-  unheard fault (inl (is, same)) stays = subst At (sym is) (no-memory same stays)
-  unheard fault (inr (inl (none, same))) stays = no-address fault none same stays
-  unheard fault (inr (inr (listening, is, door, listens, e))) stays =
+  nowhere fault (inl (is, same)) stays = subst At (sym is) (no-memory same stays)
+  nowhere fault (inr (inl (none, same))) stays = no-address fault none same stays
+  nowhere fault (inr (inr (listening, is, door, listens, e))) stays =
       subst At (sym e) (no-place listening door is listens stays)
+
+  pub unheard : (fault : ProgramFault) → IsUnheard known settings fault old.host new.host
+      → new ≡ record old { host = new.host }
+      → Listens known gave told settings count old new (Err fault)
+  unheard fault why stays = inr (fault, refl, nowhere fault why stays)
 
 -- such a fault is one by which serving ends before it begins
 none-serving : (settings : SettingsValues) (fault : ProgramFault) → HasNoAddress settings fault

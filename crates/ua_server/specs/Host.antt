@@ -22,6 +22,8 @@ pub record Machine (H A L R W I : Type 0) : Type 1 where
   pub stands : H → List ℕ → Bool → Type 0
   -- the file at a path was opened as the store of this replica of this archive
   pub opens : H → List ℕ → List ℕ → ℕ → Result A StoreFault → H → Type 0
+  -- an archive of this replica in memory, which is begun; no file is opened
+  pub opens_in_memory : H → List ℕ → ℕ → Result A StoreFault → Type 0
   -- an archive was closed
   pub closes : H → A → H → Type 0
   -- what gives the connections that come to these addresses, and calls these peers; Err with the
@@ -40,6 +42,7 @@ unknown_machine = record {
   opens_rows = λ old path rows new. Unit {0};
   stands = λ now path is_there. Unit {0};
   opens = λ old path id replica opening new. Unit {0};
+  opens_in_memory = λ now id replica opening. Unit {0};
   closes = λ old archive new. Unit {0};
   listens = λ old listening listener new. Unit {0};
   calls = λ old address came new. Unit {0};

@@ -10,6 +10,8 @@ pub mod Host
 pub mod Logging
 pub mod Starting
 pub mod Network
+pub mod Reopening
+pub mod Serving
 pub mod Dumping
 pub mod Passwords
 pub mod Exposing

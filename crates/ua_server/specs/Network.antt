@@ -1,5 +1,5 @@
 -- Connections over a network, many at once.
-use Rattle.std.specs.Prelude.{◌≡◌, ℕ, ◌*◌, ◌^◌, ◌-◌, map, Option, None, Some, Bool, false}
+use Rattle.std.specs.Prelude.{◌≡◌, ℕ, ◌*◌, ◌^◌, ◌-◌, Option, None, Some}
 use Rattle.archive.specs.Store.{Store}
 use Rattle.ua_settings.specs.Settings.{SettingsValues}
 use Rattle.counted_io.specs.declared.fault.ServeFault.{ServeFault}
@@ -8,22 +8,17 @@ use Rattle.counted_io.specs.Tally.{Tally, HasCounted}
 use Rattle.multiplex.specs.declared.limits.Limits.{Limits}
 use Rattle.multiplex.specs.Behavior.{Behavior}
 use Rattle.multiplex.specs.Turns.{Loop}
-use Rattle.multiplex.specs.Serving.{AreAllFree, HasServed}
 use Rattle.conversation.specs.declared.other_end.OtherEnd.{OtherEnd}
 use Rattle.conversation.specs.declared.world.World.{World}
 use Rattle.conversation.specs.OtherEnds.{ConversationEnding}
-use Rattle.conversation.specs.Closing.{TellsTurn}
 use Rattle.conversation.specs.Conversing.{behavior_over}
 use Rattle.ua_server.specs.declared.log.ErrorLog.{ErrorLog}
 use Rattle.ua_server.specs.declared.program.ProgramFault.{ProgramFault}
 use Rattle.ua_server.specs.declared.program.ProgramFault.TheVariants.{Address, DoorAddress, DoorNetwork, PeerAddress, WebAddress, StoreBroken, Connection}
+use Rattle.ua_server.specs.declared.program.ProgramFault.TheVariants as program
 use Rattle.ua_server.specs.Host.{KnownMachine}
-use Rattle.ua_server.specs.Listening.{IsFrom, networks_at}
-use Rattle.ua_server.specs.Telling.{Known, Readings, fresh_log}
+use Rattle.ua_server.specs.Telling.{Known, Readings}
 use Rattle.ua_server.specs.Logging.{logs_to}
-use Rattle.ua_server.specs.Starting.{LogsStart, CountsRecords}
-use Rattle.conversation.specs.Logins.{no_logins}
-use Rattle.web_page.specs.Calls.{uncalled}
 
 -- this was done with a connection, and its failed calls were counted: of each kind 1 where the
 -- connection ended by that fault, and else 0
@@ -79,41 +74,8 @@ pub record IsAround {C E : Type 0} (known : KnownMachine)
   pub archive : loop.world.server.replica.archive ≡ around.archive
   pub clock : loop.world.clock ≡ around.clock
 
--- it was told that the server begins, and how many records it holds, where events are told;
--- connections were served that came from
--- a source, each in its turn, from when there was none, to their end, or till the store was broken
--- and the settings said that nobody is served then; and then the longest turn, as the loop measured
--- it, was told where the settings want it told
-pub record ServesMany {C E : Type 0} (known : KnownMachine) (gave : Readings C) (told : Known E)
-    (settings : SettingsValues) (count : ℕ) (source : known.Source) (broken : Bool)
-    (old new : Serving known.Host known.Archive C E) : Type 0 where
-  pub between : known.Archive
-  pub records : Option ℕ
-  pub first : ServingLoop known C E
-  pub last : ServingLoop known C E
-  pub behind : World known.Archive C (ErrorLog E C)
-  pub done : Bool
-  pub longest : ℕ
-  pub counts : CountsRecords known.held settings.events old.archive between records
-  pub begins : IsAround known (record old { archive = between }) first
-  pub tells : TellsTurn (logs_to told gave) last.world longest behind
-  pub ends : IsAround known new (record last { world = behind })
-  pub said : behind.log.errors ≡ new.errors
-  pub settings_are : first.world.server.settings ≡ settings
-  pub from : first.source ≡ source
-  pub starts : LogsStart told gave settings records
-      (fresh_log first.world.server.alloc settings.events old.clock old.errors) first.world.log
-  pub logins : first.world.logins ≡ no_logins (refusals_kept settings.logins)
-  pub calls : first.world.calls ≡ map uncalled settings.peers
-  pub connections : first.world.connections ≡ 0
-  pub restoring : first.world.restoring ≡ false
-  pub peers_from : IsFrom (networks_at settings) first.world.from
-  pub free : AreAllFree first.slots
-  pub served : HasServed known.effects known.input known.output (conversations known.held gave told)
-      (limits_of settings count) first last done broken
-
 -- nothing could be had at an address of the settings, or memory was wanting before; or the store
--- broke
+-- broke, or was refused when it was opened anew
 abbrev pub IsServingFault : ProgramFault → Type 0
 IsServingFault fault =
     elim fault [
@@ -122,6 +84,7 @@ IsServingFault fault =
       | DoorNetwork number ↦ Unit {0}
       | PeerAddress number ↦ Unit {0}
       | WebAddress ↦ Unit {0}
+      | program.Store fault ↦ Unit {0}
       | StoreBroken ↦ Unit {0}
       | Connection OutOfMemory ↦ Unit {0}
       | _ ↦ ⊥

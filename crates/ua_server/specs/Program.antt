@@ -9,7 +9,7 @@ use Rattle.toml.specs.Parse.{parse_document}
 use Rattle.counted_io.specs.declared.fault.ServeFault.TheVariants.{Write, OutOfMemory}
 use Rattle.ua_server.specs.declared.hexed.HexFault.{HexFault}
 use Rattle.ua_server.specs.declared.program.ProgramFault.{ProgramFault}
-use Rattle.ua_server.specs.declared.program.ProgramFault.TheVariants.{Line, File, Settings, Address, NoRows, StoreBroken, Connection}
+use Rattle.ua_server.specs.declared.program.ProgramFault.TheVariants.{Line, File, Settings, Address, NoRows, Connection}
 use Rattle.ua_server.specs.declared.program.ProgramFault.TheVariants as program
 use Rattle.ua_server.specs.declared.dumps.DumpFault.{DumpFault}
 use Rattle.counted_io.specs.Bytes.{AppendsPart}
@@ -39,7 +39,8 @@ use Rattle.ua_peers.specs.declared.calling.SyncFault.{SyncFault}
 use Rattle.ua_peers.specs.declared.calling.SyncFault.TheVariants as sync
 use Rattle.std.specs.Net.Grammar.{IsSocketText}
 use Rattle.std.specs.Borrow.{Bor}
-use Rattle.ua_server.specs.Network.{Counts, Serving, ServesMany}
+use Rattle.ua_server.specs.Network.{Counts, Serving}
+use Rattle.ua_server.specs.Serving.{ServesMany}
 use Rattle.conversation.specs.declared.door.Door.{Door}
 use Rattle.ua_server.specs.declared.listening.Listening.{Listening}
 use Rattle.ua_server.specs.Listening.{IsListening, HasNoAddress, door_fault}
@@ -196,12 +197,13 @@ IsUnreachable had text old new =
 -- connections were served that came to the addresses of the settings, to their end, or till the
 -- store broke
 abbrev pub ListensAt : {C E : Type 0} → (known : KnownMachine) → Readings C → Known E
-    → SettingsValues → ℕ → (broken : Bool) → (old new : Serving known.Host known.Archive C E)
-    → Type 0
-ListensAt known gave told settings count broken old new =
+    → SettingsValues → ℕ → (old new : Serving known.Host known.Archive C E)
+    → Result (Unit {0}) ProgramFault → Type 0
+ListensAt known gave told settings count old new result =
     (listening : Listening) × IsListening settings listening
-    × ((source : known.Source) × known.machine.listens old.host listening (Ok source) new.host
-    × ServesMany known gave told settings count source broken old new)
+    × (source : known.Source) × (listened : known.Host)
+    × known.machine.listens old.host listening (Ok source) listened
+    × ServesMany known gave told settings count source (record old { host = listened }) new result
 
 -- an address of the settings can't be listened at, as this fault tells
 abbrev pub IsRefusedPlace : (known : KnownMachine) → SettingsValues → ProgramFault
@@ -231,11 +233,9 @@ abbrev pub Listens : {C E : Type 0} → (known : KnownMachine) → Readings C �
     → SettingsValues → ℕ → (old new : Serving known.Host known.Archive C E)
     → Result (Unit {0}) ProgramFault → Type 0
 Listens known gave told settings count old new result =
-    elim result [
-      | Ok done ↦ ListensAt known gave told settings count false old new
-      | Err StoreBroken ↦ ListensAt known gave told settings count true old new
-      | Err fault ↦ ListensNowhere known settings fault old new
-    ]
+    ListensAt known gave told settings count old new result
+    ⊎ ((fault : ProgramFault) × (result ≡ Err fault)
+    × ListensNowhere known settings fault old new)
 
 -- of a dialog that came to its end the line was printed, a first part of it where the writer
 -- failed, nothing where memory for it was wanting; of another one nothing was printed, and its

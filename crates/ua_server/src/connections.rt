@@ -10,6 +10,7 @@ ghost use Rattle.conversation.specs.Logins.{no_logins};
 ghost use Rattle.web_page.specs.Calls.{uncalled};
 ghost use Rattle.ua_server.specs.Host.{known_machine};
 ghost use Rattle.ua_server.specs.Program.{Listens};
+ghost use Rattle.ua_server.specs.Reopening.{file_anew};
 ghost use Rattle.ua_server.specs.Listening.{IsListening, HasNoAddress, door_fault};
 ghost use Rattle.ua_server.specs.declared.listening.Listening.{Listening};
 ghost use Rattle.ua_server.specs.declared.program.ProgramFault.TheVariants.{Connection};
@@ -18,10 +19,12 @@ use crate::host::Host;
 use crate::listening::listening_of;
 use crate::log::ErrorLog;
 use crate::program::ProgramFault;
+use crate::reopening::file_anew;
+use crate::running::{Course, serve_through};
 use crate::starting::count_records;
-use conversation::{Conversation, Door, Logins, Network, World, tell_turn};
+use conversation::{Door, Logins, Network, World};
 use counted_io::ServeFault;
-use multiplex::{Limits, serve};
+use multiplex::Limits;
 use std::alloc::{AllocError, Global};
 use std::io::Write;
 use ua_binary::Listing;
@@ -45,6 +48,17 @@ fn limits_of(settings: &Settings, connections: u32) -> Limits
         waiting_bytes: settings.waiting() as usize * MIB,
         rounds: u64::MAX,
     }
+}
+
+/// What serving so many connections by these settings goes by.
+fn course_of(alloc: Global, settings: &Settings, connections: u32) -> Result<Course, AllocError>
+    ensures { IfOk result (λ course. (course.limits ≡ limits_of settings.now connections)
+        × (course.file ≡ file_anew settings.now)) }
+{
+    Ok(Course {
+        limits: limits_of(settings, connections),
+        file: file_anew(alloc, settings)?,
+    })
 }
 
 /// So many slots, each of them free.
@@ -112,8 +126,9 @@ fn calls_of(alloc: Global, settings: &Settings) -> Result<LastCalls, AllocError>
     LastCalls::new(alloc, settings.peers().as_slice())
 }
 
-/// Tells that the server begins, and how many records it holds, where events are told; then serves so many connections at the addresses of its settings, many at once, and calls the peers of these settings when
-/// they are due, till all connections have ended; or, where the settings say so, till the store is broken, which is a fault.
+/// Tells that the server begins, and how many records it holds, where events are told; then serves so many connections at the
+/// addresses of its settings, many at once, and calls the peers of these settings when they are due, till all connections have
+/// ended; or, where the settings say so, till the store is broken, which is a fault, or is opened anew, once.
 pub(crate) fn serve_at<H: Host, C: Clock, E: Write>(
     world: &mut World<H::Archive, C, ErrorLog<E, C>>,
     connections: u32,
@@ -129,9 +144,11 @@ pub(crate) fn serve_at<H: Host, C: Clock, E: Write>(
     ensures fault { IfErr result IsServingFault }
 {
     let alloc = world.server.alloc;
-    let limits = limits_of(&world.server.settings, connections);
+    let Ok(course) = course_of(alloc, &world.server.settings, connections) else {
+        return Err(ProgramFault::Connection(ServeFault::OutOfMemory));
+    };
     let callees = world.server.settings.peers().as_slice().len();
-    let Ok(mut slots) = free_slots(alloc, limits.accept_slots.saturating_add(callees)) else {
+    let Ok(mut slots) = free_slots(alloc, course.limits.accept_slots.saturating_add(callees)) else {
         return Err(ProgramFault::Connection(ServeFault::OutOfMemory));
     };
     let Ok(logins) = logins_of(alloc, &world.server.settings) else {
@@ -148,16 +165,5 @@ pub(crate) fn serve_at<H: Host, C: Clock, E: Write>(
     world.restoring = false;
     let records = count_records(&mut world.server.replica.archive, world.log.events);
     world.log.log_start(&world.server.settings, records);
-    let report = serve::<H::Source, Conversation<H::Archive, C, ErrorLog<E, C>>>(
-        alloc,
-        &mut source,
-        world,
-        slots.as_mut_slice(),
-        limits,
-    );
-    tell_turn(world, report.longest_turn);
-    if report.is_over {
-        return Err(ProgramFault::StoreBroken);
-    }
-    Ok(())
+    serve_through::<H, C, E>(&mut source, world, slots.as_mut_slice(), &course, host)
 }

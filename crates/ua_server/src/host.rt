@@ -61,7 +61,8 @@ pub trait Host {
 
     /// An archive of this id and replica in memory, which holds nothing. No file is opened.
     fn open_in_memory(&self, id: Uuid, number: ReplicaNo) -> Result<Self::Archive, StoreFault>
-        ensures { IfOk result (λ first. HoldsNothing id number (Self.Archive.state first)) };
+        ensures begins { means.opens_in_memory self.now id number result }
+        ensures empty { IfOk result (λ first. HoldsNothing id number (Self.Archive.state first)) };
 
     /// Closes an archive.
     fn close(&mut self, archive: Self::Archive)

@@ -18,6 +18,8 @@ mod listening;
 mod log;
 mod program;
 mod recent;
+mod reopening;
+mod running;
 mod single;
 mod starting;
 

@@ -1,0 +1,116 @@
+//! Serving from the first connection to the last, also over a store that is opened anew.
+
+ghost use Rattle.std.specs.Prelude.{◌≡◌, ℕ, IfErr};
+ghost use Rattle.multiplex.specs.Turns.{state};
+ghost use Rattle.ua_server.specs.Host.{known_machine};
+ghost use Rattle.ua_server.specs.Network.{IsServingFault};
+ghost use Rattle.ua_server.specs.Serving.{ServesRun, ServesThrough, limits_behind, run_result};
+
+use crate::host::Host;
+use crate::log::ErrorLog;
+use crate::program::ProgramFault;
+use crate::reopening::{StoreFile, reopen};
+use archive::Archive;
+use conversation::{Conversation, Ended, World, tell_turn};
+use counted_io::ServeFault;
+use multiplex::{Limits, ServeReport, Slot, Source, serve};
+use std::io::Write;
+use ua_connection::Clock;
+
+/// A slot of a connection that a machine's source gives.
+pub(crate) type Place<H, C, E> = Slot<
+    Conversation<<H as Host>::Archive, C, ErrorLog<E, C>>,
+    <<H as Host>::Source as Source>::Reader,
+    <<H as Host>::Source as Source>::Writer,
+    Result<Ended, ServeFault>,
+>;
+
+/// What serving goes by.
+#[derive(Drop)]
+pub(crate) struct Course {
+    /// What is taken at most.
+    pub limits: Limits,
+    /// The file that is opened anew once the store is broken; none: none is.
+    pub file: Option<StoreFile>,
+}
+
+/// What is left of limits once so many connections were accepted.
+fn limits_behind(limits: Limits, accepted: u64) -> Limits
+    ensures { result ≡ limits_behind limits accepted }
+{
+    Limits {
+        connections: match limits.connections {
+            None => None,
+            Some(most) => Some(most.saturating_sub(accepted)),
+        },
+        ..limits
+    }
+}
+
+/// What comes of a run behind which no more is done.
+fn run_result(broken: bool) -> Result<(), ProgramFault>
+    ensures same { result ≡ run_result broken }
+    ensures fault { IfErr result IsServingFault }
+{
+    if broken {
+        Err(ProgramFault::StoreBroken)
+    } else {
+        Ok(())
+    }
+}
+
+/// Serves connections till all have ended, or the store is broken and nobody is served then; and tells how long the longest
+/// turn took, where the settings want it told.
+fn serve_run<H: Host, C: Clock, E: Write>(
+    source: &mut H::Source,
+    world: &mut World<H::Archive, C, ErrorLog<E, C>>,
+    slots: &mut [Option<Place<H, C, E>>],
+    limits: Limits,
+) -> ServeReport
+    ensures { (first : ℕ) → (last : ℕ) × ServesRun
+        (known_machine H.means H.Archive.state H.Source.effects H.Source.Reader.input
+        H.Source.Writer.output H.Reader.remaining H.Writer.contents H.Rows.remaining)
+        C.gave E.contents limits
+        (state source.old slots.old world.old first) (state source.new slots.new world.new last)
+        result.accepted result.is_over }
+{
+    let alloc = world.server.alloc;
+    let report = serve::<H::Source, Conversation<H::Archive, C, ErrorLog<E, C>>>(
+        alloc, source, world, slots, limits,
+    );
+    tell_turn(world, report.longest_turn);
+    report
+}
+
+/// Serves connections till all have ended, or the store is broken and nobody is served then. Where a file is to be opened anew
+/// that is done then, once, and the connections that are open are served on, with those that are left.
+pub(crate) fn serve_through<H: Host, C: Clock, E: Write>(
+    source: &mut H::Source,
+    world: &mut World<H::Archive, C, ErrorLog<E, C>>,
+    slots: &mut [Option<Place<H, C, E>>],
+    course: &Course,
+    host: &mut H,
+) -> Result<(), ProgramFault>
+    ensures through { (first : ℕ) → (last : ℕ) × ServesThrough
+        (known_machine H.means H.Archive.state H.Source.effects H.Source.Reader.input
+        H.Source.Writer.output H.Reader.remaining H.Writer.contents H.Rows.remaining)
+        C.gave E.contents course.now.limits course.now.file
+        (record { host = host.old; loop = state source.old slots.old world.old first })
+        (record { host = host.new; loop = state source.new slots.new world.new last }) result }
+    ensures fault { IfErr result IsServingFault }
+{
+    let report = serve_run::<H, C, E>(source, world, slots, course.limits);
+    if !report.is_over {
+        return run_result(false);
+    }
+    let Some(file) = &course.file else {
+        return run_result(true);
+    };
+    match reopen(world, file, host) {
+        Ok(()) => {}
+        Err(fault) => return Err(ProgramFault::Store(fault)),
+    }
+    let left = limits_behind(course.limits, report.accepted);
+    let again = serve_run::<H, C, E>(source, world, slots, left);
+    run_result(again.is_over)
+}
