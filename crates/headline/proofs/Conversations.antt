@@ -1,5 +1,5 @@
 -- What is answered on one connection of many is a turn of a machine.
-use Rattle.std.proofs.Common.{◌≡◌, ℕ, ℤ, ◌-◌, Bool, true, false, List, [], ◌++◌, map, take, length, Option, None, Some, option_to_list, Result, Ok, Err, refl, sym, ap, subst, ◌∙◌, inl, inr}
+use Rattle.std.proofs.Common.{◌≡◌, ◌<◌, ◌≤◌, ℕ, ℤ, Bool, true, false, List, [], ◌++◌, map, take, Option, None, Some, option_to_list, Result, Ok, Err, refl, sym, ap, subst, ◌∙◌, inl, inr}
 use Rattle.std.proofs.lemmas.List.{append-nil}
 use Rattle.records.specs.Contents.{Content, merged}
 use Rattle.records.specs.declared.record.Record.{Record}
@@ -9,7 +9,7 @@ use Rattle.counted_io.specs.declared.fault.ServeFault.{ServeFault}
 use Rattle.exchange.specs.declared.fault.ExchangeFault.{ExchangeFault}
 use Rattle.exchange.specs.declared.fault.ExchangeFault.TheVariants as exchange
 use Rattle.exchange.specs.Admissions.{first_frame}
-use Rattle.exchange.specs.Ahead.{first_records, new_among, ReportsAhead, LearnsAhead}
+use Rattle.exchange.specs.Ahead.{first_records, new_among, piece, ReportsAhead, LearnsAhead}
 use Rattle.exchange.specs.Dialogs.{DialogState, party_of}
 use Rattle.exchange.specs.Merging.{StopsAt}
 use Rattle.exchange.specs.Messages.{Party}
@@ -59,6 +59,8 @@ learned_behind : (a b c : Store) (start last : DialogState) (rs : List Record)
 learned_behind a b c start last rs result stays leaves learns = record {
   learned = learns.learned;
   tells = told result learns.tells;
+  few = λ honest. subst (λ (R : Content). new_among (take learns.learned rs) R ≤ piece)
+      (same honest) (learns.few honest);
   stands = learns.stands;
   content = λ honest used. learns.content honest used
       ∙ ap (merged (take learns.learned rs)) (same honest);
@@ -86,8 +88,8 @@ learned_behind a b c start last rs result stays leaves learns = record {
           stays.crash (learns.passes.honest honest) left (tells.crash honest left found);
     }
     told (Ok (Some added)) tells = λ honest.
-        subst (λ (R : Content). added ≡ new_among (take learns.learned rs) R) (same honest)
-        (tells honest)
+        subst (λ (R : Content). (added ≡ new_among (take learns.learned rs) R) × (0 < added))
+        (same honest) (tells honest)
     told (Err (exchange.Learn count cause)) tells = λ honest.
         subst (λ (R : Content). StopsAt R rs learns.learned cause) (same honest) (tells honest)
     told (Err (exchange.Store fault)) tells = tells
@@ -152,14 +154,14 @@ module _ {A C L : Type 0} (state : A → Store) where
       (ending : Option ConversationEnding) (next : OtherEnd) (old : Plant A) (place : ℕ) (later : A)
       (answers : AnswersPeer state gave v peer made ending w next)
       → AreUnforged old.written (party_of (state v.server.replica.archive))
-      (map (λ t. t.frame) answers.talks.taken)
+      (map (λ t. t.frame) answers.once.talks.taken)
       → IsMachine state old.machines place v.server.replica.archive
       → (state w.server.replica.archive).honest
       → RestartsAs (state w.server.replica.archive) (state later)
       → IsPeerTurn state old (plant_after old place later made)
   unfolding talks_behind
   peer_turns gave v w peer made ending next old place later answers unforged there honest goes =
-      let kept = own_answered state _ _ answers.between _ answers.asks in
+      let kept = own_answered state _ _ answers.between _ answers.takes.asks in
       record {
         place = place;
         before = v.server.replica.archive;
@@ -175,7 +177,7 @@ module _ {A C L : Type 0} (state : A → Store) where
             rest = answers.rest;
             ending = answers.ends;
             last = answers.last;
-            talks = talks_behind _ _ _ _ _ _ _ _ _ kept.0 kept.1 answers.talks;
+            talks = talks_behind _ _ _ _ _ _ _ _ _ kept.0 kept.1 answers.once.talks;
             unforged = unforged;
             part = told_part answers.said made answers.ends ending answers.tells;
           };
@@ -210,9 +212,9 @@ module _ {A C L : Type 0} (state : A → Store) where
             result = learns.result;
             said = learns.said;
             ends = learns.ends;
-            learns = ahead_behind state _ v.server.replica.archive learns.between learns.held
+            learns = ahead_behind state _ v.server.replica.archive learns.between learns.takes.held
                 (state w.server.replica.archive) peer.dialog learns.last peer.frames.waiting
-                learns.result learns.asks learns.learns;
+                learns.result learns.takes.asks learns.learns;
             unforged = unforged;
             told = learns.told;
             part = told_part learns.said made learns.ends ending learns.tells;

@@ -138,7 +138,7 @@ pub fn conversations_take_turns<A: Archive, C: Clock, L: Log>()
         (ending : Option ConversationEnding) (next : OtherEnd) (old : Plant A) (place : ℕ)
         (later : A) → (answers : AnswersPeer A.state C.gave v peer made ending w next)
         → AreUnforged old.written (party_of (A.state v.server.replica.archive))
-        (map (λ t. t.frame) answers.talks.taken)
+        (map (λ t. t.frame) answers.once.talks.taken)
         → IsMachine A.state old.machines place v.server.replica.archive
         → (A.state w.server.replica.archive).honest
         → RestartsAs (A.state w.server.replica.archive) (A.state later)
