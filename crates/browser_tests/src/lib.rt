@@ -8,4 +8,6 @@ mod parts;
 #[cfg(test)]
 mod portions;
 #[cfg(test)]
+mod requests;
+#[cfg(test)]
 mod status;
