@@ -22,8 +22,9 @@ settings, store = os.path.join(folder, "settings.toml"), os.path.join(folder, "s
 ill = os.path.join(folder, "ill")
 library = running.built("unsynced.c", "unsynced.so", folder)
 INSERTED, UNAVAILABLE = struct.pack("<I", 0x00A20000), struct.pack("<I", 0x80040000)
-SAID = "uahist: store broken\nuahist: a read or a write of its disk failed\n"
-ANEW = "uahist: store broken, opened anew\n"
+WHY = "uahist: a sync of its disk failed\n"
+SAID = "uahist: store broken\n" + WHY
+ANEW = WHY + "uahist: store broken, opened anew\n"
 
 
 class Connection:
@@ -134,10 +135,10 @@ def refused_anew(held, first):
         pass
     status, said = server.wait(10), server.stderr.read()
     os.remove(ill)
-    assert status == 3 and (said == ANEW + SAID or re.match(r"uahist: store refused \(\d\)\n", said)), (status, said)
+    assert status == 3 and (said == ANEW + SAID or re.match(WHY + r"uahist: store refused \(\d\)\n", said)), (status, said)
     found = dumped()
     assert held <= found <= held + 2, (held, found)
-    print(f"with reopen, over a disk that stays ill, it ends with status 3: {said.splitlines()[0]}")
+    print(f"with reopen, over a disk that stays ill, it ends with status 3: {said.splitlines()[1]}")
     return found
 
 

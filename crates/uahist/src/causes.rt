@@ -12,6 +12,9 @@ use ua_settings::SettingsFault;
 /// What is said of words that the parser takes, and that say nothing to do.
 const NO_COMMAND: &str = "want a command, and behind --perform insert, replace or update";
 
+/// Why a store broke, where nothing more is known.
+pub(crate) const BROKEN: &str = "a read or a write of its disk failed";
+
 /// What keys of the settings hold, for those whose value may be wrong.
 static WANTED: [(&str, &str); 23] = [
     (
@@ -170,12 +173,12 @@ pub(crate) fn of_call(kind: ErrorKind) -> &'static str {
     }
 }
 
-/// Why a store is refused, by what was found of its file.
+/// Why a store is refused, by what was found of its file, or why it broke.
 fn of_refusal(fault: StoreFault, found: Option<&'static str>) -> Option<&'static str> {
     match fault {
         StoreFault::WrongArchive => Some("it is of another archive than the settings' id"),
         StoreFault::WrongReplica => Some("it is of another replica than the settings'"),
-        StoreFault::Broken => Some("a read or a write of its disk failed"),
+        StoreFault::Broken => Some(found.unwrap_or(BROKEN)),
         StoreFault::OutOfMemory => Some("out of memory"),
         StoreFault::Refused => found,
     }
@@ -225,11 +228,12 @@ fn of_exchange(number: u32) -> Option<&'static str> {
     }
 }
 
-/// What is told of an ending behind its own line, by what the system said last where the machine couldn't do something. An
-/// address of which it said nothing wasn't asked for: its text spells none.
+/// What is told of an ending behind its own line, by what the system said last where the machine couldn't do something, and by
+/// why a store broke that it closed. An address of which it said nothing wasn't asked for: its text spells none.
 pub(crate) fn of_ending(
     ending: &Result<(), ProgramFault>,
     said: Option<&'static str>,
+    broken: Option<&'static str>,
 ) -> Option<&'static str> {
     let Err(fault) = ending else {
         return None;
@@ -237,8 +241,10 @@ pub(crate) fn of_ending(
     match fault {
         ProgramFault::File | ProgramFault::NoRows => said,
         ProgramFault::Settings(fault, Some(place)) => of_settings(*fault, place.as_str()),
+        ProgramFault::Store(StoreFault::Broken) | ProgramFault::StoreBroken => {
+            of_refusal(StoreFault::Broken, broken)
+        }
         ProgramFault::Store(fault) => of_refusal(*fault, said),
-        ProgramFault::StoreBroken => of_refusal(StoreFault::Broken, None),
         ProgramFault::Address
         | ProgramFault::DoorAddress
         | ProgramFault::PeerAddress(_)

@@ -117,6 +117,19 @@ pub fn open(
     SqlArchive::open(rt, path, id, number)
 }
 
+/// Closes the archive of a store that broke, and says why it broke, as far as its files tell.
+pub fn why_broken(archive: FileArchive) -> &'static str {
+    let files = archive.into_files();
+    let met = files.tally();
+    match (files.may_be_used(), met.caught > 0, met.refused > 0) {
+        (false, _, true) => "a sync of its disk failed, which had no room",
+        (false, _, false) => "a sync of its disk failed",
+        (true, true, _) => "its disk gave other bytes than were written there",
+        (true, false, true) => "its disk had no room",
+        (true, false, false) => causes::BROKEN,
+    }
+}
+
 /// Whether a program has a lock on a file, as the system lists them.
 fn is_locked(rt: &HostRuntime, file: &File) -> io::Result<bool> {
     let name = format!(in rt.alloc(); ":{} ", file.metadata()?.ino())?;
