@@ -27,5 +27,5 @@ pub use moment::Moment;
 pub use record::Record;
 pub use shown::{Entry, Held};
 pub use spelling::{put_record, read_record};
-pub use story::{current_of, entries_of, missing_of, story_of};
+pub use story::{current_of, entries_in, entries_of, held_of, missing_of, story_of};
 pub use ua_variant::HistoryUpdateType;

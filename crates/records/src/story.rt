@@ -93,8 +93,9 @@ pub fn story_of(
     Ok(Listing::of(story))
 }
 
-/// What a story leaves.
-fn held_of(mut story: Vec<Record>) -> Option<Held>
+/// What a story leaves: the value of its last record, unless that is a delete. The records are those of one node and source
+/// time, in the order of their stamps.
+pub fn held_of(mut story: Vec<Record>) -> Option<Held>
     ensures { result ≡ held story.items }
 {
     let extra = story.len() > 1;
@@ -175,8 +176,9 @@ fn entry_of(before: Option<&Record>, r: &Record) -> Result<Entry, AllocError>
     })
 }
 
-/// Each record of a story as it is shown, behind the record before it.
-fn entries_in(alloc: Global, story: &[Record]) -> Result<Vec<Entry>, AllocError>
+/// Each record of a story as it is shown, behind the record before it. The records are those of one node and source time, in
+/// the order of their stamps.
+pub fn entries_in(alloc: Global, story: &[Record]) -> Result<Vec<Entry>, AllocError>
     ensures { IfOk result (λ shown. shown.items ≡ entries_after None story.now) }
 {
     let mut shown = Vec::new(alloc);

@@ -6,7 +6,7 @@ use Rattle.command_line.specs.Line.{IsCheck, IsFlag, NoLine}
 use Rattle.command_line.specs.declared.line.Line.TheVariants.{Check}
 use Rattle.clap.proofs.WalkLemmas.{first_value-rows, one_text-rows}
 use Rattle.command_line.proofs.Lines.{mapped}
-use Rattle.command_line.proofs.line.read_check.Goals as goal
+use Rattle.command_line.proofs.reading.read_check.Goals as goal
 
 not_set : (rows : List Row) → first_of (codes "settings") rows ≡ None → NoLine (IsCheck rows)
 not_set rows none (Check path flag) h = let wrong = sym none ∙ h.0 in cc

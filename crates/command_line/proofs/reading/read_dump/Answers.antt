@@ -6,7 +6,7 @@ use Rattle.command_line.specs.Line.{IsDump, NoLine}
 use Rattle.command_line.specs.declared.line.Line.TheVariants.{Dump}
 use Rattle.clap.proofs.WalkLemmas.{first_value-rows}
 use Rattle.command_line.proofs.Lines.{mapped}
-use Rattle.command_line.proofs.line.read_dump.Goals as goal
+use Rattle.command_line.proofs.reading.read_dump.Goals as goal
 
 not_set : (rows : List Row) → first_of (codes "settings") rows ≡ None → NoLine (IsDump rows)
 not_set rows none (Dump path) h = let wrong = sym none ∙ h in cc

@@ -6,7 +6,7 @@ use Rattle.command_line.specs.Line.{IsImportCommand, NoLine, file_in, perform_in
 use Rattle.command_line.specs.declared.line.Line.TheVariants.{Import}
 use Rattle.clap.proofs.WalkLemmas.{first_value-rows}
 use Rattle.command_line.proofs.Lines.{mapped}
-use Rattle.command_line.proofs.line.read_import.Goals as goal
+use Rattle.command_line.proofs.reading.read_import.Goals as goal
 
 not_set : (rows : List Row) → first_of (codes "settings") rows ≡ None → NoLine (IsImportCommand rows)
 not_set rows none (Import path asked) h = let wrong = sym none ∙ h.0 in cc

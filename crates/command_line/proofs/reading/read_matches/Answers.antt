@@ -1,7 +1,7 @@
 use Rattle.std.proofs.Common.{rules}
 use Rattle.clap.specs.Words.{rows_of, found_of, subcommand_rows_of}
 use Rattle.command_line.proofs.Lines.{refused-so, no-answer, no-serve, no-dump, no-sync, no-history, no-import, no-check}
-use Rattle.command_line.proofs.line.read_matches.Goals as goal
+use Rattle.command_line.proofs.reading.read_matches.Goals as goal
 
 pub returns-in-Some-clause-words : goal.returns-in-Some-clause-words
 returns-in-Some-clause-words c =

@@ -10,7 +10,7 @@ use Rattle.clap.proofs.WalkLemmas.{first_value-rows, one_text-rows}
 use Rattle.command_line.specs.Line.{IsFlag, IsAnswer, NoLine}
 use Rattle.command_line.proofs.Lines.{of-value}
 use Rattle.command_line.specs.declared.line.Line.TheVariants.{Answer}
-use Rattle.command_line.proofs.line.read_answer.Goals as goal
+use Rattle.command_line.proofs.reading.read_answer.Goals as goal
 
 -- what the text of the moment says of it
 abbrev IsMoment : Text → Option ℤ → Type 0

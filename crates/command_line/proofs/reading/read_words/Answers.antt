@@ -2,7 +2,7 @@ use Rattle.std.proofs.Common.{◌∙◌, codes}
 use Rattle.clap.specs.Words.{found_of, one_of, rows_of}
 use Rattle.clap.proofs.WalkLemmas.{first_value-rows, one_text-rows}
 use Rattle.command_line.specs.Line.{IsFlag}
-use Rattle.command_line.proofs.line.read_words.Goals as goal
+use Rattle.command_line.proofs.reading.read_words.Goals as goal
 
 pub returns : goal.returns
 returns c is =

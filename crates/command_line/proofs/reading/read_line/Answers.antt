@@ -10,7 +10,7 @@ use Rattle.command_line.specs.Line.{Asks, AsksForText, IsLine, MayAskForText, ua
 use Rattle.command_line.specs.declared.line.Asked.{Asked}
 use Rattle.command_line.specs.declared.line.Asked.TheVariants.{Work, Text as Shown}
 use Rattle.command_line.specs.declared.line.LineFault.{LineFault}
-use Rattle.command_line.proofs.line.read_line.Goals as goal
+use Rattle.command_line.proofs.reading.read_line.Goals as goal
 
 -- words that clap takes are refused for want of memory alone
 refused : (a b : App) (words : List Text) (kind : ErrorKind) → a ≡ b

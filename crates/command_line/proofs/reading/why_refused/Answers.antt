@@ -3,7 +3,7 @@ use Rattle.std.specs.Prelude.{Option, None, Some, IfSome}
 use Rattle.clap.specs.Words.{App, Text, app_of}
 use Rattle.clap.specs.Takes.{takes}
 use Rattle.command_line.specs.Line.{uahist}
-use Rattle.command_line.proofs.line.why_refused.Goals as goal
+use Rattle.command_line.proofs.reading.why_refused.Goals as goal
 
 -- where something would be none if this held, what is there says that it doesn't
 unless : {T P : Type 0} (o : Option T) → (P → o ≡ None) → IfSome o (λ _. P → ⊥)

@@ -6,7 +6,7 @@ use Rattle.command_line.specs.Line.{IsHistoryCommand, NoLine}
 use Rattle.command_line.specs.declared.line.Line.TheVariants.{History}
 use Rattle.clap.proofs.WalkLemmas.{first_value-rows}
 use Rattle.command_line.proofs.Lines.{mapped}
-use Rattle.command_line.proofs.line.read_history.Goals as goal
+use Rattle.command_line.proofs.reading.read_history.Goals as goal
 
 not_set : (rows : List Row) → first_of (codes "settings") rows ≡ None → NoLine (IsHistoryCommand rows)
 not_set rows none (History path asked) h = let wrong = sym none ∙ h.0 in cc

@@ -9,7 +9,7 @@ use Rattle.clap.proofs.WalkLemmas.{first_value-rows, one_text-rows}
 use Rattle.command_line.specs.Line.{IsServe, NoLine}
 use Rattle.command_line.proofs.Lines.{mapped, of-value}
 use Rattle.command_line.specs.declared.line.Line.TheVariants.{Serve}
-use Rattle.command_line.proofs.line.read_serve.Goals as goal
+use Rattle.command_line.proofs.reading.read_serve.Goals as goal
 
 -- what a 32-bit number is read by
 abbrev gives : Text → Result ℕ ParseIntError → Type 0
