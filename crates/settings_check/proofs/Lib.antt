@@ -1,4 +1,4 @@
 mod TextLemmas
-mod NodeLemmas
-mod StoredLemmas
+pub mod NodeLemmas
+pub mod StoredLemmas
 mod ValueLemmas

@@ -172,10 +172,10 @@ folders_answered space found told =
 module _ {X : Type 0} (make : X → Node) (name : X → List ℕ)
     (told : (x : X) (id : List ℕ)
     → is_same_id (facts (make x)).id (Named 1 id) ≡ pointwise nat_eq (name x) id) where
-  abbrev first_named : List ℕ → List Node → Option Node
+  abbrev pub first_named : List ℕ → List Node → Option Node
   first_named id nodes = find (λ node. is_same_id (facts node).id (Named 1 id)) nodes
 
-  find_made : (xs : List X) (more : List Node) (i : ℕ) (x : X) → slice_get xs i ≡ Some x
+  pub find_made : (xs : List X) (more : List Node) (i : ℕ) (x : X) → slice_get xs i ≡ Some x
       → (y : X) × (first_named (name x) (map make xs ++ more) ≡ Some (make y)) × (name y ≡ name x)
   find_made [] more i x at = absurd (none-some x at)
   find_made (y ∷ xs) more i x at =
@@ -207,21 +207,21 @@ module _ {X : Type 0} (make : X → Node) (name : X → List ℕ)
 
 -- ---- folder by folder
 
--- of two lists with the same ids, what stands at a place of the one stands in the other
-at_place : {X Y : Type 0} (id_of : X → NodeId) (id_at : Y → NodeId) (xs : List X) (ys : List Y)
-    (i : ℕ) (d : Y) → i < length ys → map id_at ys ≡ map id_of xs
-    → (x : X) × (slice_get xs i ≡ Some x) × (id_of x ≡ id_at (get_or ys i d))
-at_place {X = X} id_of id_at xs ys i d lt same = go (slice_get xs i) refl
-    (sym (slice_get-map id_of xs i) ∙ (ap (λ l. slice_get l i) (sym same)
-    ∙ (slice_get-map id_at ys i ∙ ap (option_map id_at) (slice_get-get_or ys i d lt))))
+-- of two lists of which the same is told, what stands at a place of the one stands in the other
+pub at_place : {X Y Z : Type 0} (f : X → Z) (g : Y → Z) (xs : List X) (ys : List Y)
+    (i : ℕ) (d : Y) → i < length ys → map g ys ≡ map f xs
+    → (x : X) × (slice_get xs i ≡ Some x) × (f x ≡ g (get_or ys i d))
+at_place {X = X} f g xs ys i d lt same = go (slice_get xs i) refl
+    (sym (slice_get-map f xs i) ∙ (ap (λ l. slice_get l i) (sym same)
+    ∙ (slice_get-map g ys i ∙ ap (option_map g) (slice_get-get_or ys i d lt))))
   where
-    go : (o : Option X) → slice_get xs i ≡ o → option_map id_of o ≡ Some (id_at (get_or ys i d))
-        → (x : X) × (slice_get xs i ≡ Some x) × (id_of x ≡ id_at (get_or ys i d))
-    go None at told = absurd (none-some (id_at (get_or ys i d)) told)
-    go (Some x) at told = (x, at, same_Some (id_of x) (id_at (get_or ys i d)) told)
+    go : (o : Option X) → slice_get xs i ≡ o → option_map f o ≡ Some (g (get_or ys i d))
+        → (x : X) × (slice_get xs i ≡ Some x) × (f x ≡ g (get_or ys i d))
+    go None at told = absurd (none-some (g (get_or ys i d)) told)
+    go (Some x) at told = (x, at, same_Some (f x) (g (get_or ys i d)) told)
 
 -- what stands at a place stands before what is behind it
-drop_at : {X : Type 0} (xs : List X) (i : ℕ) (x : X) → slice_get xs i ≡ Some x
+pub drop_at : {X : Type 0} (xs : List X) (i : ℕ) (x : X) → slice_get xs i ≡ Some x
     → drop i xs ≡ x ∷ drop (i + 1) xs
 drop_at xs i x at =
     drop_more xs i x (slice_get_within xs i x at)

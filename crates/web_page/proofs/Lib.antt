@@ -1,4 +1,3 @@
-mod AskingLemmas
 mod ListingLemmas
 pub mod RowLemmas
 mod MarkupLemmas

@@ -1,13 +1,11 @@
 -- What a browse finds of folders and variables, with their names, as `settings_check` has it of
 -- ids.
-use Rattle.std.proofs.Common.{◌≡◌, ℕ, ◌+◌, ◌<◌, ◌≤◌, Bool, true, false, List, [], ◌∷◌, ◌++◌, length, drop, get_or, map, None, Some, find, cond, nat_eq, refl, sym, ap, ◌∙◌, subst, append-nil}
-use Rattle.std.specs.Prelude.{Option, option_map, option_to_list, slice_get, zero, suc, filter, Result, Ok, Err, ok_or, if◌then◌else◌}
+use Rattle.std.proofs.Common.{◌≡◌, ℕ, ◌+◌, ◌<◌, ◌≤◌, Bool, true, false, List, [], ◌∷◌, ◌++◌, length, drop, get_or, map, None, Some, cond, nat_eq, refl, sym, ap, ◌∙◌, subst, append-nil}
+use Rattle.std.specs.Prelude.{Option, option_to_list, filter, Result, Ok, Err, ok_or, if◌then◌else◌}
 use Rattle.std.specs.List.{flat_map}
-use Rattle.std.specs.Cmp.Lexicographic.{pointwise, bytes_decides}
-use Rattle.std.proofs.lemmas.Bool.{true≢false}
-use Rattle.std.proofs.lemmas.List.{map-append, length-map, drop_more, drop_all}
+use Rattle.std.specs.Cmp.Lexicographic.{pointwise}
+use Rattle.std.proofs.lemmas.List.{map-append, length-map, drop_all}
 use Rattle.std.proofs.lemmas.List.Elements.{filter-append}
-use Rattle.std.proofs.lemmas.Option.{slice_get-get_or, slice_get-map, slice_get_within, get_or_from_slice_get, none-some, same_Some}
 use Rattle.ua_binary.specs.Format.{IsOrStarved, ◌>>=◌}
 use Rattle.ua_binary.specs.declared.values.NodeId.{NodeId}
 use Rattle.ua_binary.specs.declared.values.NodeId.TheVariants.{Named, Numeric}
@@ -17,9 +15,10 @@ use Rattle.ua_services.specs.Browsing.{BrowseFields}
 use Rattle.ua_services.specs.declared.browsing.BrowseDirection.TheVariants.{Forward}
 use Rattle.ua_services.specs.declared.browsing.ReferenceDescription.{ReferenceDescription}
 use Rattle.ua_space.specs.declared.layout.Layout.{Layout}
-use Rattle.ua_space.specs.Space.{Node, Root, Objects, NamespaceArray, State, OfFolder, OfVariable, FolderType, BaseDataVariableType, facts, is_same_id, node_at}
+use Rattle.ua_space.specs.Space.{Node, Root, Objects, NamespaceArray, State, OfFolder, OfVariable, FolderType, BaseDataVariableType, node_at}
 use Rattle.ua_space.specs.References.{Link, holds, references, type_definition, parent, is_followed, shown_reference, browse_at, way_asked, reference_type_asked, is_reference_type, found_references}
 use Rattle.ua_space.proofs.ReferencesParts.{objects_below, organizes, is_defined_by}
+use Rattle.settings_check.proofs.NodeLemmas.{at_place, drop_at, find_made}
 use Rattle.web_page.specs.declared.listing.Listed.{Listed}
 use Rattle.web_page.specs.Listing.{listed_under, listed_below, told_in, named}
 
@@ -172,66 +171,7 @@ pub folders_answered : (space : Layout) (found : List ReferenceDescription)
     → map named found ≡ folder_named space
 folders_answered space found told = ap (map named) told ∙ found_folders space (Numeric 0 85)
 
--- ---- the node of a folder's id
-
--- of a list of nodes the first of an id is found, which is one of the list's
-module _ {X : Type 0} (make : X → Node) (name : X → List ℕ)
-    (told : (x : X) (id : List ℕ)
-    → is_same_id (facts (make x)).id (Named 1 id) ≡ pointwise nat_eq (name x) id) where
-  abbrev first_named : List ℕ → List Node → Option Node
-  first_named id nodes = find (λ node. is_same_id (facts node).id (Named 1 id)) nodes
-
-  find_made : (xs : List X) (more : List Node) (i : ℕ) (x : X) → slice_get xs i ≡ Some x
-      → (y : X) × (first_named (name x) (map make xs ++ more) ≡ Some (make y)) × (name y ≡ name x)
-  find_made [] more i x at = absurd (none-some x at)
-  find_made (y ∷ xs) more i x at =
-      go (pointwise nat_eq (name y) (name x)) refl i at (λ k. find_made xs more k x)
-    where
-      go : (b : Bool) → pointwise nat_eq (name y) (name x) ≡ b → (i : ℕ)
-          → slice_get (y ∷ xs) i ≡ Some x
-          → ((k : ℕ) → slice_get xs k ≡ Some x
-          → (z : X) × (first_named (name x) (map make xs ++ more) ≡ Some (make z))
-          × (name z ≡ name x))
-          → (z : X) × (first_named (name x) (map make (y ∷ xs) ++ more) ≡ Some (make z))
-          × (name z ≡ name x)
-      go true same i at later = (
-        y,
-        ap (λ b. cond b (Some (make y)) (first_named (name x) (map make xs ++ more)))
-            (told y (name x) ∙ same),
-        (bytes_decides (name y) (name x)).0 same,
-      )
-      go false other zero at later =
-          let same : y ≡ x = same_Some y x at in
-          absurd (true≢false (sym ((bytes_decides (name y) (name x)).1 (ap name same)) ∙ other))
-      go false other (suc k) at later =
-          let (z, is, same) = later k at in (
-            z,
-            ap (λ b. cond b (Some (make y)) (first_named (name x) (map make xs ++ more)))
-                (told y (name x) ∙ other) ∙ is,
-            same,
-          )
-
 -- ---- folder by folder
-
--- of two lists of which the same is told, what stands at a place of the one stands in the other
-at_place : {X Y Z : Type 0} (f : X → Z) (g : Y → Z) (xs : List X) (ys : List Y)
-    (i : ℕ) (d : Y) → i < length ys → map g ys ≡ map f xs
-    → (x : X) × (slice_get xs i ≡ Some x) × (f x ≡ g (get_or ys i d))
-at_place {X = X} f g xs ys i d lt same = go (slice_get xs i) refl
-    (sym (slice_get-map f xs i) ∙ (ap (λ l. slice_get l i) (sym same)
-    ∙ (slice_get-map g ys i ∙ ap (option_map g) (slice_get-get_or ys i d lt))))
-  where
-    go : (o : Option X) → slice_get xs i ≡ o → option_map f o ≡ Some (g (get_or ys i d))
-        → (x : X) × (slice_get xs i ≡ Some x) × (f x ≡ g (get_or ys i d))
-    go None at told = absurd (none-some (g (get_or ys i d)) told)
-    go (Some x) at told = (x, at, same_Some (f x) (g (get_or ys i d)) told)
-
--- what stands at a place stands before what is behind it
-drop_at : {X : Type 0} (xs : List X) (i : ℕ) (x : X) → slice_get xs i ≡ Some x
-    → drop i xs ≡ x ∷ drop (i + 1) xs
-drop_at xs i x at =
-    drop_more xs i x (slice_get_within xs i x at)
-    ∙ ap (λ y. y ∷ drop (i + 1) xs) (get_or_from_slice_get xs i x x at)
 
 -- a variable names this folder
 abbrev is_in : List ℕ → Option (List ℕ) → Bool

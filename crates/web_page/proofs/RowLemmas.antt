@@ -16,7 +16,7 @@ use Rattle.web_page.specs.Listing.{listed_variables}
 use Rattle.web_page.specs.Values.{AreLatestTexts}
 use Rattle.web_page.specs.Calls.{Overview}
 use Rattle.web_page.specs.Front.{front_row, IsRowOf, AreRows, IsFront, IsPageAround, page_faults}
-use Rattle.web_page.proofs.AskingLemmas.{reads-both}
+use Rattle.settings_check.proofs.StoredLemmas.{reads-both}
 
 module _ {X : Type 0} (IsLine : X → List ℕ → Type 0) where
   lines-append : (xs ys : List X) (s t : List ℕ) → AreLines IsLine xs s → AreLines IsLine ys t

@@ -1,5 +1,5 @@
 use Rattle.archive.specs.declared.reading.Direction.TheVariants.{Backward}
-use Rattle.web_page.proofs.AskingLemmas.{first-asked}
+use Rattle.settings_check.proofs.StoredLemmas.{first-asked}
 use Rattle.web_page.proofs.asking.latest_of.Goals as goal
 
 pub returns-clause-answers : goal.returns-clause-answers

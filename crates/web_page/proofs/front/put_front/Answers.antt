@@ -5,7 +5,7 @@ use Rattle.history_report.specs.Paging.{IsPut}
 use Rattle.web_page.specs.Calls.{overview_of}
 use Rattle.web_page.specs.Listing.{listed_variables}
 use Rattle.web_page.specs.Front.{AreRows, IsFront}
-use Rattle.web_page.proofs.AskingLemmas.{reads-as}
+use Rattle.settings_check.proofs.StoredLemmas.{reads-as}
 use Rattle.web_page.proofs.RowLemmas.{front-put}
 use Rattle.web_page.proofs.front.put_front.Goals as goal
 

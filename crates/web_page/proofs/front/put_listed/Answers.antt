@@ -5,7 +5,7 @@ use Rattle.settings_check.specs.Stored.{IsVectorOf, Reads}
 use Rattle.web_page.specs.declared.listing.Listed.{Listed}
 use Rattle.web_page.specs.Listing.{listed_variables}
 use Rattle.web_page.specs.Front.{AreRows, page_faults}
-use Rattle.web_page.proofs.AskingLemmas.{reads-none}
+use Rattle.settings_check.proofs.StoredLemmas.{reads-none}
 use Rattle.web_page.proofs.front.put_listed.Goals as goal
 
 pub returns-in-Err-clause-answers : goal.returns-in-Err-clause-answers

@@ -5,7 +5,7 @@ use Rattle.history_report.specs.Paging.{IsPut}
 use Rattle.settings_check.specs.Stored.{IsVectorOf}
 use Rattle.web_page.specs.declared.listing.Listed.{Listed}
 use Rattle.web_page.specs.Front.{IsVariableRow, AreRows, page_faults}
-use Rattle.web_page.proofs.AskingLemmas.{reads-none, reads-as, reads-both}
+use Rattle.settings_check.proofs.StoredLemmas.{reads-none, reads-as, reads-both}
 use Rattle.web_page.proofs.RowLemmas.{put-none, put-more, put-all}
 use Rattle.web_page.proofs.front.put_rows.Goals as goal
 

@@ -1,7 +1,7 @@
 use Rattle.std.proofs.Common.{ℕ, List}
 use Rattle.records.specs.Contents.{Content}
 use Rattle.settings_check.specs.Stored.{IsVectorOf}
-use Rattle.web_page.proofs.AskingLemmas.{reads-answer, reads-fault}
+use Rattle.settings_check.proofs.StoredLemmas.{reads-answer, reads-fault}
 use Rattle.web_page.proofs.RowLemmas.{rows-told}
 use Rattle.web_page.proofs.front.put_table.Goals as goal
 

@@ -5,7 +5,7 @@ use Rattle.records.specs.declared.shown.Held.{Held}
 use Rattle.history_report.specs.Paging.{IsPut}
 use Rattle.settings_check.specs.Stored.{IsVectorOf}
 use Rattle.web_page.specs.Front.{IsRowOf, IsVariableRow, latest_value}
-use Rattle.web_page.proofs.AskingLemmas.{reads-as}
+use Rattle.settings_check.proofs.StoredLemmas.{reads-as}
 use Rattle.web_page.proofs.front.put_variable.Goals as goal
 
 pub returns-in-Ok-put_told-clause-answers : goal.returns-in-Ok-put_told-clause-answers
