@@ -97,7 +97,6 @@ fn take_waiting<A: Archive, W: Write>(
     dialog: &mut Dialog,
     frames: &mut Frames,
     writer: &mut Counted<W>,
-    out: &mut Vec<u8>,
 ) -> Result<Option<PeerEnded>, ServeFault>
     requires ready { IsReady dialog.old }
     requires sound { frames.old.failed ≡ false }
@@ -109,9 +108,10 @@ fn take_waiting<A: Archive, W: Write>(
     ensures writes { CountsWhere (IsErrOf result ServeFault.Write)
         writer.old.faults writer.new.faults }
 {
+    let mut out = Vec::new(alloc);
     'turns: loop {
         out.clear();
-        let first = take_first(alloc, replica, dialog, frames, out);
+        let first = take_first(alloc, replica, dialog, frames, &mut out);
         writer.send(out.as_slice())?;
         let silent = out.as_slice().is_empty();
         match stop_of(first, dialog.peer_code(), silent) {
@@ -152,7 +152,6 @@ pub(crate) fn run_dialog<R: Read, W: Write, A: Archive>(
         writer.old.faults writer.new.faults }
 {
     let mut frames = Frames::new(alloc);
-    let mut out = Vec::new(alloc);
     let mut piece = [0u8; PIECE];
     match frames.feed(first) {
         Ok(()) => {}
@@ -167,7 +166,7 @@ pub(crate) fn run_dialog<R: Read, W: Write, A: Archive>(
             Ok(()) => {}
             Err(_) => return send_starved(writer),
         }
-        match take_waiting(alloc, replica, dialog, &mut frames, writer, &mut out) {
+        match take_waiting(alloc, replica, dialog, &mut frames, writer) {
             Ok(None) => {}
             Ok(Some(parted)) => return Ok(parted),
             Err(fault) => return Err(fault),

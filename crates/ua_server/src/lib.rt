@@ -40,7 +40,7 @@ pub use laws::{a_calls_fault_is_told_alike, connections_are_updates};
 pub use listening::{Callee, Listening, WebDoor};
 pub use multiplex::{Limits, Slot, each_connection_is_alone};
 pub use program::{ProgramFault, Ran, report, run};
-pub use single::answer_at;
+pub use single::{AnswerTerms, answer_at};
 pub use ua_connection::{
     Clock, ConstantClock, MOST_CHUNKS, SystemClock, answers_go_item_by_item, chunks_are_counted,
     connections_are_answered_chunk_by_chunk,

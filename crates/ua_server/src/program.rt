@@ -23,7 +23,7 @@ use crate::histories::{OptionFault, history_over};
 use crate::host::Host;
 use crate::imports::{import_from, import_refusal};
 use crate::log::ErrorLog;
-use crate::single::answer_at;
+use crate::single::{AnswerTerms, answer_at};
 use archive::{Archive, StoreFault};
 use command_line::{Asked, Line, LineFault, SyncWords, read_line};
 use conversation::World;
@@ -322,8 +322,7 @@ fn open_server<H: Host>(
 /// Answers one connection, as the program tells it.
 fn answer_over<A: Archive, C: Clock, R: Read, W: Write>(
     server: &mut Server<A>,
-    hex: bool,
-    now: Option<i64>,
+    terms: AnswerTerms,
     clock: &mut C,
     input: &mut Counted<R>,
     output: &mut Counted<W>,
@@ -334,11 +333,11 @@ fn answer_over<A: Archive, C: Clock, R: Read, W: Write>(
         → output.new.faults ≡ counted output.old.faults }
     ensures does { (used : Environment) × C.gave clock.old used.readings clock.new × (answered : _)
         × AnswersAt server.old.settings (A.state server.old.replica.archive)
-        (A.state server.new.replica.archive) hex now (R.remaining input.old.inner)
+        (A.state server.new.replica.archive) terms.hex terms.moment (R.remaining input.old.inner)
         (R.remaining input.new.inner) (W.contents output.old.inner) (W.contents output.new.inner)
         used answered × (result ≡ result_map_both (λ done. done) fault_of answered) }
 {
-    answer_at(server, hex, now, input, output, clock).map_err(fault_of)
+    answer_at(server, terms, input, output, clock).map_err(fault_of)
 }
 
 /// What the fault of a dump is called by the program.
@@ -563,7 +562,8 @@ fn do_command<H: Host, C: Clock, R: Read, W: Write, E: Write>(
 {
     match line {
         Line::Answer { hex, now, .. } => {
-            answer_over(&mut world.server, hex, now, &mut world.clock, input, output)
+            let terms = AnswerTerms { hex, moment: now };
+            answer_over(&mut world.server, terms, &mut world.clock, input, output)
         }
         Line::Serve { connections, .. } => serve_at(world, connections, host),
         Line::Dump { .. } => dump_over(&mut world.server, output),

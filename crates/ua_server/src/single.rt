@@ -142,6 +142,15 @@ fn answer_either<A: Archive, R: Read, W: Write, C: Clock>(
     }
 }
 
+/// How one connection is answered.
+#[derive(Clone, Copy, Debug, PartialEq, Eq)]
+pub struct AnswerTerms {
+    /// Whether what comes and what goes are hex digits.
+    pub hex: bool,
+    /// The moment at which the clock stands; without one it is read.
+    pub moment: Option<i64>,
+}
+
 /// Answers one connection: what the reader has, as `serve` does, or where `hex` is set what it has in hex digits, as
 /// `answer_hex` does, with the digits of the answer and a line end. Where a moment is given the clock isn't read, and
 /// stands at that.
@@ -150,8 +159,7 @@ fn answer_either<A: Archive, R: Read, W: Write, C: Clock>(
 /// then, or a first part where a write failed.
 pub fn answer_at<A: Archive, R: Read, W: Write, C: Clock>(
     server: &mut Server<A>,
-    hex: bool,
-    now: Option<i64>,
+    terms: AnswerTerms,
     input: &mut Counted<R>,
     output: &mut Counted<W>,
     clock: &mut C,
@@ -162,12 +170,13 @@ pub fn answer_at<A: Archive, R: Read, W: Write, C: Clock>(
         → output.new.faults ≡ counted output.old.faults }
     ensures does { (used : Environment) × C.gave clock.old used.readings clock.new
         × AnswersAt server.old.settings (A.state server.old.replica.archive)
-        (A.state server.new.replica.archive) hex now (R.remaining input.old.inner) (R.remaining input.new.inner) (W.contents output.old.inner)
-        (W.contents output.new.inner) used result }
+        (A.state server.new.replica.archive) terms.hex terms.moment (R.remaining input.old.inner)
+        (R.remaining input.new.inner) (W.contents output.old.inner) (W.contents output.new.inner)
+        used result }
     ensures settings { server.new.settings ≡ server.old.settings }
 {
-    match now {
-        None => answer_either(server, hex, input, output, clock),
-        Some(now) => answer_either(server, hex, input, output, &mut ConstantClock(now)),
+    match terms.moment {
+        None => answer_either(server, terms.hex, input, output, clock),
+        Some(now) => answer_either(server, terms.hex, input, output, &mut ConstantClock(now)),
     }
 }

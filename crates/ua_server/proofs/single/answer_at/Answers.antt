@@ -15,7 +15,7 @@ returns-in-Some-clause-does g c =
     let P : ℤ → Type 0 = λ n. AllAre n does.0.readings in
     let Q : Option ℤ → Type 0 = λ o.
     AnswersAt c.args.server.now.settings (g.A.Archive.state c.args.server.now.replica.archive)
-    (g.A.Archive.state c.answer_either-in-Some.new.server.replica.archive) c.args.hex o
+    (g.A.Archive.state c.answer_either-in-Some.new.server.replica.archive) c.args.terms.hex o
     (g.R.Read.remaining c.args.input.now.inner)
     (g.R.Read.remaining c.answer_either-in-Some.new.input.inner)
     (g.W.Write.contents c.args.output.now.inner)
