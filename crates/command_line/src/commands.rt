@@ -193,22 +193,46 @@ fn span_command<'a>(alloc: Global) -> Result<Command<'a>, AllocError>
     Ok(command)
 }
 
+/// The option `--changes`.
+fn changes_option<'a>(alloc: Global) -> Arg<'a>
+    ensures rule { rule_of result ≡ flag (codes "changes") }
+    ensures local { result.global ≡ false }
+{
+    flag(
+        alloc,
+        "changes",
+        "Prints who changed what and when, in place of the values",
+    )
+}
+
+/// The option `--csv`.
+fn csv_option<'a>(alloc: Global) -> Arg<'a>
+    ensures rule { rule_of result ≡ flag (codes "csv") }
+    ensures local { result.global ≡ false }
+{
+    flag(alloc, "csv", "Prints CSV in place of a table")
+}
+
+/// The option `--html`.
+fn html_option<'a>(alloc: Global) -> Arg<'a>
+    ensures rule { rule_of result ≡ flag (codes "html") }
+    ensures local { result.global ≡ false }
+{
+    flag(
+        alloc,
+        "html",
+        "Prints a page for a browser in place of a table",
+    )
+}
+
 /// The command `history` and its options.
 fn history_command<'a>(alloc: Global) -> Result<Command<'a>, AllocError>
     ensures app { IfOk result (λ command. app_of command ≡ history_command) }
     ensures local { IfOk result (λ command. (out-Command command).has_globals ≡ false) }
 {
-    let changes = flag(
-        alloc,
-        "changes",
-        "Prints who changed what and when, in place of the values",
-    );
-    let csv = flag(alloc, "csv", "Prints CSV in place of a table");
-    let html = flag(
-        alloc,
-        "html",
-        "Prints a page for a browser in place of a table",
-    );
+    let changes = changes_option(alloc);
+    let csv = csv_option(alloc);
+    let html = html_option(alloc);
     let command = span_command(alloc)?;
     let command = command.arg(changes)?.arg(csv)?.arg(html)?;
     Ok(command)

@@ -32,8 +32,8 @@ brings_records given = elim given [
   | Some frame ↦ (elim frame.kind [ Records ↦ true | _ ↦ false ])
 ]
 
--- an archive is asked how many records of its own number it holds: peers have a door, which names
--- no replicas, and a frame stands first that brings records
+-- whether an archive is asked how many records of its own number it holds: where peers have a door
+-- that names no replicas, and a frame stands first that brings records
 abbrev pub is_own_asked : SettingsValues → (waiting : List ℕ) → Bool
 is_own_asked settings waiting = elim settings.door [
   | None ↦ false
@@ -48,7 +48,8 @@ AsksOwn state true old new result =
     (λ held. held ≡ Some (vec (state old).content (state old).own))
 AsksOwn state false old new result = (new ≡ old) × (result ≡ Ok None)
 
--- whether such records come back, once so many are held: where they did before, or none is held
+-- whether records of this replica's own number are taken back, once so many are held: where they
+-- were before, or none is held
 abbrev pub restoring_with : (restoring : Bool) → (held : Option ℕ) → Bool
 restoring_with restoring None = restoring
 restoring_with restoring (Some held) = restoring || held == 0
@@ -63,7 +64,7 @@ restoring_behind restoring asked =
 abbrev pub was_done : UpdateAudit → Bool
 was_done update = nat_lt 0 update.values || nat_lt update.worst.0 (2 ^ 30)
 
--- a client's update of which something was done ends that
+-- a client's update of which something was done: from then on none are taken back
 abbrev pub restoring_unless : (restoring : Bool) → Option AuditEvent → Bool
 restoring_unless restoring event =
     elim event [
@@ -108,7 +109,8 @@ abbrev pub IsAdmitted : SettingsValues → (time : ℤ) → Option Bound → Par
 IsAdmitted settings time bound p waiting =
     first_admitted (admission_at settings time bound) p waiting ≡ Ok tt
 
--- they aren't, for this fault, or memory to tell that was wanting, where not all records are taken
+-- the records of the first frame aren't taken, where not all records are, and this fault says why;
+-- or memory to judge them was wanting
 pub record IsUnadmitted (settings : SettingsValues) (time : ℤ) (bound : Option Bound) (p : Party)
     (waiting : List ℕ) (fault : ExchangeFault) : Type 0 where
   pub closed : is_open (admission_at settings time bound) ≡ false
@@ -124,7 +126,7 @@ IsReason settings time restoring p waiting (Ok held) fault =
     let bound = own_bound (restoring_with restoring held) p.own held in
     IsUnadmitted settings time bound p waiting fault
 
--- it isn't taken; the peer was told why, and the dialog is over
+-- the first frame isn't taken: the peer was told why, and the dialog is over
 pub record Refuses (settings : SettingsValues) (time : ℤ) (restoring : Bool) (p : Party)
     (waiting : List ℕ) (asked : Result (Option ℕ) StoreFault) (said : List ℕ)
     (ends : Option (Result PeerEnded ServeFault)) : Type 0 where

@@ -22,7 +22,8 @@ use Rattle.conversation.specs.Answering.{client_ending}
 use Rattle.conversation.specs.Events.{Telling}
 use Rattle.conversation.specs.Conversing.{behavior_over}
 
--- what answers are made by stays; the log, the time, and what is known of logins may change
+-- the server and the clock, by which answers are made, stay; the log, the time, and what is known
+-- of logins may change
 abbrev pub StaysStill : {A C L : Type 0} → World A C L → World A C L → Type 0
 StaysStill v w = (w.server ≡ v.server) × (w.clock ≡ v.clock)
 

@@ -95,8 +95,9 @@ pub record StaysAtPeer {A C L : Type 0} (gave : C → List ℤ → C → Type 0)
   pub calls : w.calls ≡ v.calls
   pub connections : w.connections ≡ v.connections
 
--- the records of the frame that stands first are taken at this time, once the archive was asked how
--- many records of its own number it holds, where it is; whether these come back is noted
+-- the records of the frame that stands first are taken at this time; where the settings want it,
+-- the archive was asked before how many records of its own number it holds, and whether these are
+-- taken back from now on is kept
 pub record TakesFirst {A C L : Type 0} (state : A → Store) (time : ℤ) (waiting : List ℕ)
     (v w : World A C L) (between : A) : Type 0 where
   pub held : Option ℕ
@@ -144,9 +145,9 @@ pub record RefusesPeer {A C L : Type 0} (state : A → Store) (gave : C → List
   pub tells : Tells said ends made ending
   pub leaves : next ≡ unless_over ending (Peer peer)
 
--- some first records of the frame that stood first in a peer's dialog were learned ahead of its
--- turn, since they are taken: the frame stays, and nothing is said, or why the next one wasn't
--- learned, which ends the dialog
+-- some first records of the frame that stood first in a peer's dialog were learned before the frame
+-- is answered, since the settings take all of its records: the frame stays, and nothing is said, or
+-- why the next one wasn't learned, which ends the dialog
 pub record LearnsFromPeer {A C L : Type 0} (state : A → Store) (gave : C → List ℤ → C → Type 0)
     (v : World A C L) (peer : PeerDialog) (made : List ℕ) (ending : Option ConversationEnding)
     (w : World A C L) (next : OtherEnd) : Type 0 where

@@ -22,7 +22,7 @@ IsAtClientsDoor other = elim other [
   | Over moved ↦ Unit {0}
 ]
 
--- whatever bytes come, it is no peer that brought them
+-- whatever bytes come, the other end isn't taken for a peer
 abbrev pub NoPeerComes : Type 0
 NoPeerComes =
     (old new : OtherEnd) (bytes made : List ℕ) (ending : Option ConversationEnding)

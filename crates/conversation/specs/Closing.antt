@@ -48,8 +48,8 @@ parted_outcome parted.Done = Ok tt
 parted_outcome (parted.Refused number) = Err (Peer number)
 parted_outcome (parted.Failed fault) = Err (Exchange fault)
 
--- what a connection's end is to the one that called; an input that is over before is a frame that
--- can't be read
+-- what a connection's end is to the one that called; where the peer hung up before the dialog's
+-- end, that is a frame that can't be read
 abbrev pub call_outcome : SlotEnd ConversationEnding → Result (Unit {0}) SyncFault
 call_outcome (Finished (Ok (ended.Peer end))) = parted_outcome end
 call_outcome (Finished (Ok (ended.Client end))) = Err (Exchange Frame)
@@ -115,8 +115,8 @@ with_connection v = record v { connections = counted v.connections }
 abbrev pub without_connection : {A C L : Type 0} → World A C L → World A C L
 without_connection v = record v { connections = v.connections - 1 }
 
--- it was told how a connection of this party ended, which isn't counted any more, and of a call how
--- that ended
+-- it was told how a connection of this party ended, and of a call how the call ended; one that was
+-- accepted isn't counted any more
 abbrev pub TellsEndOf : {A C L : Type 0} → (C → List ℤ → C → Type 0) → Telling L → Stay
     → World A C L → OtherEnd → SlotEnd ConversationEnding → World A C L → Party → Type 0
 TellsEndOf gave told stay v other ending w (Called callee) =
@@ -138,7 +138,7 @@ with_now v now = record v { now = now }
 abbrev pub is_slow : SettingsValues → (turn : ℕ) → Bool
 is_slow settings turn = option_map_or (λ least. nat_le least turn) settings.slow false
 
--- how long the longest turn so far took was told, where it is slow
+-- where the longest turn so far is slow, how long it took was told
 abbrev pub TellsTurnOf : {A C L : Type 0} → Telling L → World A C L → (longest : ℕ)
     → World A C L → (slow : Bool) → Type 0
 TellsTurnOf told v longest w true = Logs told (TurnTook longest) v w

@@ -49,9 +49,9 @@ abbrev pub serves_nobody : {A C L : Type 0} → (A → Store) → World A C L �
 serves_nobody state w =
     ends_serving w.server.settings.after_break && (state w.server.replica.archive).broken
 
--- a connection begins with a stranger, with a browser, or with nobody known at its other end, at
--- the door of its listener, which is told and counted, or is a call of a peer; answers to logins
--- may wait; what time it is is kept, and a long turn is told
+-- how connections of a server behave. One that comes begins at the door of its listener, with a
+-- stranger, a browser or nobody known at its other end, and is told and counted; a call begins with
+-- a peer. Answers to logins may wait. The time of each round is kept, and a long turn is told.
 abbrev pub behavior_over : {A C L : Type 0} → (A → Store) → (C → List ℤ → C → Type 0)
     → Telling L → Behavior OtherEnd (World A C L) ConversationEnding
 behavior_over state gave told = record {

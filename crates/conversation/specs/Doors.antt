@@ -8,7 +8,7 @@ use Rattle.conversation.specs.declared.door.Door.TheVariants.{Both, Clients, Pee
 use Rattle.conversation.specs.declared.networks.Network.{Network}
 use Rattle.conversation.specs.Networks.{is_taken}
 
--- by the number of the listener that it came from
+-- who is taken at the listener of this number
 abbrev pub door_of_listener : ℕ → Door
 door_of_listener listener =
     if listener == 1 then Clients else if listener == 2 then Peers
@@ -18,7 +18,8 @@ door_of_listener listener =
 abbrev pub listener_of : Door → ℕ
 listener_of door = elim door [ Both ↦ 0 | Clients ↦ 1 | Peers ↦ 2 | Browsers ↦ 3 ]
 
--- at the address where clients come to: where peers have an address of their own, clients alone
+-- who is taken at the address of `[server] listen`: clients alone where peers have an address of
+-- their own, else peers too
 abbrev pub door_of : SettingsValues → Door
 door_of settings = elim settings.door [ None ↦ Both | Some address ↦ Clients ]
 

@@ -38,7 +38,7 @@ host_of stay = elim stay.party [
   | Called callee ↦ None
 ]
 
--- it was one from there, in the minute before this time
+-- it is a login from this address that was refused less than a minute before this time
 abbrev pub counts_for : Option IpAddr → (now : ℕ) → Option RefusedLogin → Bool
 counts_for host now given = elim given [
   | None ↦ false
@@ -60,7 +60,7 @@ with_refusal host now logins = record logins {
   next = if nat_lt (logins.next + 1) (length logins.refusals) then logins.next + 1 else 0;
 }
 
--- as many were refused of those who are there as the settings allow
+-- so many logins from this address were refused that the next ones wait
 abbrev pub is_full : (limit : Option ℕ) → Option IpAddr → (now : ℕ) → LoginsState → Bool
 is_full limit host now logins =
     option_map_or (λ most. nat_le most (refusals_of host now logins)) limit false
@@ -77,7 +77,7 @@ after_login limit host now refused logins =
 abbrev pub unheld : LoginsState → LoginsState
 unheld logins = record logins { is_held = false }
 
--- a client was answered, behind which this stands for a log
+-- a client was answered, and this is what a log is told of it
 abbrev pub after_audit : (limit : Option ℕ) → Stay → (now : ℕ) → Option AuditEvent → LoginsState
     → LoginsState
 after_audit limit stay now (Some (Activation name refused)) logins =

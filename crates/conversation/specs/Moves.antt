@@ -5,7 +5,8 @@ use Rattle.archive.specs.declared.fault.StoreFault.{StoreFault}
 use Rattle.archive.specs.Store.{Store, CountsFaults, IsLeft}
 use Rattle.conversation.specs.declared.world.World.{World}
 
--- each fault of the store is counted, and whatever is left was left before, perhaps with more
+-- each fault of the store is counted; and on an honest disk whatever a crash may leave now has all
+-- of something that it might have left before, and perhaps more
 pub record OnlyGrows (old new : Store) : Type 0 where
   pub faults : List StoreFault
   pub passes : CountsFaults old new faults

@@ -21,7 +21,7 @@ is_peer other = elim other [ Peer peer ↦ true | _ ↦ false ]
 abbrev pub starved_message : OtherEnd → List ℕ
 starved_message other = if is_peer other then end_frame 4 else error.canon BAD_OUT_OF_MEMORY
 
--- how a connection ends of which memory was wanting
+-- how a connection ends for which there was no memory
 abbrev pub starved_end : OtherEnd → Ended
 starved_end other =
     if is_peer other then ended.Peer (Failed exchange.OutOfMemory)

@@ -30,7 +30,7 @@ BeginsBy gave told callee v other w (Err fault) =
     (other ≡ None) × TellsCall gave told v callee (Err (Exchange fault)) none_moved w
 
 -- a peer is called, as the initiator of a dialog, over an archive; where that can't be, it is told,
--- as the end of the call; what the server is set to stays, and for the begin the time isn't asked
+-- as the end of the call; what the server is set to stays, and to begin the clock isn't read
 pub record StartsCall {A C L : Type 0} (state : A → Store) (gave : C → List ℤ → C → Type 0)
     (told : Telling L) (callee : ℕ) (v : World A C L) (made : List ℕ) (other : Option OtherEnd)
     (w : World A C L) : Type 0 where

@@ -14,7 +14,7 @@ abbrev pub check_lines : SettingsValues → List (List ℕ)
 check_lines s = settings_facts s ++ warnings s
 
 -- these lines were printed, or a first part of them where a write failed, or nothing where memory
--- was wanting; it is no other fault
+-- was wanting; there is no other fault
 abbrev pub PrintsLines : List (List ℕ) → (before after : Option (List ℕ))
     → Result (Unit {0}) CheckFault → Type 0
 PrintsLines lines before after result =

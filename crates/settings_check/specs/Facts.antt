@@ -11,7 +11,7 @@ use Rattle.ua_space.specs.declared.layout.Layout.{Layout}
 use Rattle.history_report.specs.Tables.{legible}
 use Rattle.settings_check.specs.Nodes.{variable_ids}
 
--- a number of what has this name
+-- a number with its noun, in the singular or the plural
 abbrev pub counted_noun : ℕ → (one more : List ℕ) → List ℕ
 counted_noun n one more = decimal n ++ (if n == 1 then one else more)
 
@@ -20,7 +20,7 @@ abbrev pub archive_line : SettingsValues → List ℕ
 archive_line s =
     codes "archive " ++ hyphenated_text lower s.archive ++ codes ", replica " ++ decimal s.replica
 
--- where its values are kept
+-- where the archive's values are kept
 abbrev pub store_line : SettingsValues → List ℕ
 store_line s =
     elim s.store [
@@ -46,22 +46,22 @@ anonymous_words users =
     [ Write ↦ codes "allowed, may write" | Read ↦ codes "allowed, reads only" ]
     else codes "not allowed"
 
--- who may use it
+-- who may use the server
 abbrev pub users_line : Allowed → List ℕ
 users_line users =
     named_words users ++ codes "; without a name: " ++ anonymous_words users
 
--- how many variables it has, and how many folders
+-- how many variables the server has, and how many folders
 abbrev pub variables_line : Layout → List ℕ
 variables_line space =
     counted_noun (length (variable_ids space)) (codes " variable, ") (codes " variables, ")
     ++ counted_noun (length space.folders) (codes " folder") (codes " folders")
 
--- how many peers it calls by itself
+-- how many peers the server calls by itself
 abbrev pub called_words : ℕ → List ℕ
 called_words n = counted_noun n (codes " peer is called; ") (codes " peers are called; ")
 
--- where peers come to it
+-- where peers come to the server
 abbrev pub door_words : Option DoorSettings → List ℕ
 door_words door =
     elim door [

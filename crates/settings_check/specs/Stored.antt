@@ -64,7 +64,7 @@ is_other wanted held =
 abbrev pub seen_of : Option ValueType → Held → Seen
 seen_of wanted held = record { time = held.time; other = is_other wanted held }
 
--- what is told of a node's live value that comes first in a direction, if there is any
+-- what is told of a node's first live value in a direction: forward its first, backward its last
 abbrev pub end_of : Content → NodeId → Option ValueType → Direction → Option Seen
 end_of R node wanted way =
     option_map (seen_of wanted) (slice_get (in_direction way (lives R node)) 0)
@@ -100,7 +100,7 @@ TellsEnds ends words =
           [ None ↦ words ≡ codes ": no values" | Some last ↦ TellsTimes first last words ]
     ]
 
--- the last value was stored while the settings said another type
+-- the last value has another type than the settings say now
 abbrev pub type_warning : NodeId → Ends → List (List ℕ)
 type_warning node ends =
     warned (option_map_or (λ last. last.other) ends.last false)

@@ -53,13 +53,13 @@ local_warning s =
     warned (is_local_url s.url && not (is_local s.listen))
     (codes "url names this machine alone, so clients elsewhere can't use what they are told")
 
--- there is nobody with a name, and who gives none may not write
+-- nobody may write: there is no user with a name, and who gives none may not
 abbrev pub nobody_warning : SettingsValues → List (List ℕ)
 nobody_warning s =
     warned (not (nat_lt 0 (length s.users.named)) && not (anonymous_writes s.users))
     (codes "nobody may write: there are no users with a name, and others may not")
 
--- everybody may write
+-- who gives no name may write
 abbrev pub anonymous_warning : SettingsValues → List (List ℕ)
 anonymous_warning s =
     warned (anonymous_writes s.users) (codes "who gives no name may write")
@@ -95,7 +95,7 @@ repeated_warning peer behind =
     warned (list_any (λ other. pointwise nat_eq other.address peer.address) behind)
     (codes "two peers have the address " ++ legible peer.address)
 
--- peers have one address
+-- a warning for each peer whose address one of those behind it has
 abbrev pub repeated_warnings : List PeerCall → List (List ℕ)
 repeated_warnings [] = []
 repeated_warnings (peer ∷ peers) = repeated_warning peer peers ++ repeated_warnings peers

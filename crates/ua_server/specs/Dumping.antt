@@ -54,6 +54,7 @@ IsSoFar R known before now =
     (n : ℕ) × ((origin : ℕ) → number_of known origin ≡ vec (take n R) origin)
     × Appends before now (lines_of (take n R))
 
+-- while a dump goes on: the archive holds what it held, and lines of its first records were written
 abbrev pub Dumping : Store → Store → List ℕ → Option (List ℕ) → Option (List ℕ) → Type 0
 Dumping old new known before now =
     Transitions old new [] (λ marks R S. (S ≡ R) × IsSoFar R known before now)

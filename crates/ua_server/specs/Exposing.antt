@@ -27,13 +27,13 @@ abbrev pub is_exposed : (has_password : Bool) → Option ℕ → Bool
 is_exposed has_password mode =
     option_map_or (λ bits. others_write bits || (has_password && all_read bits)) mode true
 
--- the file at a path is exposed, or it isn't
+-- whether the file at a path is exposed, by its mode
 abbrev pub Exposes : {H A L R W I : Type 0} → Machine H A L R W I → H → (path : List ℕ)
     → (has_password exposed : Bool) → Type 0
 Exposes machine host path has_password exposed =
     (mode : Option ℕ) × machine.modes host path mode × (exposed ≡ is_exposed has_password mode)
 
--- the password file of this path beside the settings' is exposed, or it isn't
+-- whether the password file of this path beside the settings' is exposed, by its mode
 abbrev pub ExposesBeside : {H A L R W I : Type 0} → Machine H A L R W I → H → (settings : List ℕ)
     → (exposed : Bool) → (path : List ℕ) → Type 0
 ExposesBeside machine host settings exposed path =

@@ -47,6 +47,7 @@ AnswersHex settings old new text used before after (Err (Serve OutOfMemory)) =
     ((out : List ℕ) × (ending : ConnectionEnding)
     × AnswersText settings old new text used out ending))
 
+-- the input isn't hex, or there was no memory
 abbrev pub IsBadOrStarved : HexFault → Type 0
 IsBadOrStarved BadHex = Unit {0}
 IsBadOrStarved (Serve Read) = ⊥

@@ -70,7 +70,7 @@ pub record KnownMachine : Type 1 where
   pub written : Writer → Option (List ℕ)
   pub rows : Rows → Option (List ℕ)
 
--- the record of these, from what the traits of a machine say
+-- a machine of which this is known, as its traits say it
 abbrev pub known_machine : {H A S R W I P Q : Type 0} → Machine H A S R W I → (A → Store)
     → Effects S P Q → Input P → Output Q → (R → Option (List ℕ)) → (W → Option (List ℕ))
     → (I → Option (List ℕ)) → KnownMachine

@@ -38,7 +38,8 @@ use Rattle.ua_server.specs.Telling.{Known, Readings, LogsLine, LogsFault, LogsFa
 
 -- ---- how often
 
--- the second goes on in which the last line of its kind was told first
+-- the time is less than a second after the first line of the second in which the last line of its
+-- kind was told
 abbrev pub is_same_second : Recent → (at : ℤ) → Bool
 is_same_second recent at = int_le recent.since at && int_lt at (recent.since +ℤ pos 10000000)
 
@@ -156,7 +157,7 @@ parting_text parting =
 
 -- ---- what a log does
 
--- this is so, or else the other
+-- the first claim where this is true, else the second
 abbrev pub Whether : Bool → (so other : Type 0) → Type 0
 Whether true so other = so
 Whether false so other = other
@@ -218,7 +219,7 @@ LogsEnd contents gave parting old new =
     Whether (is_still parting.moved) (LogsLimited contents gave (parting_text parting) old new)
     (LogsTimed contents gave (parting_text parting) old new)
 
--- where events are told this was, and else nothing
+-- where events are told, this was done to the log; else it stays
 abbrev pub LogsWhere : {E C : Type 0} → (old new : ErrorLog E C) → (so : Type 0) → Type 0
 LogsWhere old new so = Whether old.events so (new ≡ old)
 

@@ -51,7 +51,7 @@ limits_of settings count = record {
   rounds = 2 ^ 64 - 1;
 }
 
--- of so many refused logins is known at most: of a thousand, where they are limited
+-- how many refused logins are kept in mind at most: a thousand where logins are limited, else none
 abbrev pub refusals_kept : (limit : Option ℕ) → ℕ
 refusals_kept None = 0
 refusals_kept (Some most) = 1000

@@ -81,7 +81,7 @@ IsSetIn lines text result =
     (λ told. TellsPlace lines (parse_document text) told × (read ≡ Err refused.OutOfMemory → ⊥))
     × (result ≡ result_map_both (λ settings. settings) (λ fault. Settings fault place) read)
 
--- the settings of a text, as the password files that it names were read
+-- the settings of a text, by how the password files that it names were read
 abbrev pub IsSetBy : List ℕ → Result (Option (List PasswordLine)) (Unit {0})
     → Result SettingsValues ProgramFault → Type 0
 IsSetBy text (Ok (Some lines)) result = IsSetIn lines text result
@@ -173,8 +173,8 @@ OpensUnless {H} {A} machine held uses refusal settings result old new =
           × (result ≡ result_map_both (λ archive. (settings, archive)) program.Store opening)
     ]
 
--- the settings that a path gives, and their archive; or why they, a command by them, or it are
--- refused
+-- the settings that a path gives, with their archive; or why the settings, the command or the
+-- archive is refused
 abbrev pub OpensBy : {H A L R W I : Type 0} → Machine H A L R W I → (A → Store) → StoreUse
     → (refused_by : SettingsValues → Option ProgramFault) → Option (List ℕ)
     → Result (SettingsValues × A) ProgramFault → (old new : H) → Type 0
@@ -194,8 +194,8 @@ IsUnreachable had text old new =
     (((address : SocketAddr) → IsSocketText text address → ⊥) × (new ≡ old))
     ⊎ ((address : SocketAddr) × IsSocketText text address × had address None new)
 
--- connections were served that came to the addresses of the settings, to their end, or till the
--- store broke
+-- connections were served that came to the addresses of the settings, to their end, or until the
+-- store broke and was not, or could not be, opened anew
 abbrev pub ListensAt : {C E : Type 0} → (known : KnownMachine) → Readings C → Known E
     → SettingsValues → ℕ → (old new : Serving known.Host known.Archive C E)
     → Result (Unit {0}) ProgramFault → Type 0
@@ -227,8 +227,7 @@ abbrev pub ListensNowhere : {C E : Type 0} → (known : KnownMachine) → Settin
 ListensNowhere known settings (Connection OutOfMemory) old new = new ≡ old
 ListensNowhere known settings fault old new = FindsNoPlace known settings fault old new
 
--- connections were served that came to the addresses of the settings, to their end, or till the
--- store broke; or none was
+-- the same; or none was served, and why not
 abbrev pub Listens : {C E : Type 0} → (known : KnownMachine) → Readings C → Known E
     → SettingsValues → ℕ → (old new : Serving known.Host known.Archive C E)
     → Result (Unit {0}) ProgramFault → Type 0
@@ -308,7 +307,7 @@ Scene H C E =
       errors : Tally E;
     }
 
--- the record of these five
+-- the scene of these five
 abbrev pub scene_of : {H C E : Type 0} → (unread written : Option (List ℕ)) → H → C → Tally E
     → Scene H C E
 scene_of unread written host clock errors = record {
@@ -329,7 +328,8 @@ DoesAnswering gave settings hex now first last old new result =
     new.unread old.written new.written used answered
     × (result ≡ result_map_both (λ done. done) fault_of answered))
 
--- `serve`: connections are served that come to the address of the settings
+-- `serve`: connections are served that come to the addresses of the settings, and their peers are
+-- called
 abbrev pub DoesServing : {C E : Type 0} → (known : KnownMachine) → Readings C → Known E
     → SettingsValues → ℕ → (first last : known.Archive) → (old new : Scene known.Host C E)
     → Result (Unit {0}) ProgramFault → Type 0
@@ -541,8 +541,8 @@ OpensFor known line opening old new =
     OpensBy known.machine known.held (store_use line) (line_refusal line) (settings_path line)
     opening old new
 
--- a command is done over the archive of its settings; or nothing else is, where they, it by them,
--- or their archive are refused
+-- a command is done over the archive of its settings; where the settings, the command or the
+-- archive is refused, nothing else is done
 abbrev pub DoesLine : {C E : Type 0} → (known : KnownMachine) → Readings C → Known E → CommandLine
     → (old new : Scene known.Host C E) → Result (Unit {0}) ProgramFault → Type 0
 DoesLine known gave told line old new result =
@@ -572,7 +572,7 @@ abbrev pub Findings : Type 0
 Findings =
     record { faults : List ErrorKind; taken : Bool; matches : Option (Text × List Row) }
 
--- what it finds in these words
+-- what clap finds in these words
 abbrev pub findings_in : List Text → Findings
 findings_in words = record {
   faults = fault_kinds uahist words;

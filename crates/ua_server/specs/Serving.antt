@@ -37,7 +37,7 @@ pub record ServesRun {C E : Type 0} (known : KnownMachine) (gave : Readings C) (
   pub tells : TellsTurn (logs_to told gave) last.world longest new.world
   pub others : new ≡ record last { world = new.world }
 
--- what comes of a run behind which no more is done
+-- the result of the last run
 abbrev pub run_result : (broken : Bool) → Result (Unit {0}) ProgramFault
 run_result broken = elim broken [ true ↦ Err StoreBroken | false ↦ Ok tt ]
 
@@ -52,7 +52,7 @@ module _ {C E : Type 0} (known : KnownMachine) (gave : Readings C) (told : Known
       × (new.host ≡ old.host) × (result ≡ run_result broken)
   ServesOn limits old new (Err fault) result = (new ≡ old) × (result ≡ Err (Store fault))
 
-  -- behind a run that ended otherwise, or where no file is opened anew, no more is done; where its
+  -- after a run that ended otherwise, or where no file is opened anew, nothing follows; where its
   -- store is broken, the file is opened anew, and the connections served on
   abbrev pub FollowsRun : Limits → (broken : Bool) → Option StoreFile → (old new : Stage known C E)
       → Result (Unit {0}) ProgramFault → Type 0

@@ -97,7 +97,7 @@ DoesAnswer settings first last false input left old written used result =
 DoesAnswer settings first last true input left old written used result =
     PrintsHex settings first last input old written used result
 
--- and a moment that is given stands for each reading of the clock
+-- the same; where a moment is given, each reading of the clock is that moment
 abbrev pub AnswersAt : SettingsValues → (old new : Store) → Bool → Option ℤ
     → (input left old written : Option (List ℕ)) → Environment → Result (Unit {0}) HexFault → Type 0
 AnswersAt settings first last hex None input left old written used result =

@@ -151,7 +151,7 @@ LogsLine contents old new line =
     ⊎
     (AppendsPart (contents old.inner) (contents new.inner) line × (new.faults ≡ counted old.faults))
 
--- what is known to stand in what a writer writes to; None where nothing is
+-- what stands in what a writer writes to; None where that isn't known
 abbrev pub Known : Type 0 → Type 0
 Known E = E → Option (List ℕ)
 
@@ -207,7 +207,7 @@ LogsFailed contents old now new =
     × (new ≡ record old { errors = new.errors; told_at = Some now; missed = 0 })
     × LogsLine contents old.errors new.errors (failed_lines old.missed))
 
--- what that of a dialog with a peer that was called is called
+-- what the program calls the fault of a dialog with a peer that it called
 abbrev pub sync_fault : SyncFault → ProgramFault
 sync_fault v =
     elim v [

@@ -5,8 +5,8 @@ use Rattle.ua_session.specs.Users.{Claim, Anonymous, Other, Named, judgement}
 use Rattle.ua_settings.specs.Settings.{SettingsValues}
 use Rattle.web_request.specs.declared.page.Credentials.{Credentials}
 
--- whom credentials say, as a session's user would: nobody is anonymous, and a name that isn't UTF-8
--- is no user's
+-- who asks, by the credentials, judged as a session's user is: without any it is the anonymous
+-- user, and a name that isn't UTF-8 is no user's
 abbrev pub claim_in : Option Credentials → Claim
 claim_in None = Anonymous
 claim_in (Some given) =

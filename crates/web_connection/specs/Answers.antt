@@ -82,8 +82,8 @@ TellsPage kind head_only IsPage faults text =
     TellsStoreFault head_only faults text
     ⊎ ((faults ≡ []) × (page : List ℕ) × IsPage page × (text ≡ answer_text kind page head_only))
 
--- the page says how the server does, by how many connections it has, the number of each replica's
--- last record and its last calls of peers
+-- the page is the status as JSON: how many connections there are, the number of each replica's last
+-- record, and the last call of each peer
 abbrev pub IsStatus : Overview → Content → List ℕ → Type 0
 IsStatus overview R page = IsStatusJson overview (vec R) page
 
@@ -248,7 +248,7 @@ IsDenied s web = (web.sending ≡ None) × AreWrongIn s web.came
 abbrev pub WaitsForRequest : WebState → List StoreFault → List ℕ → WebState → Type 0
 WaitsForRequest web faults made next = NeedsRequest web × (faults ≡ []) × (made ≡ []) × (next ≡ web)
 
--- the answer to a request is begun, or goes on
+-- the answer to a request is begun, or goes on; this is its next part
 abbrev pub GoesFurther : Overview → Content → (came : List ℕ) → Option Sending
     → List StoreFault → (made : List ℕ) → Option Sending → Type 0
 GoesFurther overview R came old faults made new =
@@ -269,7 +269,7 @@ AnswersStep overview R web faults made (Ok over) next =
     (next.sending ≡ None) × GoesFurther overview R web.came web.sending faults made next.sending
 
 -- An archive was asked, which stays as it is, and by what it held a step made this of the answer;
--- its store met the faults that the answer is by, and no other. Whatever it held, a step that isn't
+-- its store met just the faults that the answer depends on. Whatever it held, a step that isn't
 -- starved is `Denied` exactly where who asks is to be denied.
 abbrev pub AnswersWeb : Overview → Store → Store → WebState → (made : List ℕ)
     → Result WebStep AllocError → WebState → Type 0

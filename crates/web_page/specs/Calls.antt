@@ -33,7 +33,7 @@ pub record Overview : Type 0 where
   pub connections : ℕ
   pub now : ℤ
 
--- the one that is lent so
+-- the overview whose parts are borrowed so
 abbrev pub overview_of : Lent → Overview
 overview_of lent = record {
   settings = lent.settings.now;
@@ -42,7 +42,7 @@ overview_of lent = record {
   now = lent.now;
 }
 
--- ---- how it is told
+-- ---- how a call's end is told
 
 -- the moment of these ticks
 abbrev pub tick_time : (ticks : ℤ) → Time

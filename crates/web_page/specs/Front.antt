@@ -1,4 +1,4 @@
--- The page that a person begins at.
+-- The first page: all variables with their latest values, and the peers.
 use Rattle.std.specs.Prelude.{◌≡◌, ℕ, ℤ, ◌==◌, List, [], ◌∷◌, ◌++◌, length, codes, slice_get, unwrap_or, Option, if◌then◌else◌}
 use Rattle.std.specs.Fmt.{decimal}
 use Rattle.uuid.specs.Text.{hyphenated_text, lower}
@@ -60,7 +60,7 @@ front_row space one value status time age =
     codes "<tr>" ++ settings_cells space one ++ latest_cells value status time age
     ++ codes "</tr>\n"
 
--- the same with the texts of a live value, empty ones where there is none
+-- the row of a variable with this live value; its cells are empty where there is none
 abbrev pub IsRowOf : Layout → (now : ℤ) → Listed → Option Held → List ℕ → Type 0
 IsRowOf space now one held row =
     (value : List ℕ) × (status : List ℕ) × (time : List ℕ) × (age : List ℕ)

@@ -74,8 +74,7 @@ age_text now time = if int_lt now time then [] else age_words (seconds_between n
 
 -- ---- the latest live value
 
--- its texts, those of its status and of its time, and how long ago that was; empty where there is
--- none
+-- the texts of a value, of its status, its time and its age; empty where there is none
 abbrev pub AreLatestTexts : (now : ℤ) → Option Held → (value status time age : List ℕ) → Type 0
 AreLatestTexts now latest value status time age =
     elim latest [

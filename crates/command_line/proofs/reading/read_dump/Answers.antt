@@ -1,5 +1,4 @@
-use Rattle.std.proofs.Common.{◌≡◌, List, Some, None, ◌∙◌, ap, sym, codes}
-use Rattle.std.specs.Prelude.{Option, option_map}
+use Rattle.std.proofs.Common.{◌≡◌, List, Some, None, ◌∙◌, sym, codes}
 use Rattle.clap.specs.Matches.{first_value}
 use Rattle.clap.specs.Words.{Row, first_of, found_of, rows_of}
 use Rattle.command_line.specs.Line.{IsDump, NoLine}
