@@ -15,7 +15,7 @@ use Rattle.conversation.specs.Receiving.{TakesBytes}
 use Rattle.conversation.specs.Answering.{IsIncomplete, AnswersFirst}
 use Rattle.conversation.specs.Closing.{TellsEnd, TellsTurn, with_connection, with_now}
 use Rattle.conversation.specs.Events.{Telling, Logs, Connected, AcceptFailed}
-use Rattle.conversation.specs.Logins.{delay_of, no_logins}
+use Rattle.conversation.specs.Logins.{delay_of, no_refusals}
 use Rattle.historian.specs.declared.server.Server.{Server}
 use Rattle.conversation.specs.Starting.{StartsCall}
 use Rattle.conversation.specs.Moves.{Moves}
@@ -38,7 +38,7 @@ new_world server clock log = record {
   log = log;
   from = None;
   now = 0;
-  logins = no_logins 0;
+  logins = no_refusals 0;
   calls = [];
   connections = 0;
   restoring = false;

@@ -20,8 +20,8 @@ listener_of door = elim door [ Both ↦ 0 | Clients ↦ 1 | Peers ↦ 2 | Browse
 
 -- who is taken at the address of `[server] listen`: clients alone where peers have an address of
 -- their own, else peers too
-abbrev pub door_of : SettingsValues → Door
-door_of settings = elim settings.door [ None ↦ Both | Some address ↦ Clients ]
+abbrev pub clients_door : SettingsValues → Door
+clients_door settings = elim settings.door [ None ↦ Both | Some address ↦ Clients ]
 
 -- a connection that begins with these bytes is a peer's: where both are taken, by the letters of a
 -- frame that asks or brings

@@ -17,7 +17,7 @@ use Rattle.conversation.specs.declared.logins.RefusedLogin.{RefusedLogin}
 
 -- the last refused logins that are kept, where the next one is kept, and whether the answer that
 -- was made last waits
-pub record LoginsState : Type 0 where
+pub record RefusedLogins : Type 0 where
   pub refusals : List (Option RefusedLogin)
   pub next : ℕ
   pub is_held : Bool
@@ -46,40 +46,40 @@ counts_for host now given = elim given [
 ]
 
 -- how many logins were refused of those who are there, in the minute before this time
-abbrev pub refusals_of : Option IpAddr → (now : ℕ) → LoginsState → ℕ
+abbrev pub refusals_of : Option IpAddr → (now : ℕ) → RefusedLogins → ℕ
 refusals_of host now logins = length (filter (counts_for host now) logins.refusals)
 
 -- nothing was refused yet; of so many refusals is known at most
-abbrev pub no_logins : (most : ℕ) → LoginsState
-no_logins most = record { refusals = replicate most None; next = 0; is_held = false }
+abbrev pub no_refusals : (most : ℕ) → RefusedLogins
+no_refusals most = record { refusals = replicate most None; next = 0; is_held = false }
 
 -- one more was refused, which is kept in place of the one that is longest ago
-abbrev pub with_refusal : Option IpAddr → (now : ℕ) → LoginsState → LoginsState
+abbrev pub with_refusal : Option IpAddr → (now : ℕ) → RefusedLogins → RefusedLogins
 with_refusal host now logins = record logins {
   refusals = set logins.refusals logins.next (Some (record { host = host; at = now }));
   next = if nat_lt (logins.next + 1) (length logins.refusals) then logins.next + 1 else 0;
 }
 
 -- so many logins from this address were refused that the next ones wait
-abbrev pub is_full : (limit : Option ℕ) → Option IpAddr → (now : ℕ) → LoginsState → Bool
+abbrev pub is_full : (limit : Option ℕ) → Option IpAddr → (now : ℕ) → RefusedLogins → Bool
 is_full limit host now logins =
     option_map_or (λ most. nat_le most (refusals_of host now logins)) limit false
 
 -- somebody asked to be let in, and was or wasn't: the answer waits where as many were refused
 -- before it as the settings allow
 abbrev pub after_login : (limit : Option ℕ) → Option IpAddr → (now : ℕ) → (refused : Bool)
-    → LoginsState → LoginsState
+    → RefusedLogins → RefusedLogins
 after_login limit host now refused logins =
     let kept = if refused then with_refusal host now logins else logins in
     record kept { is_held = is_full limit host now logins }
 
 -- an answer was made to something else, which doesn't wait
-abbrev pub unheld : LoginsState → LoginsState
+abbrev pub unheld : RefusedLogins → RefusedLogins
 unheld logins = record logins { is_held = false }
 
 -- a client was answered, and this is what a log is told of it
-abbrev pub after_audit : (limit : Option ℕ) → Stay → (now : ℕ) → Option AuditEvent → LoginsState
-    → LoginsState
+abbrev pub after_audit : (limit : Option ℕ) → Stay → (now : ℕ) → Option AuditEvent → RefusedLogins
+    → RefusedLogins
 after_audit limit stay now (Some (Activation name refused)) logins =
     after_login limit (host_of stay) now (is_some refused) logins
 after_audit limit stay now event logins = unheld logins
@@ -91,11 +91,11 @@ is_denied step = elim step [ Ok Denied ↦ true | _ ↦ false ]
 -- a browser was answered: the first answer of its connection, which is the one to its request, is
 -- that to a login
 abbrev pub after_step : (limit : Option ℕ) → Stay → (now : ℕ) → Result WebStep AllocError
-    → LoginsState → LoginsState
+    → RefusedLogins → RefusedLogins
 after_step limit stay now step logins =
     if stay.answered == 0 then after_login limit (host_of stay) now (is_denied step) logins
     else unheld logins
 
 -- so many milliseconds the answer waits that was made last
-abbrev pub delay_of : LoginsState → ℕ
+abbrev pub delay_of : RefusedLogins → ℕ
 delay_of logins = if logins.is_held then 1000 else 0

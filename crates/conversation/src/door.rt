@@ -1,7 +1,7 @@
 //! Who is taken on a connection.
 
 ghost use Rattle.std.specs.Prelude.{◌≡◌};
-ghost use Rattle.conversation.specs.Doors.{door_of_listener, door_of, listener_of, is_peers, is_stranger};
+ghost use Rattle.conversation.specs.Doors.{door_of_listener, clients_door, listener_of, is_peers, is_stranger};
 
 use crate::networks::{Network, is_taken};
 use multiplex::Origin;
@@ -48,7 +48,7 @@ impl Door {
 
     /// That of the address where clients come to: clients alone, where peers have an address of their own.
     pub fn of_settings(settings: &Settings) -> Door
-        ensures { result ≡ door_of settings.now }
+        ensures { result ≡ clients_door settings.now }
     {
         if settings.door().is_some() {
             Door::Clients

@@ -35,9 +35,9 @@ pub struct Logins {
 }
 
 impl Model for Logins {
-    ghost use Rattle.conversation.specs.Logins.{LoginsState};
+    ghost use Rattle.conversation.specs.Logins.{RefusedLogins};
 
-    ghost Value = { LoginsState };
+    ghost Value = { RefusedLogins };
 
     ghost view = { λ l. record {
       refusals = l.refusals.items;
@@ -97,11 +97,11 @@ pub(crate) fn is_denied(step: Result<WebStep, AllocError>) -> bool
 impl Logins {
     ghost use Rattle.std.specs.Prelude.{◌≡◌, IfOk};
     ghost use Rattle.std.specs.Option.{option_copied};
-    ghost use Rattle.conversation.specs.Logins.{no_logins, refusals_of, with_refusal, is_full, after_login, after_audit, after_step, unheld, delay_of};
+    ghost use Rattle.conversation.specs.Logins.{no_refusals, refusals_of, with_refusal, is_full, after_login, after_audit, after_step, unheld, delay_of};
 
     /// Nothing was refused yet, and no refusal is kept. It takes no memory.
     pub fn none(alloc: Global) -> Logins
-        ensures { result ≡ no_logins 0 }
+        ensures { result ≡ no_refusals 0 }
     {
         Logins {
             refusals: Vec::new(alloc),
@@ -112,7 +112,7 @@ impl Logins {
 
     /// Nothing was refused yet; of so many refusals is known at most. The one error is want of memory.
     pub fn new(alloc: Global, most: usize) -> Result<Logins, AllocError>
-        ensures { IfOk result (λ logins. logins ≡ no_logins most) }
+        ensures { IfOk result (λ logins. logins ≡ no_refusals most) }
     {
         let mut refusals = Vec::new(alloc);
         for _ in 0..most {

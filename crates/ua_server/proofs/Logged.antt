@@ -8,7 +8,7 @@ use Rattle.event_lines.specs.Lines.{update_text}
 use Rattle.ua_server.specs.declared.log.ErrorLog.{ErrorLog}
 use Rattle.ua_server.specs.declared.recent.Recent.{Recent}
 use Rattle.ua_server.specs.Telling.{Known, Readings, LogsLine, told_line}
-use Rattle.ua_server.specs.Logging.{IsToldAs, LogsTimed, LogsRare, LogsLimited, LogsUpdates, LogsWhere, Whether, is_second_full, with_left_out, with_told}
+use Rattle.ua_server.specs.Logging.{IsToldAs, LogsTimed, LogsCounted, LogsLimited, LogsUpdates, LogsWhere, Whether, is_second_full, with_left_out, with_told}
 
 -- it was written, by the time that the clock gave
 pub timed : {E C : Type 0} (contents : Known E) (gave : Readings C) (event : List ℕ)
@@ -36,13 +36,13 @@ left-out {E} {C} contents gave event old new clock at gives spent is =
 pub told-rarely : {E C : Type 0} (contents : Known E) (gave : Readings C) (event : List ℕ)
     (old new : ErrorLog E C) (clock : C) (at : ℤ) → gave old.clock (at ∷ []) clock
     → is_second_full old.recent at ≡ false
-    → LogsRare contents event at (record old { clock = clock }) new
+    → LogsCounted contents event at (record old { clock = clock }) new
     → LogsLimited contents gave event old new
 told-rarely {E} {C} contents gave event old new clock at gives spent rare =
     let same : clock ≡ new.clock = ap (λ (n : ErrorLog E C). n.clock) (sym rare.2) in (
       at,
       subst (λ (c : C). gave old.clock (at ∷ []) c) same gives,
-      rw spent (subst (λ (c : C). LogsRare contents event at (record old { clock = c }) new) same rare),
+      rw spent (subst (λ (c : C). LogsCounted contents event at (record old { clock = c }) new) same rare),
     )
 
 -- it was written as what anybody may bring about
@@ -51,9 +51,9 @@ pub rare : {E C : Type 0} (contents : Known E) (event : List ℕ) (old middle ne
     → (text : List ℕ) × IsToldAs old.recent.left_out event at text
     × LogsLine contents old.errors middle.errors (told_line text)
     → middle ≡ record old { errors = middle.errors } → new ≡ record middle { recent = recent }
-    → recent ≡ with_told middle.recent at → LogsRare contents event at old new
+    → recent ≡ with_told middle.recent at → LogsCounted contents event at old new
 rare {E} {C} contents event old middle new recent at (text, told, line) same is counts =
-    subst (λ (n : ErrorLog E C). LogsRare contents event at old n)
+    subst (λ (n : ErrorLog E C). LogsCounted contents event at old n)
     (sym (is ∙ ap (λ (r : Recent). let m : ErrorLog E C = record middle { recent = r } in m) counts
     ∙ ap (λ (m : ErrorLog E C). let n : ErrorLog E C =
     record m { recent = with_told m.recent at } in n) same))

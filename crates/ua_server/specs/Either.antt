@@ -3,7 +3,7 @@ use Rattle.std.specs.Prelude.{◌≡◌, ℕ, ◌<◌, ◌≤◌, true, false, L
 use Rattle.std.specs.Result.{result_map_both}
 use Rattle.std.specs.Io.KnownBytes.{Consumes, IsAtEnd}
 use Rattle.archive.specs.Store.{Store, KeepsContent, CountsFaults}
-use Rattle.conversation.specs.Doors.{door_of, is_peers}
+use Rattle.conversation.specs.Doors.{clients_door, is_peers}
 use Rattle.ua_settings.specs.Settings.{SettingsValues}
 use Rattle.counted_io.specs.declared.fault.ServeFault.{ServeFault}
 use Rattle.counted_io.specs.declared.fault.ServeFault.TheVariants.{Read}
@@ -73,9 +73,9 @@ ServesClient settings old new first unread left before after used ending =
 abbrev pub GoesAs : SettingsValues → (old new : Store) → List ℕ
     → (unread left before after : Option (List ℕ)) → Environment → ConnectionEnding → Type 0
 GoesAs settings old new first unread left before after used ending =
-    ((is_peers (door_of settings) first ≡ true)
+    ((is_peers (clients_door settings) first ≡ true)
     × ServesPeer old new first unread left before after used ending)
-    ⊎ ((is_peers (door_of settings) first ≡ false)
+    ⊎ ((is_peers (clients_door settings) first ≡ false)
     × ServesClient settings old new first unread left before after used ending)
 
 -- A connection broke off; or three bytes were read, or all where there are fewer, and it went as

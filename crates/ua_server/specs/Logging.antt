@@ -172,9 +172,9 @@ LogsTimed contents gave event old new =
 
 -- a line was written of an event that anybody may bring about, at this time, behind how many such
 -- weren't told
-abbrev pub LogsRare : {E C : Type 0} → Known E → (event : List ℕ) → (at : ℤ)
+abbrev pub LogsCounted : {E C : Type 0} → Known E → (event : List ℕ) → (at : ℤ)
     → (old new : ErrorLog E C) → Type 0
-LogsRare contents event at old new = (text : List ℕ) × IsToldAs old.recent.left_out event at text
+LogsCounted contents event at old new = (text : List ℕ) × IsToldAs old.recent.left_out event at text
     × (new ≡ record old { errors = new.errors; recent = with_told old.recent at })
     × LogsLine contents old.errors new.errors (told_line text)
 
@@ -184,7 +184,7 @@ abbrev pub LogsLimited : {E C : Type 0} → Known E → Readings C → (event : 
 LogsLimited contents gave event old new =
     (at : ℤ) × gave old.clock (at ∷ []) new.clock × elim (is_second_full old.recent at) [
       | true ↦ new ≡ record old { clock = new.clock; recent = with_left_out old.recent }
-      | false ↦ LogsRare contents event at (record old { clock = new.clock }) new
+      | false ↦ LogsCounted contents event at (record old { clock = new.clock }) new
     ]
 
 -- the lines of the details of an update were written, one after the other

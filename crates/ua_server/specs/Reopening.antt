@@ -76,16 +76,16 @@ abbrev pub Stage : KnownMachine → (C E : Type 0) → Type 0
 Stage known C E = record { host : known.Host; loop : ServingLoop known C E }
 
 -- the archive of a stage, and its machine
-abbrev pub kept_at : {C E : Type 0} → (known : KnownMachine) → Stage known C E
+abbrev pub keeping_of : {C E : Type 0} → (known : KnownMachine) → Stage known C E
     → Keeping known.Host known.Archive
-kept_at known stage =
+keeping_of known stage =
     record { host = stage.host; archive = stage.loop.world.server.replica.archive }
 
 -- between two turns the file of a broken store was opened anew, or refused, and that was told; each
 -- connection, and all else that a server knows, stays
 pub record Reopens {C E : Type 0} (known : KnownMachine) (told : Known E) (file : StoreFile)
     (old new : Stage known C E) (result : Result (Unit {0}) StoreFault) : Type 0 where
-  pub tries : TriesAnew known file (kept_at known old) (kept_at known new) result
+  pub tries : TriesAnew known file (keeping_of known old) (keeping_of known new) result
   pub tells : LogsReopening told result old.loop.world.log new.loop.world.log
   pub others : new.loop ≡ record old.loop {
     world = with_archive old.loop.world new.loop.world.server.replica.archive

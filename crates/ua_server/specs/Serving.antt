@@ -4,7 +4,7 @@ use Rattle.archive.specs.declared.fault.StoreFault.{StoreFault}
 use Rattle.multiplex.specs.declared.limits.Limits.{Limits}
 use Rattle.multiplex.specs.Serving.{AreAllFree, HasServed}
 use Rattle.conversation.specs.Closing.{TellsTurn}
-use Rattle.conversation.specs.Logins.{no_logins}
+use Rattle.conversation.specs.Logins.{no_refusals}
 use Rattle.ua_settings.specs.Settings.{SettingsValues}
 use Rattle.web_page.specs.Calls.{uncalled}
 use Rattle.ua_server.specs.declared.program.ProgramFault.{ProgramFault}
@@ -89,7 +89,7 @@ module _ {C E : Type 0} (known : KnownMachine) (gave : Readings C) (told : Known
     pub from : first.source ≡ source
     pub starts : LogsStart told gave settings records
         (fresh_log first.world.server.alloc settings.events old.clock old.errors) first.world.log
-    pub logins : first.world.logins ≡ no_logins (refusals_kept settings.logins)
+    pub logins : first.world.logins ≡ no_refusals (refusals_kept settings.logins)
     pub calls : first.world.calls ≡ map uncalled settings.peers
     pub connections : first.world.connections ≡ 0
     pub restoring : first.world.restoring ≡ false

@@ -194,8 +194,8 @@ failed_text missed =
     codes "connection ended (1), and " ++ (decimal missed ++ codes " before it")
 
 -- the line that tells that a connection failed before it could be used
-abbrev pub failed_lines : ℕ → List ℕ
-failed_lines missed =
+abbrev pub failed_line : ℕ → List ℕ
+failed_line missed =
     told_line (if missed == 0 then codes "connection ended (1)" else failed_text missed)
 
 -- a connection failed before it could be used: it was counted, where that was told less than a
@@ -205,7 +205,7 @@ LogsFailed contents old now new =
     ((is_quiet old now ≡ true) × (new ≡ record old { missed = counted old.missed }))
     ⊎ ((is_quiet old now ≡ false)
     × (new ≡ record old { errors = new.errors; told_at = Some now; missed = 0 })
-    × LogsLine contents old.errors new.errors (failed_lines old.missed))
+    × LogsLine contents old.errors new.errors (failed_line old.missed))
 
 -- what the program calls the fault of a dialog with a peer that it called
 abbrev pub sync_fault : SyncFault → ProgramFault

@@ -6,7 +6,7 @@ ghost use Rattle.counted_io.specs.declared.fault.ServeFault.TheVariants.{OutOfMe
 ghost use Rattle.multiplex.specs.Serving.{AreAllFree};
 ghost use Rattle.ua_server.specs.Telling.{fresh_log};
 ghost use Rattle.ua_server.specs.Network.{limits_of, refusals_kept, serving_of, IsServingFault};
-ghost use Rattle.conversation.specs.Logins.{no_logins};
+ghost use Rattle.conversation.specs.Logins.{no_refusals};
 ghost use Rattle.web_page.specs.Calls.{uncalled};
 ghost use Rattle.ua_server.specs.Host.{known_machine};
 ghost use Rattle.ua_server.specs.Program.{Listens};
@@ -111,7 +111,7 @@ fn listen_at<H: Host>(
 
 /// What is known of refused logins, where the settings limit them; nothing was refused yet.
 fn logins_of(alloc: Global, settings: &Settings) -> Result<Logins, AllocError>
-    ensures { IfOk result (λ logins. logins ≡ no_logins (refusals_kept settings.now.logins)) }
+    ensures { IfOk result (λ logins. logins ≡ no_refusals (refusals_kept settings.now.logins)) }
 {
     match settings.logins() {
         None => Ok(Logins::none(alloc)),

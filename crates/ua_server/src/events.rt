@@ -217,7 +217,7 @@ impl<E: Write, C: Clock> ErrorLog<E, C> {
     ghost use Rattle.event_lines.specs.Lines.{IsEventLine, connected_text, login_text, denial_text, update_text, call_text};
     ghost use Rattle.conversation.specs.Doors.{door_of_listener};
     ghost use Rattle.ua_server.specs.Telling.{LogsLine, told_line};
-    ghost use Rattle.ua_server.specs.Logging.{IsToldAs, behind_left_out, starved_text, LogsTimed, LogsRare, LogsLimited, LogsUpdates, LogsActivation, LogsAudited, LogsEnd, is_second_full, with_left_out, door_text, address_of, parting_text, call_reason, moved_of};
+    ghost use Rattle.ua_server.specs.Logging.{IsToldAs, behind_left_out, starved_text, LogsTimed, LogsCounted, LogsLimited, LogsUpdates, LogsActivation, LogsAudited, LogsEnd, is_second_full, with_left_out, door_text, address_of, parting_text, call_reason, moved_of};
 
     /// Writes a line behind how many weren't told, or that memory for it is wanting.
     fn tell_behind(&mut self, left_out: u64, line: &[u8])
@@ -268,7 +268,7 @@ impl<E: Write, C: Clock> ErrorLog<E, C> {
     /// Writes the line of an event that anybody may bring about.
     fn tell_rare(&mut self, at: i64, line: Result<Vec<u8>, AllocError>)
         ensures { (event : List ℕ) → IfOk line (λ line. IsEventLine at event line.items)
-            → LogsRare E.contents event at self.old self.new }
+            → LogsCounted E.contents event at self.old self.new }
     {
         self.tell_line(self.recent.left_out, line);
         self.recent = self.recent.with_told(at);

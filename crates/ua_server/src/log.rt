@@ -4,7 +4,7 @@ ghost use Rattle.std.specs.Prelude.{◌≡◌, OnOk, OnErr};
 ghost use Rattle.std.specs.Fmt.InlineText.{inline_text};
 ghost use Rattle.std.specs.Io.KnownBytes.{Appends};
 ghost use Rattle.counted_io.specs.Bytes.{counted, AppendsPart};
-ghost use Rattle.ua_server.specs.Telling.{failed_lines, failed_text, turn_text, fault_text, sync_fault, outcome_text, behind_peer, behind_name, call_lines};
+ghost use Rattle.ua_server.specs.Telling.{failed_line, failed_text, turn_text, fault_text, sync_fault, outcome_text, behind_peer, behind_name, call_lines};
 
 use crate::program::{ProgramFault, numbered, report, tell};
 use crate::recent::Recent;
@@ -191,11 +191,11 @@ impl<E: Write, C: Clock> Log for ErrorLog<E, C> {
 fn tell_failed<W: Write>(missed: u64, errors: &mut Counted<W>) -> Result<(), ServeFault>
     ensures ok { OnOk result
         (Appends (W.contents errors.old.inner) (W.contents errors.new.inner)
-        (failed_lines missed)) }
+        (failed_line missed)) }
     ensures kept { OnOk result (errors.new.faults ≡ errors.old.faults) }
     ensures part { OnErr result
         (AppendsPart (W.contents errors.old.inner) (W.contents errors.new.inner)
-        (failed_lines missed)) }
+        (failed_line missed)) }
     ensures write { OnErr result (errors.new.faults ≡ counted errors.old.faults) }
 {
     if missed == 0 {

@@ -2,7 +2,7 @@ use Rattle.std.proofs.Common.{◌≡◌, ◌∙◌, Err, take, ap, sym, inl, inr
 use Rattle.counted_io.specs.declared.fault.ServeFault.TheVariants.{Read}
 use Rattle.ua_server.specs.Either.{ConnectionEnding}
 use Rattle.conversation.specs.declared.door.Door.{Door}
-use Rattle.conversation.specs.Doors.{door_of, is_peers}
+use Rattle.conversation.specs.Doors.{clients_door, is_peers}
 use Rattle.ua_connection.proofs.Outsides.{empty_environment}
 use Rattle.ua_server.proofs.Firsts.{are-first, breaks-off, goes-as-peer, goes-as-client}
 use Rattle.ua_server.proofs.either.serve.Goals as goal
@@ -43,7 +43,7 @@ returns-then-is_peers-clause-serves g c =
             (state c.serve_a_peer.new.replica.archive) first (left c.read_first.new.reader.inner)
             (left c.serve_a_peer.new.reader.inner)
             (contents c.args.writer.now.inner) (contents c.serve_a_peer.new.writer.inner)
-            (is_peers (door_of c.args.server.now.settings) first) c.serve_a_peer.result
+            (is_peers (clients_door c.args.server.now.settings) first) c.serve_a_peer.result
             (sym at_door ∙ sym c.is_peers.ensures ∙ c.if-is_peers.true)
             c.serve_a_peer.ensures.meets,
       ),
@@ -73,7 +73,7 @@ returns-else-is_peers-clause-serves g c =
             (state c.serve_client.new.server.replica.archive) first
             (left c.read_first.new.reader.inner) (left c.serve_client.new.reader.inner)
             (contents c.args.writer.now.inner) (contents c.serve_client.new.writer.inner) served.0
-            (is_peers (door_of c.args.server.now.settings) first) c.serve_client.result
+            (is_peers (clients_door c.args.server.now.settings) first) c.serve_client.result
             (sym at_door ∙ sym c.is_peers.ensures ∙ c.if-is_peers.false)
             (served.2, served.3, served.4),
       ),

@@ -4,7 +4,7 @@ use Rattle.std.specs.Int.RustNames.{FitsSigned}
 use Rattle.std.proofs.lemmas.Int.{ints, to_z-of_z}
 use Rattle.std.specs.declared.net.socket_addr.SocketAddr.{SocketAddr}
 use Rattle.event_lines.specs.Lines.{IsEventLine, denial_text}
-use Rattle.ua_server.specs.Logging.{LogsRare, is_second_full, address_of}
+use Rattle.ua_server.specs.Logging.{LogsCounted, is_second_full, address_of}
 use Rattle.ua_server.proofs.Logged.{told-rarely}
 use Rattle.ua_server.proofs.log.ErrorLog.log_denied.Goals as goal
 
@@ -23,6 +23,6 @@ returns g c =
     sym (rw same at c.leaves_out.ensures.told) ∙ c.if-leaves_out.false in
     told-rarely contents g.C.Clock.gave event c.args.self.now c.tell_rare.new.self c.now-at.new.self
     at c.now-at.ensures spent
-    (subst (λ s. LogsRare contents event at s c.tell_rare.new.self)
+    (subst (λ s. LogsCounted contents event at s c.tell_rare.new.self)
     (c.leaves_out.ensures.same c.if-leaves_out.false)
     ((rw same at c.tell_rare.ensures) event made))

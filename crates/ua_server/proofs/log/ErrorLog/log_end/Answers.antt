@@ -1,7 +1,7 @@
 use Rattle.std.proofs.Common.{◌≡◌, ◌∙◌, Bool, true, false, sym, subst, arith, w64}
 use Rattle.std.specs.Int.RustNames.{FitsSigned}
 use Rattle.std.proofs.lemmas.Int.{ints, to_z-of_z}
-use Rattle.ua_server.specs.Logging.{LogsRare, LogsTimed, LogsLimited, Whether, is_second_full, is_still, parting_text}
+use Rattle.ua_server.specs.Logging.{LogsCounted, LogsTimed, LogsLimited, Whether, is_second_full, is_still, parting_text}
 use Rattle.ua_server.proofs.Logged.{timed, told-rarely}
 use Rattle.ua_server.proofs.log.ErrorLog.log_end.Goals as goal
 
@@ -36,6 +36,6 @@ returns g c =
     (LogsTimed contents g.C.Clock.gave event c.args.self.now new)) (sym still)
     (told-rarely contents g.C.Clock.gave event c.args.self.now new c.now-at.new.self
     at c.now-at.ensures spent
-    (subst (λ s. LogsRare contents event at s new)
+    (subst (λ s. LogsCounted contents event at s new)
     (c.leaves_out.ensures.same c.if-leaves_out.false)
     ((rw same at c.tell_rare.ensures) event (rw same at c.parting_line-line-2.ensures))))

@@ -2,7 +2,7 @@ use Rattle.std.proofs.Common.{◌≡◌, ◌∙◌, false, Some, sym, subst, ari
 use Rattle.std.specs.Int.RustNames.{FitsSigned}
 use Rattle.std.proofs.lemmas.Int.{ints, to_z-of_z}
 use Rattle.event_lines.specs.Lines.{login_text}
-use Rattle.ua_server.specs.Logging.{LogsRare, is_second_full}
+use Rattle.ua_server.specs.Logging.{LogsCounted, is_second_full}
 use Rattle.ua_server.proofs.Logged.{told-rarely}
 use Rattle.ua_server.proofs.log.ErrorLog.log_refusal.Goals as goal
 
@@ -17,6 +17,6 @@ returns g c =
     sym (rw same at c.leaves_out.ensures.told) ∙ c.if-leaves_out.false in
     told-rarely contents g.C.Clock.gave event c.args.self.now c.tell_rare.new.self c.now-at.new.self
     at c.now-at.ensures spent
-    (subst (λ s. LogsRare contents event at s c.tell_rare.new.self)
+    (subst (λ s. LogsCounted contents event at s c.tell_rare.new.self)
     (c.leaves_out.ensures.same c.if-leaves_out.false)
     ((rw same at c.tell_rare.ensures) event (rw same at c.login_line-line.ensures)))
