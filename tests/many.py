@@ -2,10 +2,12 @@
 """Runs the built program as a server of many connections at once, with clients and peers of its own.
 
     tests/many.py PROGRAM [--long] [CHECK ..]
+    tests/many.py PROGRAM they_last [--minutes N]
 
 Clients that poll, update, stop in the midst of a message, read nothing or say nothing, and `sync`s of other replicas, all at once; servers
 that call each other by themselves and are killed meanwhile; many idle connections. Each check prints a line with what was measured, the
 first that fails ends the script by an error; all are run where none is named. With --long each goes on longer: two and a half minutes of polls, twenty kills.
+`they_last` is run only where it is named, for N minutes, an hour without it.
 """
 import multiprocessing, os, random, re, select, socket, subprocess, sys, tempfile, threading, time
 import usage
@@ -18,6 +20,7 @@ from network_line import Line, status
 here = os.path.dirname(os.path.abspath(__file__))
 program = os.path.abspath(sys.argv[1])
 long = "--long" in sys.argv
+minutes = float(sys.argv[sys.argv.index("--minutes") + 1]) if "--minutes" in sys.argv else 60
 folder = tempfile.mkdtemp()
 T = node("T", 1)
 
@@ -56,6 +59,9 @@ class Server:
         stat = open(f"/proc/{self.process.pid}/stat").read().rsplit(")", 1)[1].split()
         memory = next(l for l in open(f"/proc/{self.process.pid}/status") if l.startswith("VmRSS"))
         return (int(stat[11]) + int(stat[12])) / os.sysconf("SC_CLK_TCK"), int(memory.split()[1])
+
+    def descriptors(self):
+        return len(os.listdir(f"/proc/{self.process.pid}/fd"))
 
 
 def timed(ask):
@@ -227,6 +233,41 @@ def they_call_each_other():
     return f"{good} values were answered Good at two machines, {records} records are at both; {20 if long else 5} kills"
 
 
+def they_last():
+    """Two that call each other each second, with clients at both that poll, update, come and go: memory and descriptors stay."""
+    a, b = Server(1), Server(2)
+    a.peers, b.peers = [b], [a]
+    a.start(), b.start()
+    chance, good, guests, times, seen = random.Random(1), 0, 0, [], []
+    lines = [Line(server.port).begin() for server in (a, b) for _ in range(8)]
+    begin = time.monotonic()
+    while time.monotonic() < begin + 60 * minutes:
+        for line in lines:
+            polls(line, times)
+            if chance.random() < 0.1:
+                good += 1
+                updates(line, good, 10 + chance.randrange(1000))
+        for server in (a, b):
+            guest, guests = Line(server.port).begin(), guests + 1
+            guest.ask(guest.client.read([(T, 13)]))
+            guest.reset() if chance.random() < 0.02 else guest.socket.close()
+        time.sleep(0.3)
+        if time.monotonic() > begin + 60 * len(seen) + 30:
+            seen.append([(server.used()[1], server.descriptors()) for server in (a, b)])
+            print(f"  {len(seen)} min: {seen[-1]} kB and descriptors, {good} updates, {guests} guests, the longest of {len(times)} polls {1000 * max(times):.0f} ms", flush=True)
+    time.sleep(5)
+    told = a.stop() + b.stop()
+    records = a.dump().count(b"\n")
+    assert a.dump() == b.dump() and records == good, (records, good)
+    others = [line for line in told.splitlines() if not re.match(r"uahist: (connection ended \(1\)|peer )", line)]
+    assert not others, others[:5]
+    early, late = seen[len(seen) // 10], seen[-1]
+    for (kilobytes, _), (later, _) in zip(early, late):
+        assert later < 1.25 * kilobytes + 8_000, (early, late)
+    assert all(abs(one[1] - other[1]) <= 4 for one, other in zip(early, late)), (early, late)
+    return f"{minutes:.0f} minutes, {good} updates and {guests} guests at two machines, {records} records at both; {early} kB and descriptors, {late} at the end"
+
+
 def a_chain():
     """Three in a chain, of which each calls the next one: what came at one end is at the other."""
     c = Server(3)
@@ -299,8 +340,8 @@ def few_descriptors():
 
 
 checks = [a_poll_beside_others, bad_company, a_full_house, idle, they_call_each_other, a_chain, an_absent_peer, a_long_turn, few_descriptors]
-named = [word for word in sys.argv[2:] if word != "--long"]
-checks = [check for check in checks if not named or check.__name__ in named]
+named = [word for word in sys.argv[2:] if word.isidentifier()]
+checks = [check for check in checks + [they_last] if check.__name__ in named] if named else checks
 for check in checks:
     begin = time.monotonic()
     told = check()
