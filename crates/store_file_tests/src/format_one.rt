@@ -7,7 +7,7 @@ use archive::{Archive, Direction, StoreFault};
 use records::{Entry, Moment};
 use sqlite::Files;
 use sqlite_disk::Memory;
-use stamp::ReplicaNo;
+use stamp::{ReplicaNo, Vector};
 use std::alloc::Global;
 use std::test::Fail;
 use ua_binary::{NodeId, Text};
@@ -46,17 +46,21 @@ pub(crate) fn first_of_five(alloc: Global) -> Option<Files<Memory>> {
     changed(alloc, changed(alloc, Some(empty(alloc)), &TABLES), &FIVE)
 }
 
-/// The modifications at node T, in order, and how many values are live there.
-fn read_all<A: Archive>(alloc: Global, archive: &mut A) -> Result<(Vec<Entry>, usize), StoreFault> {
-    let node = NodeId::Named(1, Text::from_str(alloc, "T")?);
-    let within = archive.vector()?;
-    let (from, to) = (Moment::at(1), Moment::at(100));
-    let forward = Direction::Forward;
-    let lives = archive
-        .range(alloc, &node, from, to, forward, 10, &within)?
-        .len();
-    let entries = archive.log(alloc, &node, from, to, None, forward, 10, &within)?;
-    Ok((entries, lives))
+/// The moments from 1 to 100.
+fn span() -> (Moment, Moment) {
+    (Moment::at(1), Moment::at(100))
+}
+
+/// How many values are live at a node.
+fn lives<A: Archive>(
+    alloc: Global,
+    archive: &mut A,
+    node: &NodeId,
+    within: &Vector,
+) -> Result<usize, StoreFault> {
+    let (from, to) = span();
+    let held = archive.range(alloc, node, from, to, Direction::Forward, 10, within)?;
+    Ok(held.len())
 }
 
 /// Whether these modifications have these ticks.
@@ -67,10 +71,28 @@ fn have_ticks(entries: &[Entry], ticks: [i64; 2]) -> bool {
     }
 }
 
-/// Whether an archive holds the two, and no value is live.
+/// Whether the modifications at a node, in order, are those of the two.
+fn are_two<A: Archive>(
+    alloc: Global,
+    archive: &mut A,
+    node: &NodeId,
+    within: &Vector,
+) -> Result<bool, StoreFault> {
+    let (from, to) = span();
+    let entries = archive.log(alloc, node, from, to, None, Direction::Forward, 10, within)?;
+    Ok(have_ticks(entries.as_slice(), [101, 100]))
+}
+
+/// Whether a node has the modifications of the two, and no value is live there.
+fn shows_at<A: Archive>(alloc: Global, archive: &mut A, node: &NodeId) -> Result<bool, StoreFault> {
+    let within = archive.vector()?;
+    Ok(lives(alloc, archive, node, &within)? == 0 && are_two(alloc, archive, node, &within)?)
+}
+
+/// Whether an archive holds the two at node T, and no value is live.
 pub(crate) fn shows_two<A: Archive>(alloc: Global, archive: &mut A) -> bool {
-    match read_all(alloc, archive) {
-        Ok((entries, lives)) => lives == 0 && have_ticks(entries.as_slice(), [101, 100]),
+    match Text::from_str(alloc, "T") {
+        Ok(name) => shows_at(alloc, archive, &NodeId::Named(1, name)) == Ok(true),
         Err(_) => false,
     }
 }

@@ -2,10 +2,11 @@
 //! crashes, and what is left is opened again: it holds what was learned, or one record more.
 
 use crate::format_one::first_of_five;
-use crate::store_files::{FIVE, empty, learn_five, open_one};
+use crate::store_files::{Asked, FIVE, answered_in, ask, empty, open_one};
 use archive::Archive;
 use history_rows::archives::learn;
-use sqlite::Files;
+use sql_archive::SqlArchive;
+use sqlite::{FileStore, Files};
 use sqlite_disk::{Crash, Disk, Fuse, Memory};
 use std::alloc::Global;
 use std::test::Fail;
@@ -53,7 +54,7 @@ fn fuse(files: Files<Memory>, fused: Fused, calls: u64) -> Files<Fuse<Memory>> {
 }
 
 /// How many of the records are held: the first so many, to the last byte, where the others can then be learned.
-fn held<A: Archive>(alloc: Global, archive: &mut A) -> Option<usize> {
+pub(crate) fn held_whole<A: Archive>(alloc: Global, archive: &mut A) -> Option<usize> {
     let mut held: usize = 0;
     for (at, row) in FIVE.iter().enumerate() {
         match learn(alloc, archive, row) {
@@ -68,36 +69,44 @@ fn held<A: Archive>(alloc: Global, archive: &mut A) -> Option<usize> {
 /// How many records were learned, whether all went well, and the files.
 type Ran<D> = (usize, bool, Files<D>);
 
-/// Opens a store, learns the five records and closes it.
-fn learn_all<D: Disk + Drop>(alloc: Global, files: Files<D>) -> Ran<D> {
-    let mut archive = match open_one(alloc, files) {
-        Ok(archive) => archive,
-        Err((_, left)) => return (0, false, left),
-    };
-    let learned = learn_five(alloc, &mut archive);
+/// How many of the five records are learned of a store that isn't opened.
+fn learned_before(run: Run) -> usize {
+    match run {
+        Run::Learning => 0,
+        Run::Renewing => 5,
+    }
+}
+
+/// How many of them are once it is opened, which learns them where they aren't.
+fn learned_by<D: Disk + Drop>(
+    alloc: Global,
+    run: Run,
+    archive: &mut SqlArchive<FileStore<D>>,
+) -> usize {
+    match run {
+        Run::Learning => ask(alloc, archive, Asked::Learned).unwrap_or(0),
+        Run::Renewing => 5,
+    }
+}
+
+/// The same of an archive in files, which is closed then.
+fn closed<D: Disk + Drop>(
+    alloc: Global,
+    run: Run,
+    mut archive: SqlArchive<FileStore<D>>,
+) -> Ran<D> {
+    let learned = learned_by(alloc, run, &mut archive);
     match archive.close_files() {
         Ok(files) => (learned, learned == 5, files),
         Err(files) => (learned, false, files),
     }
 }
 
-/// Opens a store of the five records and closes it.
-fn open_and_close<D: Disk + Drop>(alloc: Global, files: Files<D>) -> Ran<D> {
-    let archive = match open_one(alloc, files) {
-        Ok(archive) => archive,
-        Err((_, left)) => return (5, false, left),
-    };
-    match archive.close_files() {
-        Ok(files) => (5, true, files),
-        Err(files) => (5, false, files),
-    }
-}
-
-/// A run in these files.
+/// A run in these files: they are opened, and closed.
 fn ran<D: Disk + Drop>(alloc: Global, run: Run, files: Files<D>) -> Ran<D> {
-    match run {
-        Run::Learning => learn_all(alloc, files),
-        Run::Renewing => open_and_close(alloc, files),
+    match open_one(alloc, files) {
+        Ok(archive) => closed(alloc, run, archive),
+        Err((_, left)) => (learned_before(run), false, left),
     }
 }
 
@@ -109,17 +118,11 @@ fn before(alloc: Global, run: Run) -> Option<Files<Memory>> {
     }
 }
 
-/// How many records are held in these files.
-fn held_in<D: Disk + Drop>(alloc: Global, files: Files<D>) -> Option<usize> {
-    let mut archive = open_one(alloc, files).ok()?;
-    held(alloc, &mut archive)
-}
-
 /// How many records are found once the machine crashed.
 fn found_behind_a_crash(alloc: Global, mut files: Files<Fuse<Memory>>) -> Option<usize> {
     files.log.crash();
     files.db.crash();
-    held_in(alloc, files)
+    answered_in(alloc, files, Asked::HeldWhole)
 }
 
 fn left_by(learned: usize, ended: bool, found: Option<usize>) -> Left {

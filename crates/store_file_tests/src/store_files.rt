@@ -1,11 +1,12 @@
 //! Archives in files: found again, and refused. What a crash leaves `stops` tells.
 
 use crate::format_one::shows_two;
+use crate::stops::held_whole;
 use HistoryUpdateType::{Delete, Insert, Update};
 use archive::{Archive, StoreFault};
 use history_rows::archives::{Row, learn};
 use history_rows::updates::operates_all;
-use records::HistoryUpdateType;
+use records::{HistoryUpdateType, Record};
 use sql_archive::{FileArchive, SqlArchive};
 use sqlite::{Connection, FileStore, Files, Options, Row as SqlRow};
 use sqlite_disk::{Disk, Memory};
@@ -68,9 +69,8 @@ pub(crate) fn learn_five<A: Archive>(alloc: Global, archive: &mut A) -> usize {
     FIVE.len()
 }
 
-/// How many records are held, where they are the first of the updates.
-pub(crate) fn held<A: Archive>(alloc: Global, archive: &mut A) -> Option<usize> {
-    let all = archive.since(alloc, &Vector::new(), 100).ok()?;
+/// How many records these are, where they are the first of the updates.
+fn counted(all: &[Record]) -> Option<usize> {
     for (record, row) in all.iter().zip(&FIVE) {
         if record.number != row.1 || record.tick != row.2 {
             return None;
@@ -80,6 +80,14 @@ pub(crate) fn held<A: Archive>(alloc: Global, archive: &mut A) -> Option<usize> 
         Some(all.len())
     } else {
         None
+    }
+}
+
+/// How many records are held, where they are the first of the updates.
+pub(crate) fn held<A: Archive>(alloc: Global, archive: &mut A) -> Option<usize> {
+    match archive.since(alloc, &Vector::new(), 100) {
+        Ok(all) => counted(all.as_slice()),
+        Err(_) => None,
     }
 }
 
@@ -98,6 +106,8 @@ pub(crate) enum Deed {
     Operations,
     /// It holds the five records, and learns one more.
     OneMore,
+    /// It holds so many records of replica 1.
+    Numbers(u64),
     /// It holds so many of the updates.
     Holds(usize),
     /// The ticks of its modifications at node T are 101 and 100, and no value is live there.
@@ -122,9 +132,63 @@ fn is_done<A: Archive>(alloc: Global, archive: &mut A, deed: Deed) -> bool {
         Deed::Five => held(alloc, archive) == Some(0) && learn_five(alloc, archive) == 5,
         Deed::Operations => operates_all(alloc, archive) == Ok(true),
         Deed::OneMore => goes_on(alloc, archive) == Ok(true),
+        Deed::Numbers(count) => last_number(archive) == Ok(count),
         Deed::Holds(count) => held(alloc, archive) == Some(count),
         Deed::ShowsTwo => shows_two(alloc, archive),
     }
+}
+
+/// What an archive is asked: a number of records.
+#[derive(Clone, Copy)]
+pub(crate) enum Asked {
+    /// None, where this is done.
+    Done(Deed),
+    /// How many it holds, where they are the first of the updates.
+    Held,
+    /// How many it holds to the last byte, where the other updates can then be learned.
+    HeldWhole,
+    /// How many of the updates it learns.
+    Learned,
+}
+
+/// What an archive answers.
+fn answer<A: Archive>(alloc: Global, archive: &mut A, asked: Asked) -> Option<usize> {
+    match asked {
+        Asked::Done(deed) => {
+            if is_done(alloc, archive, deed) {
+                Some(0)
+            } else {
+                None
+            }
+        }
+        Asked::Held => held(alloc, archive),
+        Asked::HeldWhole => held_whole(alloc, archive),
+        Asked::Learned => Some(learn_five(alloc, archive)),
+    }
+}
+
+/// What one in files does. Here alone its type stands for any archive's, which is dear to prove.
+pub(crate) fn ask<D: Disk + Drop>(
+    alloc: Global,
+    archive: &mut SqlArchive<FileStore<D>>,
+    asked: Asked,
+) -> Option<usize> {
+    answer(alloc, archive, asked)
+}
+
+/// Whether one in files does this.
+fn does<D: Disk + Drop>(alloc: Global, archive: &mut SqlArchive<FileStore<D>>, deed: Deed) -> bool {
+    ask(alloc, archive, Asked::Done(deed)).is_some()
+}
+
+/// What replica 1's archive in these files answers.
+pub(crate) fn answered_in<D: Disk + Drop>(
+    alloc: Global,
+    files: Files<D>,
+    asked: Asked,
+) -> Option<usize> {
+    let mut archive = open_one(alloc, files).ok()?;
+    ask(alloc, &mut archive, asked)
 }
 
 /// The files that replica 1's archive was opened in, did this, and was closed.
@@ -134,7 +198,7 @@ pub(crate) fn left_behind<D: Disk + Drop>(
     deed: Deed,
 ) -> Option<Files<D>> {
     let mut archive = open_one(alloc, files).ok()?;
-    if is_done(alloc, &mut archive, deed) {
+    if does(alloc, &mut archive, deed) {
         archive.close_files().ok()
     } else {
         None
@@ -144,7 +208,7 @@ pub(crate) fn left_behind<D: Disk + Drop>(
 /// The files of one that did this, as they are.
 fn left_unclosed<D: Disk + Drop>(alloc: Global, files: Files<D>, deed: Deed) -> Option<Files<D>> {
     let mut archive = open_one(alloc, files).ok()?;
-    if is_done(alloc, &mut archive, deed) {
+    if does(alloc, &mut archive, deed) {
         Some(archive.into_files())
     } else {
         None
@@ -171,12 +235,6 @@ fn filled(alloc: Global) -> Option<Files<Memory>> {
     files_behind(alloc, Deed::Five)
 }
 
-/// How many records replica 1's archive in these files holds.
-fn held_in<D: Disk + Drop>(alloc: Global, files: Files<D>) -> Option<usize> {
-    let mut archive = open_one(alloc, files).ok()?;
-    held(alloc, &mut archive)
-}
-
 /// By which fault an opening is refused, and the files.
 pub(crate) fn refusal<D: Disk + Drop>(
     alloc: Global,
@@ -184,9 +242,14 @@ pub(crate) fn refusal<D: Disk + Drop>(
     id: Uuid,
     number: ReplicaNo,
 ) -> Option<(StoreFault, Files<D>)> {
-    match open(alloc, files, id, number) {
-        Ok(_) => None,
-        Err(told) => Some(told),
+    open(alloc, files, id, number).err()
+}
+
+/// The fault of an opening that was refused.
+fn fault_of<F: Drop>(told: Option<(StoreFault, F)>) -> Option<StoreFault> {
+    match told {
+        Some((fault, _)) => Some(fault),
+        None => None,
     }
 }
 
@@ -205,26 +268,26 @@ fn goes_on<A: Archive>(alloc: Global, archive: &mut A) -> Result<bool, StoreFaul
     Ok(found && learn(alloc, archive, &(1, 6, 105, 30, Update, Some(2))) == Ok(true))
 }
 
-/// How many records of replica 1 are found in these files.
-fn numbered_in<D: Disk + Drop>(alloc: Global, files: Files<D>) -> Option<u64> {
-    let mut archive = open_one(alloc, files).ok()?;
-    last_number(&mut archive).ok()
+/// Whether so many records of replica 1 are found in these files, behind an archive that holds the five, learned one more and
+/// wasn't closed.
+fn are_found<D: Disk + Drop>(alloc: Global, files: Files<D>, count: u64) -> bool {
+    match left_unclosed(alloc, files, Deed::OneMore) {
+        Some(left) => answered_in(alloc, left, Asked::Done(Deed::Numbers(count))).is_some(),
+        None => false,
+    }
 }
 
-/// The same of files of the five records, behind an archive that learned one more and wasn't
-/// closed.
-fn numbered_behind_one_more<D: Disk + Drop>(alloc: Global, files: Files<D>) -> Option<u64> {
-    numbered_in(alloc, left_unclosed(alloc, files, Deed::OneMore)?)
-}
-
-/// How many records of replica 1 are found again behind the five and one more.
-fn found_again(alloc: Global) -> Option<u64> {
-    numbered_behind_one_more(alloc, filled(alloc)?)
+/// Whether the five and one more are found again.
+fn are_found_again(alloc: Global) -> bool {
+    match filled(alloc) {
+        Some(files) => are_found(alloc, files, 6),
+        None => false,
+    }
 }
 
 #[test]
 fn what_is_closed_is_found_again(rt: HostRuntime) {
-    assert!(rt; found_again(rt.alloc()) == Some(6));
+    assert!(rt; are_found_again(rt.alloc()));
 }
 
 /// The fault that opening files of the five records is refused by, and whether the archive itself
@@ -236,7 +299,7 @@ fn refused_in<D: Disk + Drop>(
     number: ReplicaNo,
 ) -> Option<(StoreFault, bool)> {
     let (fault, left) = refusal(alloc, files, id, number)?;
-    Some((fault, held_in(alloc, left) == Some(5)))
+    Some((fault, answered_in(alloc, left, Asked::Held) == Some(5)))
 }
 
 fn refused(alloc: Global, id: Uuid, number: ReplicaNo) -> Option<(StoreFault, bool)> {
@@ -283,10 +346,15 @@ fn connected<D: Disk + Drop>(alloc: Global, files: Files<D>) -> Option<Connectio
     }
 }
 
+/// Whether a statement is executed.
+fn is_executed<D: Disk + Drop>(conn: &mut Connection<FileStore<D>>, sql: &str) -> bool {
+    conn.execute(sql, &[]).is_ok()
+}
+
 /// Whether all statements are executed.
 fn are_executed<D: Disk + Drop>(conn: &mut Connection<FileStore<D>>, statements: &[&str]) -> bool {
     for sql in statements {
-        if conn.execute(sql, &[]).is_err() {
+        if !is_executed(conn, sql) {
             return false;
         }
     }
@@ -341,10 +409,7 @@ fn fault_in<D: Disk + Drop>(
     id: Uuid,
     number: ReplicaNo,
 ) -> Option<StoreFault> {
-    match open(alloc, files, id, number) {
-        Ok(_) => None,
-        Err((fault, _)) => Some(fault),
-    }
+    fault_of(refusal(alloc, files, id, number))
 }
 
 /// What opening files as this archive and replica is refused by after these statements.
@@ -508,13 +573,23 @@ static AGREEING: [&[&str]; 3] = [
     &[TIED_RECORD, TIED_NUMBER, "UPDATE currents2 SET origin = 2"],
 ];
 
+/// Whether replica 1's archive opens these files.
+fn is_opened<D: Disk + Drop>(alloc: Global, files: Files<D>) -> bool {
+    open_one(alloc, files).is_ok()
+}
+
+/// Whether it opens files after these statements.
+fn is_opened_after(alloc: Global, files: Option<Files<Memory>>, statements: &[&str]) -> bool {
+    match changed(alloc, files, statements) {
+        Some(files) => is_opened(alloc, files),
+        None => false,
+    }
+}
+
 /// Whether a store of three records is opened after each of some statements.
 fn are_opened(alloc: Global, changes: &[&[&str]]) -> bool {
     for statements in changes {
-        let Some(files) = changed(alloc, of_three(alloc), statements) else {
-            return false;
-        };
-        if open_one(alloc, files).is_err() {
+        if !is_opened_after(alloc, of_three(alloc), statements) {
             return false;
         }
     }
@@ -557,7 +632,7 @@ static BEHIND_META: [&[&str]; 4] = [
 
 /// Whether a store with other tables is told as another archive's first, then as another replica's.
 fn are_told_by_meta(alloc: Global, number: ReplicaNo) -> bool {
-    for statements in BEHIND_META {
+    for statements in &BEHIND_META {
         let archive = refused_as(alloc, unfilled(alloc), statements, Uuid::max(), number);
         let replica = refused_as(alloc, unfilled(alloc), statements, Uuid::nil(), number);
         if archive != Some(StoreFault::WrongArchive) || replica != Some(StoreFault::WrongReplica) {
@@ -658,19 +733,30 @@ fn current_values_and_last_numbers_stand_beside_the_records(rt: HostRuntime) -> 
     Ok(())
 }
 
-/// How many records the store at a path holds, and how many of the five updates are then learned.
-fn use_file(rt: &HostRuntime, path: &str) -> Result<(Option<usize>, usize), StoreFault> {
-    let mut archive = FileArchive::open(rt, path, Uuid::nil(), one()?)?;
-    let before = held(rt.alloc(), &mut archive);
-    Ok((before, learn_five(rt.alloc(), &mut archive)))
+/// How many records an archive in files holds, and how many of the five updates are then learned.
+fn use_archive<D: Disk + Drop>(
+    alloc: Global,
+    archive: &mut SqlArchive<FileStore<D>>,
+) -> (Option<usize>, Option<usize>) {
+    let before = ask(alloc, archive, Asked::Held);
+    (before, ask(alloc, archive, Asked::Learned))
+}
+
+/// The same of the store at a path.
+fn use_file(rt: &HostRuntime, path: &str) -> Result<(Option<usize>, Option<usize>), StoreFault> {
+    let number = one()?;
+    match FileArchive::open(rt, path, Uuid::nil(), number) {
+        Ok(mut archive) => Ok(use_archive(rt.alloc(), &mut archive)),
+        Err(fault) => Err(fault),
+    }
 }
 
 #[test]
 fn a_file_is_opened_and_found_again(rt: HostRuntime) -> Result<(), Fail> {
     let _ = fs::remove_dir_all(&rt, "sql_archive_test");
     fs::create_dir(&rt, "sql_archive_test")?;
-    assert!(rt; use_file(&rt, "sql_archive_test/a.db")? == (Some(0), 5));
-    assert!(rt; use_file(&rt, "sql_archive_test/a.db")? == (Some(5), 0));
+    assert!(rt; use_file(&rt, "sql_archive_test/a.db")? == (Some(0), Some(5)));
+    assert!(rt; use_file(&rt, "sql_archive_test/a.db")? == (Some(5), Some(0)));
     fs::remove_dir_all(&rt, "sql_archive_test")?;
     Ok(())
 }

@@ -16,4 +16,6 @@ mod space;
 #[cfg(test)]
 mod structures;
 #[cfg(test)]
+mod texts;
+#[cfg(test)]
 mod variants;

@@ -1,8 +1,7 @@
 //! Sessions and their users.
 
 use std::alloc::Global;
-use std::test::Fail;
-use ua_binary::{NodeId, NodeIdRef};
+use ua_binary::NodeIdRef;
 use ua_session::{Access, Identity, SessionFault, Sessions, Users};
 
 /// One call, and what it answers.
@@ -45,6 +44,7 @@ fn is_answered(sessions: &mut Sessions, users: &Users, call: &Call) -> bool {
     }
 }
 
+/// Whether a call tells this user, or this fault.
 fn is_told(told: Result<&str, SessionFault>, wanted: Told) -> bool {
     match (told, wanted) {
         (Ok(user), Ok(wanted)) => user == wanted,
@@ -53,23 +53,40 @@ fn is_told(told: Result<&str, SessionFault>, wanted: Told) -> bool {
     }
 }
 
-fn is_created(sessions: &mut Sessions, wanted: Result<(u32, u32), SessionFault>) -> bool {
-    match (sessions.create(), wanted) {
-        (Ok((id, token)), Ok((wanted_id, wanted_token))) => {
-            id == NodeId::Numeric(1, wanted_id) && token == NodeId::Numeric(1, wanted_token)
+/// Whether the node ids of a session that was created have the wanted numbers.
+fn are_numbered(
+    id: NodeIdRef<'_>,
+    token: NodeIdRef<'_>,
+    wanted: Result<(u32, u32), SessionFault>,
+) -> bool {
+    match wanted {
+        Ok((wanted_id, wanted_token)) => {
+            id == NodeIdRef::Numeric(1, wanted_id) && token == NodeIdRef::Numeric(1, wanted_token)
         }
-        (Err(fault), Err(wanted)) => fault == wanted,
-        _ => false,
+        Err(_) => false,
     }
 }
 
-/// The users of the tests: of two equal names, and with an empty password.
-fn users_of(alloc: Global, anonymous: bool) -> Result<Users, SessionFault> {
-    let mut users = Users::new(alloc, anonymous);
+/// Whether a session is created with these numbers, or refused by this fault.
+fn is_created(sessions: &mut Sessions, wanted: Result<(u32, u32), SessionFault>) -> bool {
+    match sessions.create() {
+        Ok((id, token)) => are_numbered(id.as_ref(), token.as_ref(), wanted),
+        Err(fault) => wanted == Err(fault),
+    }
+}
+
+/// Adds users of two equal names, and one with an empty password.
+fn add_users(users: &mut Users) -> Result<(), SessionFault> {
     users.add("ann", b"pw")?;
     users.add("bob", b"first")?;
     users.add("bob", b"second")?;
-    users.add("eve", b"")?;
+    users.add("eve", b"")
+}
+
+/// The users of the tests.
+fn users_of(alloc: Global, anonymous: bool) -> Result<Users, SessionFault> {
+    let mut users = Users::new(alloc, anonymous);
+    add_users(&mut users)?;
     Ok(users)
 }
 
@@ -105,20 +122,34 @@ static TWO_SESSIONS: [Call; 12] = [
     UserOf(NodeIdRef::Numeric(1, 7), Err(NotActivated)),
 ];
 
-#[test]
-fn sessions_in_order(rt: HostRuntime) -> Result<(), Fail> {
-    let users = users_of(rt.alloc(), true).ok().ok_or("memory")?;
-    for calls in [ONE_SESSION.as_slice(), &TWO_SESSIONS] {
-        let mut sessions = Sessions::new(rt.alloc());
-        for (i, call) in calls.iter().enumerate() {
-            assert!(rt;
-                is_answered(&mut sessions, &users, call),
-                "{}, call {i}",
-                calls.len()
-            );
+/// The first of some calls that is answered otherwise.
+fn first_other(sessions: &mut Sessions, users: &Users, calls: &[Call]) -> Option<usize> {
+    for (i, call) in calls.iter().enumerate() {
+        if !is_answered(sessions, users, call) {
+            return Some(i);
         }
     }
-    Ok(())
+    None
+}
+
+/// The same of sessions that are new, and the users of the tests.
+fn first_other_of(alloc: Global, users: &Users, calls: &[Call]) -> Option<usize> {
+    let mut sessions = Sessions::new(alloc);
+    first_other(&mut sessions, users, calls)
+}
+
+/// The first call that is answered otherwise of each of the two rows of calls.
+fn others(alloc: Global) -> Result<(Option<usize>, Option<usize>), SessionFault> {
+    let users = users_of(alloc, true)?;
+    Ok((
+        first_other_of(alloc, &users, &ONE_SESSION),
+        first_other_of(alloc, &users, &TWO_SESSIONS),
+    ))
+}
+
+#[test]
+fn sessions_in_order(rt: HostRuntime) {
+    assert_eq!(rt; others(rt.alloc()), Ok((None, None)));
 }
 
 /// A name, a password and an algorithm, and the answer.
@@ -158,38 +189,63 @@ fn is_judged(sessions: &mut Sessions, users: &Users, identity: Identity<'_>, wan
         && is_told(sessions.user_of(FIRST), Ok(wanted.unwrap_or("ann")))
 }
 
-#[test]
-fn identities(rt: HostRuntime) -> Result<(), Fail> {
-    let users = users_of(rt.alloc(), false).ok().ok_or("memory")?;
-    let mut sessions = Sessions::new(rt.alloc());
-    assert!(rt; is_created(&mut sessions, Ok((2, 3))));
-    for (name, password, algorithm, wanted) in NAMED {
+/// The first of the named identities that is answered otherwise.
+fn first_misjudged(sessions: &mut Sessions, users: &Users) -> Option<usize> {
+    for (i, row) in NAMED.iter().enumerate() {
+        let (name, password, algorithm, wanted) = *row;
         let identity = Identity::Named {
             name,
             password,
             algorithm,
         };
-        assert!(rt;
-            is_judged(&mut sessions, &users, identity, wanted),
-            "at {identity:?}"
-        );
+        if !is_judged(sessions, users, identity, wanted) {
+            return Some(i);
+        }
     }
-    for (i, call) in UNNAMED.iter().enumerate() {
-        assert!(rt;
-            is_answered(&mut sessions, &users, call),
-            "unnamed, call {i}"
-        );
-    }
-    Ok(())
+    None
 }
 
-/// Users who may write, and between them one who may read, and whose name comes twice.
-fn writers_and_a_reader(alloc: Global) -> Result<Users, SessionFault> {
-    let mut users = Users::new(alloc, true);
+/// What is answered otherwise in the first session: the first of the named identities, and of the calls without a name.
+type Misjudged = (Option<usize>, Option<usize>);
+
+/// What is answered otherwise once a session is created.
+fn judge(sessions: &mut Sessions, users: &Users) -> Option<Misjudged> {
+    if !is_created(sessions, Ok((2, 3))) {
+        return None;
+    }
+    let named = first_misjudged(sessions, users);
+    Some((named, first_other(sessions, users, &UNNAMED)))
+}
+
+/// What is answered otherwise in new sessions.
+fn judge_new(alloc: Global, users: &Users) -> Option<Misjudged> {
+    let mut sessions = Sessions::new(alloc);
+    judge(&mut sessions, users)
+}
+
+/// What is answered otherwise to the users of the tests.
+fn judge_users(alloc: Global) -> Result<Option<Misjudged>, SessionFault> {
+    let users = users_of(alloc, false)?;
+    Ok(judge_new(alloc, &users))
+}
+
+#[test]
+fn identities(rt: HostRuntime) {
+    assert_eq!(rt; judge_users(rt.alloc()), Ok(Some((None, None))));
+}
+
+/// Adds users who may write, and between them one who may read, and whose name comes twice.
+fn add_writers_and_a_reader(users: &mut Users) -> Result<(), SessionFault> {
     users.add("ann", b"pw")?;
     users.add_with("ben", b"first", Access::Read)?;
     users.add_with("ben", b"second", Access::Write)?;
-    users.add_with("cid", b"", Access::Write)?;
+    users.add_with("cid", b"", Access::Write)
+}
+
+/// These users.
+fn writers_and_a_reader(alloc: Global) -> Result<Users, SessionFault> {
+    let mut users = Users::new(alloc, true);
+    add_writers_and_a_reader(&mut users)?;
     Ok(users)
 }
 
@@ -203,31 +259,53 @@ static ACCESSES: [(&str, Access); 6] = [
     ("", Access::Read),
 ];
 
-#[test]
-fn accesses(rt: HostRuntime) -> Result<(), Fail> {
-    let mut users = writers_and_a_reader(rt.alloc()).ok().ok_or("memory")?;
-    assert_eq!(rt; users.access_of("anonymous"), Access::Write);
-    for anonymous in [Access::Write, Access::Read] {
-        users.set_anonymous_access(anonymous);
-        assert_eq!(rt; users.access_of("anonymous"), anonymous);
+/// What users without a name may do at first, and once they may do each of these.
+fn anonymous_accesses(users: &mut Users) -> [Access; 3] {
+    let first = users.access_of("anonymous");
+    users.set_anonymous_access(Access::Write);
+    let second = users.access_of("anonymous");
+    users.set_anonymous_access(Access::Read);
+    [first, second, users.access_of("anonymous")]
+}
+
+/// The first name whose user may do something else.
+fn first_other_access(users: &Users) -> Option<&'static str> {
+    for row in &ACCESSES {
+        let (name, access) = *row;
+        if users.access_of(name) != access {
+            return Some(name);
+        }
     }
-    for (name, access) in &ACCESSES {
-        assert_eq!(rt; users.access_of(name), *access, "{name}");
-    }
-    Ok(())
+    None
+}
+
+/// Both of the writers and the reader.
+fn accesses_of_three(alloc: Global) -> Result<([Access; 3], Option<&'static str>), SessionFault> {
+    let mut users = writers_and_a_reader(alloc)?;
+    let anonymous = anonymous_accesses(&mut users);
+    Ok((anonymous, first_other_access(&users)))
 }
 
 #[test]
+fn accesses(rt: HostRuntime) {
+    let anonymous = [Access::Write, Access::Write, Access::Read];
+    assert_eq!(rt; accesses_of_three(rt.alloc()), Ok((anonymous, None)));
+}
+
+/// Faults, their numbers and their codes.
+static FAULTS: [(SessionFault, u8, u32); 6] = [
+    (TooMany, 1, 0x8056_0000),
+    (IdInvalid, 2, 0x8025_0000),
+    (NotActivated, 3, 0x8027_0000),
+    (IdentityInvalid, 4, 0x8020_0000),
+    (IdentityRejected, 5, 0x8021_0000),
+    (SessionFault::OutOfMemory, 6, 0x8003_0000),
+];
+
+#[test]
 fn faults(rt: HostRuntime) {
-    let faults = [
-        (TooMany, 1, 0x8056_0000),
-        (IdInvalid, 2, 0x8025_0000),
-        (NotActivated, 3, 0x8027_0000),
-        (IdentityInvalid, 4, 0x8020_0000),
-        (IdentityRejected, 5, 0x8021_0000),
-        (SessionFault::OutOfMemory, 6, 0x8003_0000),
-    ];
-    for (fault, number, code) in faults {
+    for row in &FAULTS {
+        let (fault, number, code) = *row;
         assert!(rt;
             fault.number() == number && fault.code().0 == code,
             "at {fault}"
@@ -235,10 +313,26 @@ fn faults(rt: HostRuntime) {
     }
 }
 
+/// Whether a text has the name of a user, and no password.
+fn has_no_password(shown: &str) -> bool {
+    shown.contains("ann") && !shown.contains("pw") && !shown.contains("112")
+}
+
+/// Whether what is shown of some users is such a text.
+fn are_shown_so(alloc: Global, users: &Users) -> bool {
+    match format!(in alloc; "{users:?} {ANN:?}") {
+        Ok(shown) => has_no_password(shown.as_str()),
+        Err(_) => false,
+    }
+}
+
+/// Whether it is of the users of the tests.
+fn are_hidden(alloc: Global) -> Result<bool, SessionFault> {
+    let users = users_of(alloc, true)?;
+    Ok(are_shown_so(alloc, &users))
+}
+
 #[test]
-fn passwords_are_not_shown(rt: HostRuntime) -> Result<(), Fail> {
-    let users = users_of(rt.alloc(), true).ok().ok_or("memory")?;
-    let shown = format!(in rt.alloc(); "{users:?} {ANN:?}")?;
-    assert!(rt; shown.contains("ann") && !shown.contains("pw") && !shown.contains("112"));
-    Ok(())
+fn passwords_are_not_shown(rt: HostRuntime) {
+    assert_eq!(rt; are_hidden(rt.alloc()), Ok(true));
 }

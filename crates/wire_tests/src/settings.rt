@@ -1,7 +1,8 @@
-use std::alloc::Global;
+use crate::texts::is_text;
+use std::alloc::{AllocError, Global};
 use std::test::Fail;
 use ua_binary::{NodeIdRef, Text};
-use ua_session::{Access, Identity, Sessions, Users};
+use ua_session::{Access, Identity, SessionFault, Sessions, Users};
 use ua_settings::{AfterBreak, PasswordLine, Place, Settings, SettingsFault, password_files};
 use ua_space::BuildFault;
 
@@ -340,16 +341,67 @@ static ROWS: [(&str, Option<SettingsFault>); 82] = [
     ),
 ];
 
-/// Why a text is refused.
-fn refusal(alloc: Global, text: &str) -> Option<SettingsFault> {
-    Settings::read(alloc, text).err()
+/// What is asked of settings.
+#[derive(Clone, Copy)]
+enum Asked<'a> {
+    /// Whether they are the sample's.
+    Sample,
+    /// What the user of a name may do.
+    AccessOf(&'a str, Access),
+    /// What is done once the store is broken.
+    Broken(AfterBreak),
+    /// Where the door is.
+    Door(&'a str),
+    /// The records that the door takes: of which replicas, and how far ahead.
+    Admitted(&'a [u8], u32),
+    /// Where browsers come to, and how many at a time.
+    Web(&'a str, u32),
+    /// Behind how many refused logins the next ones wait, and whether what happens is told.
+    Log(Option<u32>, bool),
+    /// Whether the users have the passwords of the files.
+    Passwords,
+}
+
+/// Whether it is so in some settings.
+fn is_so(alloc: Global, settings: &Settings, asked: Asked<'_>) -> bool {
+    match asked {
+        Asked::Sample => is_sample(settings) && type_in(settings) == Some(11),
+        Asked::AccessOf(name, access) => settings.users().access_of(name) == access,
+        Asked::Broken(broken) => settings.after_break() == broken,
+        Asked::Door(address) => has_door(settings, address),
+        Asked::Admitted(replicas, ahead) => admits(settings, replicas, ahead),
+        Asked::Web(address, connections) => has_web(settings, address, connections),
+        Asked::Log(logins, events) => {
+            settings.logins() == logins && settings.tells_events() == events
+        }
+        Asked::Passwords => are_users(alloc, settings.users()) == Ok(true),
+    }
+}
+
+/// Whether settings were read in which it is so.
+fn are_so(alloc: Global, read: Result<Settings, SettingsFault>, asked: Asked<'_>) -> bool {
+    match read {
+        Ok(settings) => is_so(alloc, &settings, asked),
+        Err(_) => false,
+    }
+}
+
+/// Whether it is so by what goes on behind the start.
+fn says(alloc: Global, before: &str, rest: &str, asked: Asked<'_>) -> Result<bool, AllocError> {
+    let text = format!(in alloc; "{HEAD}{before}{rest}")?;
+    Ok(are_so(alloc, Settings::read(alloc, text.as_str()), asked))
+}
+
+/// Why what goes on behind the start is refused, if it is.
+fn refusal(alloc: Global, rest: &str) -> Result<Option<SettingsFault>, AllocError> {
+    let text = format!(in alloc; "{HEAD}{rest}\n")?;
+    Ok(Settings::read(alloc, text.as_str()).err())
 }
 
 #[test]
 fn files_are_judged(rt: HostRuntime) -> Result<(), Fail> {
     for (rest, fault) in &ROWS {
-        let text = format!(in rt.alloc(); "{HEAD}{rest}\n")?;
-        assert_eq!(rt; refusal(rt.alloc(), text.as_str()), *fault, "{rest}");
+        assert_eq!(rt; refusal(rt.alloc(), rest)?, *fault, "{rest}");
     }
     Ok(())
 }
@@ -374,16 +426,15 @@ fn type_in(settings: &Settings) -> Option<u8> {
     Some(found.value_type.number)
 }
 
-/// Whether the sample is read so.
-fn is_read(alloc: Global) -> Result<bool, Fail> {
-    let settings = Settings::read(alloc, SAMPLE)?;
-    Ok(is_sample(&settings) && type_in(&settings) == Some(11))
-}
-
 #[test]
-fn sample_is_read(rt: HostRuntime) -> Result<(), Fail> {
-    assert!(rt; is_read(rt.alloc())?);
-    Ok(())
+fn sample_is_read(rt: HostRuntime) {
+    assert!(rt;
+        are_so(
+            rt.alloc(),
+            Settings::read(rt.alloc(), SAMPLE),
+            Asked::Sample
+        )
+    );
 }
 
 /// What goes on behind the start, a name, and what the user of that name may do.
@@ -425,20 +476,11 @@ static ACCESSES: [(&str, &str, Access); 7] = [
     ),
 ];
 
-/// What the user of a name may do by a text; none where the text is refused.
-fn access_in(alloc: Global, text: &str, name: &str) -> Option<Access> {
-    match Settings::read(alloc, text) {
-        Ok(settings) => Some(settings.users().access_of(name)),
-        Err(_) => None,
-    }
-}
-
 #[test]
 fn accesses_are_read(rt: HostRuntime) -> Result<(), Fail> {
     for (rest, name, access) in &ACCESSES {
-        let text = format!(in rt.alloc(); "{HEAD}{rest}\n")?;
-        let read = access_in(rt.alloc(), text.as_str(), name);
-        assert_eq!(rt; read, Some(*access), "{rest}");
+        let asked = Asked::AccessOf(name, *access);
+        assert!(rt; says(rt.alloc(), rest, "\n", asked)?, "{rest}");
     }
     Ok(())
 }
@@ -454,83 +496,91 @@ static BREAKS: [(&str, Option<AfterBreak>); 7] = [
     ("broken = true\n", None),
 ];
 
-/// What is done by a text once the store is broken; none where it is refused.
-fn broken_in(alloc: Global, text: &str) -> Option<AfterBreak> {
-    match Settings::read(alloc, text) {
-        Ok(settings) => Some(settings.after_break()),
-        Err(_) => None,
+/// Whether it is done by a text once the store is broken; none: whether the text is refused.
+fn is_broken_so(alloc: Global, text: &str, broken: Option<AfterBreak>) -> bool {
+    match broken {
+        Some(broken) => are_so(alloc, Settings::read(alloc, text), Asked::Broken(broken)),
+        None => Settings::read(alloc, text).is_err(),
     }
+}
+
+/// The same of a text with this in `[archive]`.
+fn is_break(alloc: Global, key: &str, broken: Option<AfterBreak>) -> Result<bool, AllocError> {
+    let text = format!(in alloc;
+        "[archive]\n{key}id = '00000000000000000000000000000000'\nreplica = 1\n[server]\nlisten = ''\nurl = ''\napplication = ''\nnamespace = ''\nanonymous = true\n"
+    )?;
+    Ok(is_broken_so(alloc, text.as_str(), broken))
 }
 
 #[test]
 fn breaks_are_read(rt: HostRuntime) -> Result<(), Fail> {
     for (key, broken) in &BREAKS {
-        let text = format!(in rt.alloc();
-            "[archive]\n{key}id = '00000000000000000000000000000000'\nreplica = 1\n[server]\nlisten = ''\nurl = ''\napplication = ''\nnamespace = ''\nanonymous = true\n"
-        )?;
-        assert_eq!(rt; broken_in(rt.alloc(), text.as_str()), *broken, "{key}");
+        assert!(rt; is_break(rt.alloc(), key, *broken)?, "{key}");
     }
     Ok(())
 }
 
-/// Whether a text's door is at this address.
-fn has_door(alloc: Global, text: &str, address: &str) -> bool {
-    match Settings::read(alloc, text) {
-        Ok(settings) => settings
-            .door()
-            .is_some_and(|door| door.listen.as_str() == address),
-        Err(_) => false,
-    }
+/// Whether the door is at this address.
+fn has_door(settings: &Settings, address: &str) -> bool {
+    settings
+        .door()
+        .is_some_and(|door| door.listen.as_str() == address)
 }
 
-/// The records that a text's door takes: of which replicas, and how far ahead.
-fn admits(alloc: Global, text: &str, replicas: &[u8], ahead: u32) -> bool {
-    match Settings::read(alloc, text) {
-        Ok(settings) => settings.door().is_some_and(|door| {
-            door.ahead == Some(ahead)
-                && door.replicas.as_ref().is_some_and(|listed| listed
+/// Whether the door takes records of these replicas, and so far ahead.
+fn admits(settings: &Settings, replicas: &[u8], ahead: u32) -> bool {
+    settings.door().is_some_and(|door| {
+        door.ahead == Some(ahead)
+            && door.replicas.as_ref().is_some_and(|listed| {
+                listed
                     .iter()
                     .map(|replica| replica.get())
-                    .eq(replicas.iter().copied()))
-        }),
-        Err(_) => false,
-    }
+                    .eq(replicas.iter().copied())
+            })
+    })
 }
+
+/// Whether browsers come to this address, and so many at a time.
+fn has_web(settings: &Settings, address: &str, connections: u32) -> bool {
+    settings.web().is_some_and(|web| web.listen.as_str() == address
+        && web.connections == connections)
+}
+
+/// A namespace, and users without a name, who are let in.
+const OPEN: &str = "namespace = ''\nanonymous = true\n";
+
+/// What a door takes, in the text of the next test.
+const ADMISSIONS: &str = "[door]\nlisten = ''\nreplicas = [3, 1, 64]\nahead = 90\n";
+
+/// Replicas, and whether they are those of that door.
+static ADMITTED: [(&[u8], bool); 2] = [(&[3, 1, 64], true), (&[3, 1], false)];
 
 #[test]
 fn admissions_are_read(rt: HostRuntime) -> Result<(), Fail> {
-    let text = format!(in rt.alloc();
-        "{HEAD}namespace = ''\nanonymous = true\n[door]\nlisten = ''\nreplicas = [3, 1, 64]\nahead = 90\n"
-    )?;
-    assert!(rt; admits(rt.alloc(), text.as_str(), &[3, 1, 64], 90));
-    assert!(rt; !admits(rt.alloc(), text.as_str(), &[3, 1], 90));
+    for row in &ADMITTED {
+        let (replicas, admitted) = *row;
+        let asked = Asked::Admitted(replicas, 90);
+        assert_eq!(rt; says(rt.alloc(), OPEN, ADMISSIONS, asked)?, admitted);
+    }
     Ok(())
 }
 
-/// Where a text has browsers come to, and how many at a time.
-fn web_in(alloc: Global, text: &str, address: &str, connections: u32) -> bool {
-    match Settings::read(alloc, text) {
-        Ok(settings) => settings.web().is_some_and(|web| web.listen.as_str() == address
-            && web.connections == connections),
-        Err(_) => false,
-    }
-}
+/// A page at an address, with what goes on behind it.
+const PAGE: &str = "namespace = ''\nanonymous = true\n[web]\nlisten = '127.0.0.1:8080'\n";
 
-/// Eight browsers at a time where the text doesn't say.
+/// How many browsers at a time that is: eight where the text doesn't say.
+static WEBS: [(&str, u32); 3] = [
+    ("", 8),
+    ("connections = 1\n", 1),
+    ("connections = 900\n", 900),
+];
+
 #[test]
 fn webs_are_read(rt: HostRuntime) -> Result<(), Fail> {
-    for (rest, connections) in [
-        ("", 8),
-        ("connections = 1\n", 1),
-        ("connections = 900\n", 900),
-    ] {
-        let text = format!(in rt.alloc();
-            "{HEAD}namespace = ''\nanonymous = true\n[web]\nlisten = '127.0.0.1:8080'\n{rest}"
-        )?;
-        assert!(rt;
-            web_in(rt.alloc(), text.as_str(), "127.0.0.1:8080", connections),
-            "{rest}"
-        );
+    for row in &WEBS {
+        let (rest, connections) = *row;
+        let asked = Asked::Web("127.0.0.1:8080", connections);
+        assert!(rt; says(rt.alloc(), PAGE, rest, asked)?, "{rest}");
     }
     Ok(())
 }
@@ -545,32 +595,26 @@ static LOGS: [(&str, Option<u32>, bool); 6] = [
     ("strict = true\n[log]\nevents = false\n", None, false),
 ];
 
-/// Both as a text says them; none where it is refused.
-fn logs_in(alloc: Global, text: &str) -> Option<(Option<u32>, bool)> {
-    match Settings::read(alloc, text) {
-        Ok(settings) => Some((settings.logins(), settings.tells_events())),
-        Err(_) => None,
-    }
-}
-
 #[test]
 fn logs_are_read(rt: HostRuntime) -> Result<(), Fail> {
     for (rest, logins, events) in &LOGS {
-        let text = format!(in rt.alloc(); "{HEAD}namespace = ''\nanonymous = true\n{rest}")?;
-        let read = logs_in(rt.alloc(), text.as_str());
-        assert_eq!(rt; read, Some((*logins, *events)), "{rest}");
+        let asked = Asked::Log(*logins, *events);
+        assert!(rt; says(rt.alloc(), OPEN, rest, asked)?, "{rest}");
     }
     Ok(())
+}
+
+/// Whether a door that listens at an address is there.
+fn is_door(alloc: Global, address: &str) -> Result<bool, AllocError> {
+    let rest = format!(in alloc; "[door]\nlisten = '{address}'\n")?;
+    says(alloc, OPEN, rest.as_str(), Asked::Door(address))
 }
 
 /// The door's text is kept as it is, whatever it spells.
 #[test]
 fn doors_are_read(rt: HostRuntime) -> Result<(), Fail> {
     for address in ["127.0.0.1:4841", "[::1]:4841", "peers", ""] {
-        let text = format!(in rt.alloc();
-            "{HEAD}namespace = ''\nanonymous = true\n[door]\nlisten = '{address}'\n"
-        )?;
-        assert!(rt; has_door(rt.alloc(), text.as_str(), address), "{address}");
+        assert!(rt; is_door(rt.alloc(), address)?, "{address}");
     }
     Ok(())
 }
@@ -676,13 +720,24 @@ static PLACES: [(&str, &str); 23] = [
     ),
 ];
 
+/// Whether a text is refused at this place.
+fn is_refused_at(alloc: Global, text: &str, place: &str) -> bool {
+    match Place::of(alloc, text, &[]) {
+        Ok(told) => is_text(told.text(alloc), place),
+        Err(_) => false,
+    }
+}
+
+/// Whether what goes on behind the start is.
+fn is_place(alloc: Global, rest: &str, place: &str) -> Result<bool, AllocError> {
+    let text = format!(in alloc; "{HEAD}{rest}\n")?;
+    Ok(is_refused_at(alloc, text.as_str(), place))
+}
+
 #[test]
 fn places_are_told(rt: HostRuntime) -> Result<(), Fail> {
     for (rest, place) in &PLACES {
-        let text = format!(in rt.alloc(); "{HEAD}{rest}\n")?;
-        let told = Place::of(rt.alloc(), text.as_str(), &[])?;
-        let shown = told.text(rt.alloc())?;
-        assert_eq!(rt; shown.as_str(), *place, "{rest}");
+        assert!(rt; is_place(rt.alloc(), rest, place)?, "{place} at {rest}");
     }
     Ok(())
 }
@@ -702,48 +757,73 @@ fn are_named(alloc: Global, text: &str, paths: &[&str]) -> bool {
     }
 }
 
+/// The text with these users.
+fn filed(alloc: Global) -> Result<String, AllocError> {
+    format!(in alloc; "{HEAD}{FILED}\n")
+}
+
+/// Whether these are the password files of that text.
+fn are_files(alloc: Global, paths: &[&str]) -> Result<bool, AllocError> {
+    let text = filed(alloc)?;
+    Ok(are_named(alloc, text.as_str(), paths))
+}
+
 #[test]
 fn password_files_are_named_in_order(rt: HostRuntime) -> Result<(), Fail> {
-    let text = format!(in rt.alloc(); "{HEAD}{FILED}\n")?;
-    assert!(rt; are_named(rt.alloc(), text.as_str(), &["secrets/ann", "cid"]));
+    assert!(rt; are_files(rt.alloc(), &["secrets/ann", "cid"])?);
     Ok(())
 }
 
+/// What the file at a path says.
+fn password_line(alloc: Global, path: &str, line: &str) -> Result<PasswordLine, AllocError> {
+    let path = Text::from_str(alloc, path)?;
+    Ok(PasswordLine {
+        path,
+        line: Text::from_str(alloc, line)?,
+    })
+}
+
 /// What these files say.
-fn passwords(alloc: Global, files: &[(&str, &str)]) -> Result<Vec<PasswordLine>, Fail> {
+fn passwords(alloc: Global, files: &[(&str, &str)]) -> Result<Vec<PasswordLine>, AllocError> {
     let mut lines = Vec::new(alloc);
     for (path, line) in files {
-        lines.push(PasswordLine {
-            path: Text::from_str(alloc, path)?,
-            line: Text::from_str(alloc, line)?,
-        })?;
+        lines.push(password_line(alloc, path, line)?)?;
     }
     Ok(lines)
 }
 
-/// Whether the user of this name has this password.
-fn has_password<'a>(
-    alloc: Global,
+/// Whether the user of this name is let in with this password.
+fn is_let_in<'a>(
+    sessions: &mut Sessions,
     users: &Users,
     name: &'a str,
     password: &'a str,
-) -> Result<bool, Fail> {
-    let mut sessions = Sessions::new(alloc);
+) -> Result<bool, SessionFault> {
     let (_, token) = sessions.create()?;
     let identity = Identity::Named {
         name: Some(name),
         password: Some(password.as_bytes()),
         algorithm: None,
     };
-    let user = sessions.activate(token.as_ref(), identity, users);
-    Ok(user == Ok(name))
+    Ok(sessions.activate(token.as_ref(), identity, users) == Ok(name))
+}
+
+/// Whether the user of this name has this password.
+fn has_password(
+    alloc: Global,
+    users: &Users,
+    name: &str,
+    password: &str,
+) -> Result<bool, SessionFault> {
+    let mut sessions = Sessions::new(alloc);
+    is_let_in(&mut sessions, users, name, password)
 }
 
 /// The users, and the password of each.
 static PASSWORDS: [(&str, &str); 3] = [("ann", "a"), ("ben", "b"), ("cid", "c")];
 
 /// Whether each user has that password, and hasn't an empty one too.
-fn are_users(alloc: Global, users: &Users) -> Result<bool, Fail> {
+fn are_users(alloc: Global, users: &Users) -> Result<bool, SessionFault> {
     for (name, password) in &PASSWORDS {
         if !has_password(alloc, users, name, password)? || has_password(alloc, users, name, "")? {
             return Ok(false);
@@ -752,22 +832,22 @@ fn are_users(alloc: Global, users: &Users) -> Result<bool, Fail> {
     Ok(true)
 }
 
-/// Whether the users of a text have those passwords, where its files say this.
-fn have_passwords(alloc: Global, text: &str, lines: &[PasswordLine]) -> Result<bool, Fail> {
-    let settings = Settings::read_with(alloc, text, lines)?;
-    are_users(alloc, settings.users())
+/// Whether the users of a text have those passwords, where each file says what it should.
+fn have_passwords(alloc: Global, text: &str) -> Result<bool, AllocError> {
+    let lines = passwords(alloc, &[("cid", "c"), ("secrets/ann", "a")])?;
+    let read = Settings::read_with(alloc, text, lines.as_slice());
+    Ok(are_so(alloc, read, Asked::Passwords))
 }
 
-/// Whether they have them where each file says what it should.
-fn have_passwords_of_files(alloc: Global, text: &str) -> Result<bool, Fail> {
-    let lines = passwords(alloc, &[("cid", "c"), ("secrets/ann", "a")])?;
-    have_passwords(alloc, text, lines.as_slice())
+/// Whether the users of the text with password files have them.
+fn have_passwords_of_files(alloc: Global) -> Result<bool, AllocError> {
+    let text = filed(alloc)?;
+    have_passwords(alloc, text.as_str())
 }
 
 #[test]
 fn passwords_are_those_of_files(rt: HostRuntime) -> Result<(), Fail> {
-    let text = format!(in rt.alloc(); "{HEAD}{FILED}\n")?;
-    assert!(rt; have_passwords_of_files(rt.alloc(), text.as_str())?);
+    assert!(rt; have_passwords_of_files(rt.alloc())?);
     Ok(())
 }
 
@@ -776,9 +856,18 @@ fn refusal_with(
     alloc: Global,
     text: &str,
     files: &[(&str, &str)],
-) -> Result<Option<SettingsFault>, Fail> {
+) -> Result<Option<SettingsFault>, AllocError> {
     let lines = passwords(alloc, files)?;
     Ok(Settings::read_with(alloc, text, lines.as_slice()).err())
+}
+
+/// Why the text with password files is.
+fn refusal_of_files(
+    alloc: Global,
+    files: &[(&str, &str)],
+) -> Result<Option<SettingsFault>, AllocError> {
+    let text = filed(alloc)?;
+    refusal_with(alloc, text.as_str(), files)
 }
 
 /// What files say of which one is missing, or says nothing.
@@ -789,9 +878,8 @@ static NO_PASSWORDS: [[(&str, &str); 2]; 2] = [
 
 #[test]
 fn a_file_that_is_missing_or_says_nothing_is_no_password(rt: HostRuntime) -> Result<(), Fail> {
-    let text = format!(in rt.alloc(); "{HEAD}{FILED}\n")?;
     for files in &NO_PASSWORDS {
-        let refused = refusal_with(rt.alloc(), text.as_str(), files)?;
+        let refused = refusal_of_files(rt.alloc(), files)?;
         assert_eq!(rt; refused, Some(SettingsFault::BadValue), "{files:?}");
     }
     Ok(())

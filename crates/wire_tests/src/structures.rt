@@ -1,5 +1,6 @@
 //! Requests of the services, behind their headers. What the services write stands in `service_tests` and `connection_tests`.
 
+use crate::texts::is_text;
 use std::alloc::Global;
 use std::fmt::Debug;
 use ua_binary::Cursor;
@@ -23,31 +24,27 @@ enum Kind {
 
 /// Whether this was read, as `{:?}` shows it.
 fn is_shown<T: Debug + Drop>(alloc: Global, found: T, want: &str) -> bool {
-    format!(in alloc; "{found:?}").is_ok_and(|text| text.as_str() == want)
+    is_text(format!(in alloc; "{found:?}"), want)
+}
+
+/// Whether a request is read, and its reading shows this.
+fn is_read(alloc: Global, kind: Kind, cursor: &mut Cursor<'_>, want: &str) -> bool {
+    match kind {
+        Kind::GetEndpoints => is_shown(alloc, read_get_endpoints_request(alloc, cursor), want),
+        Kind::CreateSession => is_shown(alloc, read_create_session_request(cursor), want),
+        Kind::ActivateSession => is_shown(alloc, read_activate_session_request(cursor), want),
+        Kind::CloseSession => is_shown(alloc, read_close_session_request(cursor), want),
+        Kind::HistoryUpdate => is_shown(alloc, read_history_update_request(alloc, cursor), want),
+        Kind::Browse => is_shown(alloc, read_browse_request(alloc, cursor), want),
+        Kind::Read => is_shown(alloc, read_read_request(alloc, cursor), want),
+        Kind::HistoryRead => is_shown(alloc, read_history_read_request(alloc, cursor), want),
+    }
 }
 
 /// How many bytes are left of a request whose reading shows this.
 fn left_of(alloc: Global, kind: Kind, bytes: &[u8], want: &str) -> Option<usize> {
     let mut cursor = Cursor::new(bytes);
-    let is_read = match kind {
-        Kind::GetEndpoints => {
-            is_shown(alloc, read_get_endpoints_request(alloc, &mut cursor), want)
-        }
-        Kind::CreateSession => is_shown(alloc, read_create_session_request(&mut cursor), want),
-        Kind::ActivateSession => {
-            is_shown(alloc, read_activate_session_request(&mut cursor), want)
-        }
-        Kind::CloseSession => is_shown(alloc, read_close_session_request(&mut cursor), want),
-        Kind::HistoryUpdate => {
-            is_shown(alloc, read_history_update_request(alloc, &mut cursor), want)
-        }
-        Kind::Browse => is_shown(alloc, read_browse_request(alloc, &mut cursor), want),
-        Kind::Read => is_shown(alloc, read_read_request(alloc, &mut cursor), want),
-        Kind::HistoryRead => {
-            is_shown(alloc, read_history_read_request(alloc, &mut cursor), want)
-        }
-    };
-    if is_read {
+    if is_read(alloc, kind, &mut cursor, want) {
         Some(cursor.rest().len())
     } else {
         None
@@ -153,7 +150,8 @@ static REQUESTS: [(Kind, &[u8], &str); 17] = [
 
 #[test]
 fn requests(rt: HostRuntime) {
-    for (kind, bytes, want) in REQUESTS {
+    for row in &REQUESTS {
+        let (kind, bytes, want) = *row;
         let left = left_of(rt.alloc(), kind, bytes, want);
         assert!(rt; left == Some(0), "{want}");
     }
@@ -171,7 +169,8 @@ fn are_fronts_short(alloc: Global, kind: Kind, bytes: &[u8]) -> bool {
 
 #[test]
 fn fronts_of_requests(rt: HostRuntime) {
-    for (kind, bytes, want) in REQUESTS {
+    for row in &REQUESTS {
+        let (kind, bytes, want) = *row;
         let short = are_fronts_short(rt.alloc(), kind, bytes);
         assert!(rt; short, "{want}");
     }
@@ -268,26 +267,31 @@ static REFUSED: [(Kind, &[u8], &str); 17] = [
 
 #[test]
 fn refused_requests(rt: HostRuntime) {
-    for (kind, bytes, want) in REFUSED {
+    for row in &REFUSED {
+        let (kind, bytes, want) = *row;
         let left = left_of(rt.alloc(), kind, bytes, want);
         assert!(rt; left == Some(bytes.len()), "{want} at {bytes:?}");
     }
 }
 
 /// The numbers that the standard gives to classes of nodes.
+/// Classes, and their numbers.
+static CLASSES: [(NodeClass, u8); 9] = [
+    (NodeClass::Unspecified, 0),
+    (NodeClass::Object, 1),
+    (NodeClass::Variable, 2),
+    (NodeClass::Method, 4),
+    (NodeClass::ObjectType, 8),
+    (NodeClass::VariableType, 16),
+    (NodeClass::ReferenceType, 32),
+    (NodeClass::DataType, 64),
+    (NodeClass::View, 128),
+];
+
 #[test]
 fn numbers_of_classes(rt: HostRuntime) {
-    for (class, number) in [
-        (NodeClass::Unspecified, 0),
-        (NodeClass::Object, 1),
-        (NodeClass::Variable, 2),
-        (NodeClass::Method, 4),
-        (NodeClass::ObjectType, 8),
-        (NodeClass::VariableType, 16),
-        (NodeClass::ReferenceType, 32),
-        (NodeClass::DataType, 64),
-        (NodeClass::View, 128),
-    ] {
+    for row in &CLASSES {
+        let (class, number) = *row;
         assert_eq!(rt; class.number(), number);
     }
 }

@@ -3,6 +3,7 @@
 ghost use Rattle.ua_variant.specs.Variant.{IsShortVariant};
 ghost use Rattle.ua_variant.specs.DataValue.{IsShortData};
 
+use crate::texts::is_text;
 use std::alloc::Global;
 use std::fmt::Debug;
 use ua_binary::{Cursor, TryClone};
@@ -242,7 +243,7 @@ fn is_written(alloc: Global, value: &Variant, bytes: &[u8]) -> bool
 
 /// Whether `{:?}` shows this of a value.
 fn is_shown<T: Debug>(alloc: Global, value: &T, shown: &str) -> bool {
-    format!(in alloc; "{value:?}").is_ok_and(|text| text.as_str() == shown)
+    is_text(format!(in alloc; "{value:?}"), shown)
 }
 
 /// Whether a value's copy is the value.
@@ -283,7 +284,8 @@ fn there_and_back(alloc: Global, bytes: &[u8], value_type: ValueType, shown: &st
 
 #[test]
 fn scalars(rt: HostRuntime) {
-    for (number, bytes, shown) in SCALARS {
+    for row in &SCALARS {
+        let (number, bytes, shown) = *row;
         let value_type = ValueType {
             number,
             array: false,
@@ -297,7 +299,8 @@ fn scalars(rt: HostRuntime) {
 
 #[test]
 fn arrays(rt: HostRuntime) {
-    for (number, bytes, shown) in ARRAYS {
+    for row in &ARRAYS {
+        let (number, bytes, shown) = *row;
         let value_type = ValueType {
             number,
             array: true,
@@ -364,7 +367,8 @@ static DATA_VALUES: [(&[u8], &str); 5] = [
 
 #[test]
 fn data_values(rt: HostRuntime) {
-    for (bytes, shown) in DATA_VALUES {
+    for row in &DATA_VALUES {
+        let (bytes, shown) = *row;
         assert!(rt; data_there_and_back(rt.alloc(), bytes, shown), "at {shown}");
     }
 }
@@ -376,28 +380,28 @@ fn value_refusal(alloc: Global, bytes: &[u8]) -> Option<(VariantFault, usize)> {
     Some((fault, cursor.rest().len()))
 }
 
+/// Bytes that spell no value, and the fault.
+static REFUSED_VALUES: [(&[u8], VariantFault); 11] = [
+    (&[0x46, 7, 0, 0, 0], VariantFault::TypeUnsupported),
+    (
+        &[0xC6, 0, 0, 0, 0, 0, 0, 0, 0],
+        VariantFault::TypeUnsupported,
+    ),
+    (&[0x80, 0, 0, 0, 0], VariantFault::TypeUnsupported),
+    (&[16, 0], VariantFault::TypeUnsupported),
+    (&[22, 0], VariantFault::TypeUnsupported),
+    (&[], VariantFault::Short),
+    (&[6, 7, 0, 0], VariantFault::Short),
+    (&[0x86, 2, 0, 0, 0, 1, 0, 0, 0], VariantFault::Short),
+    (&[0x86, 254, 255, 255, 255], VariantFault::BadLength),
+    (&[12, 1, 0, 0, 0, 255], VariantFault::BadUtf8),
+    (&[17, 6, 0], VariantFault::BadEncodingByte),
+];
+
 #[test]
 fn refused_values(rt: HostRuntime) {
-    let refused = [
-        (
-            [0x46u8, 7, 0, 0, 0].as_slice(),
-            VariantFault::TypeUnsupported,
-        ),
-        (
-            &[0xC6, 0, 0, 0, 0, 0, 0, 0, 0],
-            VariantFault::TypeUnsupported,
-        ),
-        (&[0x80, 0, 0, 0, 0], VariantFault::TypeUnsupported),
-        (&[16, 0], VariantFault::TypeUnsupported),
-        (&[22, 0], VariantFault::TypeUnsupported),
-        (&[], VariantFault::Short),
-        (&[6, 7, 0, 0], VariantFault::Short),
-        (&[0x86, 2, 0, 0, 0, 1, 0, 0, 0], VariantFault::Short),
-        (&[0x86, 254, 255, 255, 255], VariantFault::BadLength),
-        (&[12, 1, 0, 0, 0, 255], VariantFault::BadUtf8),
-        (&[17, 6, 0], VariantFault::BadEncodingByte),
-    ];
-    for (bytes, fault) in refused {
+    for row in &REFUSED_VALUES {
+        let (bytes, fault) = *row;
         let refusal = value_refusal(rt.alloc(), bytes);
         assert!(rt; refusal == Some((fault, bytes.len())), "at {bytes:?}");
     }
@@ -411,14 +415,18 @@ fn are_picoseconds(alloc: Global, bytes: &[u8], source: Option<u16>, server: Opt
     }
 }
 
+/// Data values, and the picoseconds of their source and of their server.
+static PICOSECONDS: [(&[u8], Option<u16>, Option<u16>); 4] = [
+    (&[0x10, 0x0F, 0x27], Some(9999), None),
+    (&[0x10, 0x10, 0x27], Some(9999), None),
+    (&[0x20, 0xFF, 0xFF], None, Some(9999)),
+    (&[0x20, 0, 0], None, Some(0)),
+];
+
 #[test]
 fn picoseconds_have_a_most(rt: HostRuntime) {
-    for (bytes, source, server) in [
-        ([0x10u8, 0x0F, 0x27].as_slice(), Some(9999), None),
-        (&[0x10, 0x10, 0x27], Some(9999), None),
-        (&[0x20, 0xFF, 0xFF], None, Some(9999)),
-        (&[0x20, 0, 0], None, Some(0)),
-    ] {
+    for row in &PICOSECONDS {
+        let (bytes, source, server) = *row;
         assert!(rt;
             are_picoseconds(rt.alloc(), bytes, source, server),
             "at {bytes:?}"
@@ -433,30 +441,37 @@ fn data_refusal(alloc: Global, bytes: &[u8]) -> Option<(VariantFault, usize)> {
     Some((fault, cursor.rest().len()))
 }
 
+/// Bytes that spell no data value, and the fault.
+static REFUSED_DATA: [(&[u8], VariantFault); 6] = [
+    (&[0x40], VariantFault::BadEncodingByte),
+    (&[0x80], VariantFault::BadEncodingByte),
+    (&[0xFF], VariantFault::BadEncodingByte),
+    (&[], VariantFault::Short),
+    (&[5, 6, 7, 0, 0, 0, 10], VariantFault::Short),
+    (&[1, 0x46], VariantFault::TypeUnsupported),
+];
+
 #[test]
 fn refused_data_values(rt: HostRuntime) {
-    let refused = [
-        ([0x40u8].as_slice(), VariantFault::BadEncodingByte),
-        (&[0x80], VariantFault::BadEncodingByte),
-        (&[0xFF], VariantFault::BadEncodingByte),
-        (&[], VariantFault::Short),
-        (&[5, 6, 7, 0, 0, 0, 10], VariantFault::Short),
-        (&[1, 0x46], VariantFault::TypeUnsupported),
-    ];
-    for (bytes, fault) in refused {
+    for row in &REFUSED_DATA {
+        let (bytes, fault) = *row;
         let refusal = data_refusal(rt.alloc(), bytes);
         assert!(rt; refusal == Some((fault, bytes.len())), "at {bytes:?}");
     }
 }
 
+/// Faults, and their numbers.
+static NUMBERS: [(VariantFault, u8); 4] = [
+    (VariantFault::Short, 1u8),
+    (VariantFault::BadEncodingByte, 4),
+    (VariantFault::OutOfMemory, 5),
+    (VariantFault::TypeUnsupported, 6),
+];
+
 #[test]
 fn numbers_of_faults(rt: HostRuntime) {
-    for (fault, number) in [
-        (VariantFault::Short, 1u8),
-        (VariantFault::BadEncodingByte, 4),
-        (VariantFault::OutOfMemory, 5),
-        (VariantFault::TypeUnsupported, 6),
-    ] {
+    for row in &NUMBERS {
+        let (fault, number) = *row;
         assert!(rt; fault.number() == number);
     }
 }
