@@ -1,17 +1,14 @@
 //! Which records are taken at a door, by the settings and the time.
 
-use crate::scripts::{Caller, heard_by};
-use archive::ListArchive;
-use conversation::{Conversation, Door, World};
-use exchange::{Dialog, Frames, Replica};
-use historian::Server;
+use crate::scripts::{Caller, Heard, heard_by};
+use crate::shared::{Talk, accepted, begun, shared_over};
+use archive::{Archive, ListArchive};
+use conversation::Door;
+use exchange::{Dialog, ExchangeFault, Frames, Replica};
 use history_rows::exchanges::{Row, merge_rows, replica_number};
-use multiplex::{Handler, Origin, Party, Progress, Stay};
-use server_rows::network::Faults;
-use server_rows::plant::clock;
+use multiplex::{Handler, Origin, Progress, Stay};
 use std::alloc::Global;
 use std::test::Fail;
-use ua_connection::ConstantClock;
 use ua_settings::Settings;
 use uuid::Uuid;
 
@@ -24,7 +21,7 @@ const NOW: i64 = 116_444_736_000_000_000;
 
 const LATEST: i64 = NOW + 600_000_000;
 
-pub(crate) fn replica(alloc: Global, number: u8) -> Result<Replica<ListArchive>, Fail> {
+fn replica(alloc: Global, number: u8) -> Result<Replica<ListArchive>, Fail> {
     let number = replica_number(number)?;
     Ok(Replica::new(ListArchive::new(alloc, Uuid::nil(), number)))
 }
@@ -38,25 +35,68 @@ pub(crate) fn brought(alloc: Global, rows: &[Row]) -> Result<Vec<u8>, Fail> {
     brought_behind(alloc, rows, 0)
 }
 
-/// The frame by which a replica 5 that holds these records answers a replica that holds so many of them.
-fn brought_behind(alloc: Global, rows: &[Row], held: usize) -> Result<Vec<u8>, Fail> {
-    let mut holder = replica(alloc, 5)?;
-    merge_rows(alloc, &mut holder, rows)?;
-    let mut asker = replica(alloc, 4)?;
-    merge_rows(alloc, &mut asker, rows.get(..held).ok_or("so many")?)?;
+/// What a replica asks first once it holds these records.
+fn ask_behind<A: Archive>(
+    alloc: Global,
+    asker: &mut Replica<A>,
+    rows: &[Row],
+    asked: &mut Vec<u8>,
+) -> Result<(), ExchangeFault> {
+    merge_rows(alloc, asker, rows)?;
+    asker.greet(alloc, asked)
+}
+
+/// What a replica 4 asks first that holds these records.
+fn asked_behind(alloc: Global, rows: &[Row]) -> Result<Vec<u8>, Fail> {
     let mut asked = Vec::new(alloc);
-    asker.greet(alloc, &mut asked)?;
-    let mut frames = Frames::new(alloc);
-    frames.feed(asked.as_slice())?;
-    let mut answer = Vec::new(alloc);
+    let mut asker = replica(alloc, 4)?;
+    ask_behind(alloc, &mut asker, rows, &mut asked)?;
+    Ok(asked)
+}
+
+/// What a replica answers to the first frame of these.
+fn answer_first<A: Archive>(
+    alloc: Global,
+    holder: &mut Replica<A>,
+    frames: &mut Frames,
+    answer: &mut Vec<u8>,
+) -> Result<(), Fail> {
     let mut dialog = Dialog::responder();
     match frames.next_frame()? {
         Some(frame) => {
-            dialog.take(alloc, &mut holder, frame, &mut answer)?;
+            dialog.take(alloc, holder, frame, answer)?;
+            Ok(())
         }
-        None => return Err(Fail::from("a frame")),
+        None => Err(Fail::from("a frame")),
     }
+}
+
+/// What a replica answers to what it is asked once it holds these records.
+fn answer_behind<A: Archive>(
+    alloc: Global,
+    holder: &mut Replica<A>,
+    rows: &[Row],
+    asked: &[u8],
+    answer: &mut Vec<u8>,
+) -> Result<(), Fail> {
+    merge_rows(alloc, holder, rows)?;
+    let mut frames = Frames::new(alloc);
+    frames.feed(asked)?;
+    answer_first(alloc, holder, &mut frames, answer)
+}
+
+/// What a replica 5 answers to what it is asked that holds these records.
+fn answered_behind(alloc: Global, rows: &[Row], asked: &[u8]) -> Result<Vec<u8>, Fail> {
+    let mut answer = Vec::new(alloc);
+    let mut holder = replica(alloc, 5)?;
+    answer_behind(alloc, &mut holder, rows, asked, &mut answer)?;
     Ok(answer)
+}
+
+/// The frame by which a replica 5 that holds these records answers a replica that holds so many of them.
+fn brought_behind(alloc: Global, rows: &[Row], held: usize) -> Result<Vec<u8>, Fail> {
+    let asked = asked_behind(alloc, rows.get(..held).ok_or("so many")?)?;
+    answered_behind(alloc, rows, asked.as_slice())
 }
 
 /// What is brought, and how what is told begins: by a vector where it is taken, else by why it isn't.
@@ -72,34 +112,66 @@ static BROUGHT: [(&[Row], &[u8]); 6] = [
     ),
 ];
 
-/// Peers that bring records: what isn't taken is refused, and the server's vector names what was.
-#[test]
-fn records_are_taken_as_the_settings_say(rt: HostRuntime) -> Result<(), Fail> {
-    let alloc = rt.alloc();
-    let mut texts = Vec::new(alloc);
+/// The frames that are brought.
+fn brought_frames(alloc: Global) -> Result<Vec<Vec<u8>>, Fail> {
+    let mut frames = Vec::new(alloc);
     for (rows, _) in &BROUGHT {
-        texts.push(brought(alloc, rows)?)?;
+        frames.push(brought(alloc, rows)?)?;
     }
+    Ok(frames)
+}
+
+/// Peers that bring these frames, one each.
+fn peers_with<'a>(alloc: Global, frames: &'a [Vec<u8>]) -> Result<Vec<Caller<'a>>, Fail> {
     let mut callers = Vec::new(alloc);
-    for text in texts.iter() {
+    for frame in frames {
         callers.push(Caller {
             door: Door::Peers,
             address: None,
-            text: text.as_slice(),
+            text: frame.as_slice(),
             each: 1000,
             pace: 1,
         })?;
     }
+    Ok(callers)
+}
+
+/// What peers are told by the plant who bring these frames.
+fn told_to(alloc: Global, frames: &[Vec<u8>]) -> Result<Vec<Heard>, Fail> {
+    let callers = peers_with(alloc, frames)?;
     let settings = Settings::read(alloc, PLANT)?;
-    let heard = heard_by(alloc, settings, callers.as_slice(), None)?;
-    assert_eq!(rt; heard.len(), BROUGHT.len());
-    for (number, text) in heard.iter() {
-        let want = BROUGHT
-            .get(*number)
-            .map_or(b"?" as &[u8], |(_, want)| *want);
-        assert!(rt; text.as_slice().starts_with(want), "{number}");
-        assert!(rt; want.len() == 4 || text.len() == want.len(), "{number}");
+    heard_by(alloc, settings, callers.as_slice(), None)
+}
+
+/// Whether the peer of a number is told this.
+fn is_told_so(number: usize, text: &[u8]) -> bool {
+    match BROUGHT.get(number) {
+        Some((_, want)) => text.starts_with(want) && (want.len() == 4 || text.len() == want.len()),
+        None => false,
     }
+}
+
+/// The number of the first peer that is told something else.
+fn first_other(told: &[Heard]) -> Option<usize> {
+    for (number, text) in told {
+        if !is_told_so(*number, text.as_slice()) {
+            return Some(*number);
+        }
+    }
+    None
+}
+
+/// How many peers are told something, and which is the first that is told something else than it has to be.
+fn answered(alloc: Global) -> Result<(usize, Option<usize>), Fail> {
+    let frames = brought_frames(alloc)?;
+    let told = told_to(alloc, frames.as_slice())?;
+    Ok((told.len(), first_other(told.as_slice())))
+}
+
+/// Peers that bring records: what isn't taken is refused, and the server's vector names what was.
+#[test]
+fn records_are_taken_as_the_settings_say(rt: HostRuntime) -> Result<(), Fail> {
+    assert_eq!(rt; answered(rt.alloc())?, (BROUGHT.len(), None));
     Ok(())
 }
 
@@ -149,58 +221,70 @@ fn count_of(text: &[u8], word: &[u8]) -> usize {
     found
 }
 
-/// One connection of the server.
-pub(crate) type Talk = Conversation<ListArchive, ConstantClock, Faults>;
-
-/// What a peer at the door is told for these bytes.
-fn answer_all(
-    alloc: Global,
-    world: &mut World<ListArchive, ConstantClock, Faults>,
-    text: &[u8],
-) -> Vec<u8> {
-    let origin = Origin {
+/// Where a peer comes from that comes to the door.
+pub(crate) fn of_a_peer() -> Origin {
+    Origin {
         listener: Door::Peers.listener(),
         address: None,
-    };
-    let stay = Stay {
-        party: Party::Accepted(origin),
-        began: world.now,
-        answered: 0,
-    };
-    let mut talk = Talk::begin(alloc, origin, world);
-    let mut out = Vec::new(alloc);
-    let _ = talk.receive(text, &mut out);
+    }
+}
+
+/// Answers what came on a connection, nine times at most.
+fn answer_turns<H: Handler>(talk: &mut H, stay: Stay, world: &mut H::World, out: &mut Vec<u8>) {
     for _ in 0..9 {
-        match talk.answer(stay, world, &mut out) {
+        match talk.answer(stay, world, out) {
             Progress::Answered => {}
-            Progress::NeedsMore | Progress::Ended(_) => return out,
+            Progress::NeedsMore | Progress::Ended(_) => return,
         }
     }
+}
+
+/// What a peer at the door is told for these bytes.
+fn answer_all<H: Handler>(alloc: Global, world: &mut H::World, text: &[u8]) -> Vec<u8> {
+    let origin = of_a_peer();
+    let mut out = Vec::new(alloc);
+    let mut talk = begun::<H>(alloc, world, origin, text, &mut out);
+    answer_turns(&mut talk, accepted(origin, 0), world, &mut out);
     out
 }
 
-/// What a server of these settings that holds so many of its own records tells a peer that brings these.
-fn told_by(
-    alloc: Global,
-    settings: &str,
-    held: usize,
-    frames: &[(usize, usize)],
-) -> Result<Vec<u8>, Fail> {
+/// One frame more, which brings so many of the server's own records behind so many.
+fn add_brought(alloc: Global, text: &mut Vec<u8>, behind: usize, all: usize) -> Result<(), Fail> {
+    let frame = brought_behind(alloc, OWN.get(..all).ok_or("so many")?, behind)?;
+    text.extend_from_slice(frame.as_slice())?;
+    Ok(())
+}
+
+/// The frames that bring these.
+fn all_brought(alloc: Global, frames: &[(usize, usize)]) -> Result<Vec<u8>, Fail> {
     let mut text = Vec::new(alloc);
-    for (behind, all) in frames {
-        let rows = OWN.get(..*all).ok_or("so many")?;
-        text.extend_from_slice(brought_behind(alloc, rows, *behind)?.as_slice())?;
+    for frame in frames {
+        let (behind, all) = *frame;
+        add_brought(alloc, &mut text, behind, all)?;
     }
+    Ok(text)
+}
+
+/// The archive of a server that holds so many of its own records.
+fn archive_with(alloc: Global, held: usize) -> Result<ListArchive, Fail> {
+    let rows = OWN.get(..held).ok_or("so many")?;
     let mut holder = replica(alloc, 1)?;
-    merge_rows(alloc, &mut holder, OWN.get(..held).ok_or("so many")?)?;
-    let mut world = World::new(
-        Server::new(alloc, Settings::read(alloc, settings)?, holder.archive),
-        clock(),
-        Faults {
-            told: Vec::new(alloc),
-        },
-    );
-    Ok(answer_all(alloc, &mut world, text.as_slice()))
+    merge_rows(alloc, &mut holder, rows)?;
+    Ok(holder.archive)
+}
+
+/// What a server of these settings that holds so many of its own records tells a peer that brings these frames.
+fn told_by(alloc: Global, settings: &str, held: usize, text: &[u8]) -> Result<Vec<u8>, Fail> {
+    let settings = Settings::read(alloc, settings)?;
+    let archive = archive_with(alloc, held)?;
+    let mut world = shared_over(alloc, settings, archive);
+    Ok(answer_all::<Talk<ListArchive>>(alloc, &mut world, text))
+}
+
+/// Whether a peer is told that so many frames were taken, and refused once or not at all.
+fn tells(told: &[u8], taken: usize, refused: bool) -> bool {
+    count_of(told, b"RXEF\x0c\0\0\0\x0a\0\0\0") == usize::from(refused)
+        && count_of(told, b"RXVF") == taken
 }
 
 /// Whether a server of these settings tells a peer what it has to, that brings what a row says: so many frames taken, and a refusal or
@@ -213,9 +297,9 @@ fn is_told(
     refused: bool,
 ) -> Result<bool, Fail> {
     let (held, frames, _, _) = *row;
-    let told = told_by(alloc, settings, held, frames)?;
-    let refusals = count_of(told.as_slice(), b"RXEF\x0c\0\0\0\x0a\0\0\0");
-    Ok(refusals == usize::from(refused) && count_of(told.as_slice(), b"RXVF") == taken)
+    let text = all_brought(alloc, frames)?;
+    let told = told_by(alloc, settings, held, text.as_slice())?;
+    Ok(tells(told.as_slice(), taken, refused))
 }
 
 /// Records of the server's own number come back to a store that holds none of them; beyond those that are held none are taken, but

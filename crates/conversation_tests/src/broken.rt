@@ -1,18 +1,11 @@
 //! A store that breaks ends what is served where the settings say so, and nowhere else.
 
+use crate::shared::{Shared, Talk, shared_over};
 use archive::{Archive, Failure, ScriptedArchive};
-use conversation::{Conversation, World};
-use historian::Server;
 use multiplex::Handler;
-use server_rows::network::Faults;
-use server_rows::plant::clock;
 use std::alloc::Global;
 use std::test::Fail;
-use ua_connection::ConstantClock;
 use ua_settings::Settings;
-
-/// One connection over a store that breaks.
-type Talk = Conversation<ScriptedArchive, ConstantClock, Faults>;
 
 /// A plant whose server ends once its store is broken, one that opens it anew, and one that goes on.
 const ENDS: &str =
@@ -24,20 +17,19 @@ const IS_OPENED_ANEW: &str =
 const GOES_ON: &str =
     "[archive]\nid = '00000000000000000000000000000000'\nreplica = 1\n[server]\nlisten = ''\nurl = ''\napplication = ''\nnamespace = ''\nanonymous = true\n";
 
-/// Whether nobody is served any more over a plant of these settings, before a call that fails so, and behind it.
+/// Whether nobody is served any more, before a call of the archive, and behind it.
+fn over_around_a_call<A: Archive>(world: &mut Shared<A>) -> (bool, bool) {
+    let before = Talk::is_over(world);
+    let _ = world.server.replica.archive.top();
+    (before, Talk::is_over(world))
+}
+
+/// The same over a plant of these settings, and a call that fails so.
 fn over_around(alloc: Global, text: &str, failure: Failure) -> Result<(bool, bool), Fail> {
     let settings = Settings::read(alloc, text)?;
     let archive = ScriptedArchive::new(alloc, settings.archive(), settings.replica(), 1, failure);
-    let mut world = World::new(
-        Server::new(alloc, settings, archive),
-        clock(),
-        Faults {
-            told: Vec::new(alloc),
-        },
-    );
-    let before = Talk::is_over(&world);
-    let _ = world.server.replica.archive.top();
-    Ok((before, Talk::is_over(&world)))
+    let mut world = shared_over(alloc, settings, archive);
+    Ok(over_around_a_call(&mut world))
 }
 
 #[test]

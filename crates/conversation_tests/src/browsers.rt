@@ -1,13 +1,15 @@
 //! Browsers beside clients and peers.
 
-use crate::scripts::{Caller, heard_by};
+use crate::scripts::{Caller, Heard, heard_in_plant};
 use conversation::Door;
-use server_rows::plant::plant;
 use std::alloc::Global;
 use std::test::Fail;
 
 /// What a browser says, and what its answer begins and ends by; nothing where it is waited for more.
-static ROWS: [(&str, &str, &str); 9] = [
+type Row = (&'static str, &'static str, &'static str);
+
+/// Browsers that come at once.
+static ROWS: [Row; 9] = [
     (
         "GET /status.json HTTP/1.1\r\nHost: a\r\n\r\n",
         "HTTP/1.1 200 OK\r\n",
@@ -62,20 +64,41 @@ fn browsers(alloc: Global, each: usize) -> Result<Vec<Caller<'static>>, Fail> {
     Ok(callers)
 }
 
+/// Whether this is the answer of a row.
+fn is_answer(row: &Row, read: &[u8]) -> bool {
+    let (_, begin, end) = *row;
+    read.starts_with(begin.as_bytes())
+        && read.ends_with(end.as_bytes())
+        && begin.is_empty() == read.is_empty()
+}
+
+/// What the first of the browsers said that read something else than the answer of its row.
+fn first_other(heard: &[Heard]) -> Option<&'static str> {
+    for (number, text) in heard {
+        match ROWS.get(*number) {
+            Some(row) => {
+                if !is_answer(row, text.as_slice()) {
+                    return Some(row.0);
+                }
+            }
+            None => return Some("no row"),
+        }
+    }
+    None
+}
+
+/// How many of the browsers are answered, and what the first of them said whose answer is another one, where each reads and
+/// writes so many bytes at a time.
+fn answered(alloc: Global, each: usize) -> Result<(usize, Option<&'static str>), Fail> {
+    let callers = browsers(alloc, each)?;
+    let heard = heard_in_plant(alloc, callers.as_slice(), None)?;
+    Ok((heard.len(), first_other(heard.as_slice())))
+}
+
 #[test]
 fn browsers_are_answered(rt: HostRuntime) -> Result<(), Fail> {
-    let alloc = rt.alloc();
     for each in [1, 7, 1000] {
-        let callers = browsers(alloc, each)?;
-        let heard = heard_by(alloc, plant(alloc)?, callers.as_slice(), None)?;
-        assert_eq!(rt; heard.len(), ROWS.len());
-        for (number, text) in heard.iter() {
-            let (said, begin, end) = ROWS.get(*number).ok_or("a row")?;
-            let read = text.as_slice();
-            assert!(rt; read.starts_with(begin.as_bytes()), "{said}");
-            assert!(rt; read.ends_with(end.as_bytes()), "{said}");
-            assert!(rt; begin.is_empty() == read.is_empty(), "{said}");
-        }
+        assert_eq!(rt; answered(rt.alloc(), each)?, (ROWS.len(), None), "{each}");
     }
     Ok(())
 }
@@ -114,19 +137,40 @@ static COUNTED: [(usize, &str); 3] = [
     ),
 ];
 
+/// Whether there is an answer, which ends so.
+fn ends_by(answer: Option<&Heard>, end: &str) -> bool {
+    match answer {
+        Some((_, text)) => text.as_slice().ends_with(end.as_bytes()),
+        None => false,
+    }
+}
+
+/// How many are answered where so many came before, and whether the first answer and the last one end so.
+fn counted(
+    alloc: Global,
+    silent: usize,
+    first: &str,
+    last: &str,
+) -> Result<(usize, bool, bool), Fail> {
+    let callers = waiting(alloc, silent)?;
+    let heard = heard_in_plant(alloc, callers.as_slice(), None)?;
+    Ok((
+        heard.len(),
+        ends_by(heard.first(), first),
+        ends_by(heard.last(), last),
+    ))
+}
+
 /// Connections are counted while they last: the first answer tells of all, the last one of itself.
 #[test]
 fn connections_are_counted(rt: HostRuntime) -> Result<(), Fail> {
-    let alloc = rt.alloc();
     let (_, alone) = COUNTED[0];
     for (silent, want) in &COUNTED {
-        let callers = waiting(alloc, *silent)?;
-        let heard = heard_by(alloc, plant(alloc)?, callers.as_slice(), None)?;
-        assert_eq!(rt; heard.len(), silent.saturating_add(1));
-        let (_, first) = heard.first().ok_or("an answer")?;
-        assert!(rt; first.as_slice().ends_with(want.as_bytes()), "{silent}");
-        let (_, last) = heard.last().ok_or("an answer")?;
-        assert!(rt; last.as_slice().ends_with(alone.as_bytes()), "{silent}");
+        assert_eq!(rt;
+            counted(rt.alloc(), *silent, want, alone)?,
+            (silent.saturating_add(1), true, true),
+            "{silent}"
+        );
     }
     Ok(())
 }

@@ -1,75 +1,68 @@
 //! The last calls of peers, as they end.
 
-use archive::ListArchive;
-use conversation::{Conversation, Ended, World};
+use crate::shared::{Shared, Talk, accepted, shared_over_nothing};
+use archive::Archive;
+use conversation::Ended;
 use counted_io::ServeFault;
 use exchange::ExchangeFault;
-use historian::Server;
 use multiplex::{Handler, Origin, Party, SlotEnd, Stay};
-use server_rows::network::Faults;
-use server_rows::plant::{archive_of, clock};
+use server_rows::plant::clock;
 use std::alloc::Global;
 use std::test::Fail;
-use ua_connection::ConstantClock;
 use ua_peers::PeerEnded;
 use ua_settings::Settings;
 use web_page::{CallCause, CallEnd, LastCalls};
-
-/// One connection of the plant.
-type Talk = Conversation<ListArchive, ConstantClock, Faults>;
-
-/// What connections share.
-type Shared = World<ListArchive, ConstantClock, Faults>;
 
 /// A plant that calls three peers.
 const PLANT: &str =
     "[archive]\nid = '00000000000000000000000000000000'\nreplica = 1\n[server]\nlisten = ''\nurl = ''\napplication = ''\nnamespace = ''\nanonymous = true\n[[peer]]\naddress = 'a'\nevery = 1\n[[peer]]\naddress = 'b'\nevery = 1\n[[peer]]\naddress = 'c'\nevery = 1\n";
 
-/// What connections of the plant share before the first of them.
-fn shared(alloc: Global) -> Result<Shared, Fail> {
-    let settings = Settings::read(alloc, PLANT)?;
-    let calls = LastCalls::new(alloc, settings.peers().as_slice())?;
-    let archive = archive_of(alloc, &settings);
-    let log = Faults {
-        told: Vec::new(alloc),
-    };
-    let mut world = World::new(Server::new(alloc, settings, archive), clock(), log);
+/// None of the peers was called yet.
+fn begin_calls<A>(alloc: Global, world: &mut Shared<A>) -> Result<(), Fail> {
+    let calls = LastCalls::new(alloc, world.server.settings.peers().as_slice())?;
     world.calls = calls;
-    Ok(world)
+    Ok(())
+}
+
+/// The peer of this number is called, and the connection ends so. Whether the call began.
+fn call<H: Handler>(
+    alloc: Global,
+    world: &mut H::World,
+    callee: usize,
+    end: SlotEnd<H::End>,
+) -> bool {
+    let stay = Stay {
+        party: Party::Called(callee),
+        began: 0,
+        answered: 0,
+    };
+    let mut out = Vec::new(alloc);
+    match H::call(alloc, callee, world, &mut out) {
+        Some(talk) => {
+            talk.close(stay, world, end);
+            true
+        }
+        None => false,
+    }
+}
+
+/// Somebody comes, and the connection ends so.
+fn come<H: Handler>(alloc: Global, world: &mut H::World, end: SlotEnd<H::End>) {
+    let origin = Origin {
+        listener: 0,
+        address: None,
+    };
+    H::begin(alloc, origin, world).close(accepted(origin, 0), world, end);
 }
 
 /// How a connection ends.
 type End = SlotEnd<Result<Ended, ServeFault>>;
 
-/// The peer of this number is called, and the connection ends so.
-fn call(alloc: Global, world: &mut Shared, callee: usize, end: End) -> Result<(), Fail> {
-    let mut out = Vec::new(alloc);
-    let talk = Talk::call(alloc, callee, world, &mut out).ok_or("a call")?;
-    let stay = Stay {
-        party: Party::Called(callee),
-        began: world.now,
-        answered: 0,
-    };
-    talk.close(stay, world, end);
-    Ok(())
-}
+/// A peer that is called, how that ends, and for which cause it ends so for pages.
+type Row = (usize, End, Option<CallCause>);
 
-/// Somebody comes, and the connection ends so.
-fn come(alloc: Global, world: &mut Shared, end: End) {
-    let origin = Origin {
-        listener: 0,
-        address: None,
-    };
-    let stay = Stay {
-        party: Party::Accepted(origin),
-        began: world.now,
-        answered: 0,
-    };
-    Talk::begin(alloc, origin, world).close(stay, world, end);
-}
-
-/// Which peer is called, how that ends, and for which cause it ends so for pages.
-static CALLS: [(usize, End, Option<CallCause>); 9] = [
+/// The calls, one after the other.
+static CALLS: [Row; 9] = [
     (1, SlotEnd::ReadFailed, Some(CallCause::Connection(1))),
     (0, SlotEnd::Finished(Ok(Ended::Peer(PeerEnded::Done))), None),
     (1, SlotEnd::WriteFailed, Some(CallCause::Connection(2))),
@@ -97,31 +90,66 @@ static CALLS: [(usize, End, Option<CallCause>); 9] = [
 type Ends = [Option<CallEnd>; 3];
 
 /// Whether these are the last calls of the three.
-fn are_last(world: &Shared, ends: &Ends) -> bool {
+fn are_last<A>(world: &Shared<A>, ends: &Ends) -> bool {
     let calls = world.calls.as_slice();
     calls.len() == 3 && calls.iter().zip(ends).all(|(call, end)| call.end == *end)
 }
 
+/// A call of a peer ended for this cause.
+fn note(ends: &mut Ends, callee: usize, cause: Option<CallCause>) {
+    if let Some(last) = ends.get_mut(callee) {
+        *last = Some(CallEnd {
+            at: clock().0,
+            cause,
+            learned: 0,
+            sent: 0,
+        });
+    }
+}
+
+/// Whether a call changes the entry of its peer, and that alone, and neither somebody who comes nor the call of a peer that isn't
+/// there changes any.
+fn changes_one<A: Archive>(
+    alloc: Global,
+    world: &mut Shared<A>,
+    ends: &mut Ends,
+    row: &Row,
+) -> bool {
+    let (callee, end, cause) = *row;
+    let called = call::<Talk<A>>(alloc, world, callee, end);
+    note(ends, callee, cause);
+    let changed = are_last(world, ends);
+    come::<Talk<A>>(alloc, world, end);
+    let other = call::<Talk<A>>(alloc, world, 3, end);
+    called && changed && other && are_last(world, ends)
+}
+
+/// The first call that changes something else; 0 where something stands before any, else from 1 on.
+fn first_other<A: Archive>(alloc: Global, world: &mut Shared<A>) -> Option<usize> {
+    let mut ends: Ends = [None, None, None];
+    if !are_last(world, &ends) {
+        return Some(0);
+    }
+    let mut number: usize = 1;
+    for row in &CALLS {
+        if !changes_one(alloc, world, &mut ends, row) {
+            return Some(number);
+        }
+        number = number.saturating_add(1);
+    }
+    None
+}
+
+/// The same of connections of the plant.
+fn first_other_of_the_plant(alloc: Global) -> Result<Option<usize>, Fail> {
+    let settings = Settings::read(alloc, PLANT)?;
+    let mut world = shared_over_nothing(alloc, settings);
+    begin_calls(alloc, &mut world)?;
+    Ok(first_other(alloc, &mut world))
+}
+
 #[test]
 fn a_call_that_ends_changes_its_entry_alone(rt: HostRuntime) -> Result<(), Fail> {
-    let alloc = rt.alloc();
-    let mut world = shared(alloc)?;
-    let mut ends: Ends = [None, None, None];
-    assert!(rt; are_last(&world, &ends));
-    for (callee, end, cause) in &CALLS {
-        call(alloc, &mut world, *callee, *end)?;
-        if let Some(last) = ends.get_mut(*callee) {
-            *last = Some(CallEnd {
-                at: clock().0,
-                cause: *cause,
-                learned: 0,
-                sent: 0,
-            });
-        }
-        assert!(rt; are_last(&world, &ends), "{callee}");
-        come(alloc, &mut world, *end);
-        call(alloc, &mut world, 3, *end)?;
-        assert!(rt; are_last(&world, &ends), "{callee}");
-    }
+    assert_eq!(rt; first_other_of_the_plant(rt.alloc())?, None);
     Ok(())
 }

@@ -1,8 +1,7 @@
 //! Clients and peers at once, each of whom is told what it would be told alone at its door.
 
-use crate::scripts::{Caller, heard_by};
+use crate::scripts::{Caller, Heard, heard_in_plant};
 use conversation::Door;
-use server_rows::plant::plant;
 use server_rows::streams::{ACK, ANSWER, BEGIN, BEGUN, HELLO, OPEN, OPENED, REQUEST, bytes_of};
 use std::alloc::Global;
 use std::test::Fail;
@@ -92,7 +91,7 @@ fn door_of(number: usize) -> Door {
 }
 
 /// Whether the caller of a number read this, and its connection was closed.
-fn has_heard(heard: &[(usize, Vec<u8>)], number: usize, text: &[u8]) -> bool {
+fn has_heard(heard: &[Heard], number: usize, text: &[u8]) -> bool {
     for (other, read) in heard {
         if *other == number {
             return read.as_slice() == text;
@@ -101,9 +100,13 @@ fn has_heard(heard: &[(usize, Vec<u8>)], number: usize, text: &[u8]) -> bool {
     false
 }
 
-/// Whether all are told so at once, where each reads and writes so many bytes at a time, and a later one waits longer.
-fn are_told(alloc: Global, each: usize, pace: usize) -> Result<bool, Fail> {
-    let texts = written(alloc)?;
+/// Who writes these texts, so many bytes at a time, and a later one waits longer.
+fn callers_of<'a>(
+    alloc: Global,
+    texts: &'a [Vec<u8>],
+    each: usize,
+    pace: usize,
+) -> Result<Vec<Caller<'a>>, Fail> {
     let mut callers = Vec::new(alloc);
     for (number, text) in texts.iter().enumerate() {
         callers.push(Caller {
@@ -114,14 +117,36 @@ fn are_told(alloc: Global, each: usize, pace: usize) -> Result<bool, Fail> {
             pace: number.saturating_mul(pace).saturating_add(1),
         })?;
     }
-    let heard = heard_by(alloc, plant(alloc)?, callers.as_slice(), None)?;
+    Ok(callers)
+}
+
+/// What each of them is told at once.
+fn heard_at(
+    alloc: Global,
+    texts: &[Vec<u8>],
+    each: usize,
+    pace: usize,
+) -> Result<Vec<Heard>, Fail> {
+    let callers = callers_of(alloc, texts, each, pace)?;
+    heard_in_plant(alloc, callers.as_slice(), None)
+}
+
+/// Whether all read what they are to be told.
+fn have_heard(alloc: Global, heard: &[Heard]) -> Result<bool, Fail> {
     let wanted = told(alloc)?;
     for (number, text) in wanted.iter().enumerate() {
-        if !has_heard(heard.as_slice(), number, text.as_slice()) {
+        if !has_heard(heard, number, text.as_slice()) {
             return Ok(false);
         }
     }
     Ok(true)
+}
+
+/// Whether all are told so at once, where each reads and writes so many bytes at a time, and a later one waits longer.
+fn are_told(alloc: Global, each: usize, pace: usize) -> Result<bool, Fail> {
+    let texts = written(alloc)?;
+    let heard = heard_at(alloc, texts.as_slice(), each, pace)?;
+    have_heard(alloc, heard.as_slice())
 }
 
 #[test]

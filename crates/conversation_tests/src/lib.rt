@@ -18,4 +18,6 @@ mod pieces;
 #[cfg(test)]
 mod scripts;
 #[cfg(test)]
+mod shared;
+#[cfg(test)]
 mod strangers;

@@ -1,23 +1,14 @@
 //! Logins that wait, since many were refused before them.
 
+use crate::shared::{Shared, Talk, accepted, begun, shared_over_nothing};
 use archive::ListArchive;
-use conversation::{Conversation, Logins, World};
-use historian::Server;
-use multiplex::{Handler, Origin, Party, Stay};
-use server_rows::network::Faults;
-use server_rows::plant::{archive_of, clock};
+use conversation::Logins;
+use multiplex::{Handler, Origin, Stay};
 use server_rows::streams::{BEGIN, HELLO, OPEN, bytes_of};
 use std::alloc::Global;
 use std::net::SocketAddr;
 use std::test::Fail;
-use ua_connection::ConstantClock;
 use ua_settings::Settings;
-
-/// One connection of the plant.
-type Talk = Conversation<ListArchive, ConstantClock, Faults>;
-
-/// What connections share.
-type Shared = World<ListArchive, ConstantClock, Faults>;
 
 /// A plant that lets anybody in, and where two logins may be refused.
 const PLANT: &str =
@@ -27,45 +18,54 @@ const PLANT: &str =
 const STRANGE: &str =
     "4D53474656000000010000000100000003000000030000000100D3010101050000000000000000000300000000000000FFFFFFFF00000000000000FFFFFFFFFFFFFFFFFFFFFFFFFFFFFFFF000000FFFFFFFFFFFFFFFF";
 
-/// What connections of a plant share that keeps so many refused logins.
-fn shared(alloc: Global, kept: usize) -> Result<Shared, Fail> {
-    let settings = Settings::read(alloc, PLANT)?;
-    let archive = archive_of(alloc, &settings);
-    let log = Faults {
-        told: Vec::new(alloc),
-    };
-    let mut world = World::new(Server::new(alloc, settings, archive), clock(), log);
-    world.logins = Logins::new(alloc, kept)?;
-    Ok(world)
+/// So many refused logins are kept.
+fn keep_logins<A>(alloc: Global, world: &mut Shared<A>, kept: usize) -> Result<(), Fail> {
+    let logins = Logins::new(alloc, kept)?;
+    world.logins = logins;
+    Ok(())
 }
 
-/// How long each answer waits that a client from here is given who brings these bytes, and then the last one of a message more.
-fn waits(alloc: Global, world: &mut Shared, from: &str, last: &str) -> Result<(u64, u64), Fail> {
-    let origin = Origin {
-        listener: 0,
-        address: from.parse::<SocketAddr>().ok(),
-    };
-    let text = bytes_of(alloc, &[HELLO, OPEN, BEGIN[0], last])?;
-    let mut out = Vec::new(alloc);
-    let mut talk = Talk::begin(alloc, origin, world);
-    let _ = talk.receive(text.as_slice(), &mut out);
-    let mut stay = Stay {
-        party: Party::Accepted(origin),
-        began: world.now,
-        answered: 0,
-    };
+/// How long each answer of a connection waits, of three messages together, and of the one behind them.
+fn waits_of<H: Handler>(
+    talk: &mut H,
+    stay: Stay,
+    world: &mut H::World,
+    out: &mut Vec<u8>,
+) -> (u64, u64) {
+    let mut stay = stay;
     let mut before: u64 = 0;
     for _ in 0..3 {
-        let _ = talk.answer(stay, world, &mut out);
+        let _ = talk.answer(stay, world, out);
         before = before.saturating_add(talk.delay(stay, world));
         stay.answered = stay.answered.saturating_add(1);
     }
-    let _ = talk.answer(stay, world, &mut out);
-    Ok((before, talk.delay(stay, world)))
+    let _ = talk.answer(stay, world, out);
+    (before, talk.delay(stay, world))
+}
+
+/// The same of a client from there who comes at this time, and brings these bytes.
+fn waits<H: Handler>(
+    alloc: Global,
+    world: &mut H::World,
+    now: u64,
+    from: Option<SocketAddr>,
+    text: &[u8],
+) -> (u64, u64) {
+    let origin = Origin {
+        listener: 0,
+        address: from,
+    };
+    H::pass(world, now, 0);
+    let mut out = Vec::new(alloc);
+    let mut talk = begun::<H>(alloc, world, origin, text, &mut out);
+    waits_of(&mut talk, accepted(origin, now), world, &mut out)
 }
 
 /// When somebody comes, from where, whether its login is refused, and how long its answer waits.
-static LOGINS: [(u64, &str, bool, u64); 14] = [
+type Login = (u64, &'static str, bool, u64);
+
+/// Logins, one after the other.
+static LOGINS: [Login; 14] = [
     (0, "192.0.2.1:1", true, 0),
     (10, "192.0.2.1:2", false, 0),
     (20, "192.0.2.1:3", true, 0),
@@ -82,33 +82,58 @@ static LOGINS: [(u64, &str, bool, u64); 14] = [
     (120_000, "[2001:db8::1]:4", false, 0),
 ];
 
-/// How long the answers of these logins wait where so many refused ones are kept, and those before them.
-fn waited(alloc: Global, kept: usize) -> Result<Vec<(u64, u64)>, Fail> {
-    let mut world = shared(alloc, kept)?;
+/// How long the answers of a login wait.
+fn login<H: Handler>(alloc: Global, world: &mut H::World, row: &Login) -> Result<(u64, u64), Fail> {
+    let (now, from, refused, _) = *row;
+    let last = if refused { STRANGE } else { BEGIN[1] };
+    let text = bytes_of(alloc, &[HELLO, OPEN, BEGIN[0], last])?;
+    let from = from.parse::<SocketAddr>().ok();
+    Ok(waits::<H>(alloc, world, now, from, text.as_slice()))
+}
+
+/// How long the answers of these logins wait, one after the other.
+fn waits_in_turn<H: Handler>(alloc: Global, world: &mut H::World) -> Result<Vec<(u64, u64)>, Fail> {
     let mut all = Vec::new(alloc);
-    for (now, from, refused, _) in &LOGINS {
-        Talk::pass(&mut world, *now, 0);
-        let last = if *refused { STRANGE } else { BEGIN[1] };
-        all.push(waits(alloc, &mut world, from, last)?)?;
+    for row in &LOGINS {
+        all.push(login::<H>(alloc, world, row)?)?;
     }
     Ok(all)
 }
 
+/// The same over a plant, where so many refused ones are kept, and those before them.
+fn waited(alloc: Global, kept: usize) -> Result<Vec<(u64, u64)>, Fail> {
+    let settings = Settings::read(alloc, PLANT)?;
+    let mut world = shared_over_nothing(alloc, settings);
+    keep_logins(alloc, &mut world, kept)?;
+    waits_in_turn::<Talk<ListArchive>>(alloc, &mut world)
+}
+
+/// Where the first comes from whose answers wait otherwise, where so many refused logins are kept.
+fn first_other(alloc: Global, kept: usize) -> Result<Option<&'static str>, Fail> {
+    let all = waited(alloc, kept)?;
+    for (row, waits) in LOGINS.iter().zip(all.as_slice()) {
+        let (_, from, _, want) = *row;
+        if *waits != (0, want) {
+            return Ok(Some(from));
+        }
+    }
+    Ok(None)
+}
+
 #[test]
 fn a_login_waits_where_two_were_refused_from_there(rt: HostRuntime) -> Result<(), Fail> {
-    let alloc = rt.alloc();
-    let all = waited(alloc, 1_000)?;
-    for ((_, from, _, want), (before, last)) in LOGINS.iter().zip(all.as_slice()) {
-        assert_eq!(rt; *before, 0, "{from}");
-        assert_eq!(rt; last, want, "{from}");
-    }
+    assert_eq!(rt; first_other(rt.alloc(), 1_000)?, None);
     Ok(())
+}
+
+/// Whether no answer waits where so many refused logins are kept.
+fn none_waits(alloc: Global, kept: usize) -> Result<bool, Fail> {
+    let all = waited(alloc, kept)?;
+    Ok(all.iter().all(|waits| *waits == (0, 0)))
 }
 
 #[test]
 fn none_waits_where_fewer_are_kept_than_may_be_refused(rt: HostRuntime) -> Result<(), Fail> {
-    let alloc = rt.alloc();
-    let all = waited(alloc, 1)?;
-    assert!(rt; all.iter().all(|waits| *waits == (0, 0)));
+    assert!(rt; none_waits(rt.alloc(), 1)?);
     Ok(())
 }

@@ -1,20 +1,17 @@
 //! Connections that a script gives over one server: what callers write, in which pieces, and what each of them reads.
 
+use crate::shared::{Shared, Talk, shared_over_nothing};
 use archive::ListArchive;
-use conversation::{Conversation, Door, Ended, Network, World};
-use counted_io::ServeFault;
-use historian::Server;
+use conversation::{Door, Network};
 use multiplex::{
-    Arrival, Call, Limits, NonBlockingRead, NonBlockingWrite, Origin, ReadAttempt, Slot, Source,
-    WriteAttempt, serve,
+    Arrival, Call, Handler, Limits, NonBlockingRead, NonBlockingWrite, Origin, ReadAttempt, Slot,
+    Source, WriteAttempt, serve,
 };
-use server_rows::network::Faults;
-use server_rows::plant::{archive_of, clock};
+use server_rows::plant::plant;
 use std::alloc::Global;
 use std::net::SocketAddr;
 use std::test::Fail;
 use ua_binary::Listing;
-use ua_connection::ConstantClock;
 use ua_settings::Settings;
 
 /// Who calls, where, and what it writes.
@@ -87,6 +84,9 @@ impl NonBlockingWrite for Ear {
     }
 }
 
+/// The number of a caller, and what it read.
+pub type Heard = (usize, Vec<u8>);
+
 /// A script: its callers come at once, in their order.
 #[derive(Drop)]
 struct Script<'a> {
@@ -95,7 +95,25 @@ struct Script<'a> {
     next: usize,
     clock: u64,
     /// What each caller whose connection was closed had read, with its number.
-    closed: Vec<(usize, Vec<u8>)>,
+    closed: Vec<Heard>,
+}
+
+impl<'a> Script<'a> {
+    /// None of these callers came yet.
+    fn new(alloc: Global, callers: &'a [Caller<'a>]) -> Self {
+        Script {
+            alloc,
+            callers,
+            next: 0,
+            clock: 0,
+            closed: Vec::new(alloc),
+        }
+    }
+
+    /// What the callers had read.
+    fn into_closed(self) -> Vec<Heard> {
+        self.closed
+    }
 }
 
 impl<'a> Source for Script<'a> {
@@ -166,45 +184,49 @@ impl<'a> Source for Script<'a> {
     }
 }
 
-/// One connection of the plant.
-type Talk = Conversation<ListArchive, ConstantClock, Faults>;
+/// Peers are taken from these networks at a door of their own.
+fn take_from<A>(world: &mut Shared<A>, from: Option<Listing<Network>>) {
+    world.from = from;
+}
+
+/// Serves the callers of a script, twenty of them at a time.
+fn serve_script<'a, H: Handler>(source: &mut Script<'a>, world: &mut H::World) -> Result<(), Fail> {
+    let alloc = source.alloc;
+    let limits = Limits {
+        connections: Some(source.callers.len() as u64),
+        accept_slots: 20,
+        waiting_bytes: 1_000_000,
+        rounds: 1_000_000,
+    };
+    let mut slots: Vec<Option<Slot<H, Mouth<'a>, Ear, H::End>>> = Vec::new(alloc);
+    for _ in 0..20 {
+        slots.push(None)?;
+    }
+    let _ = serve::<Script<'a>, H>(alloc, source, world, slots.as_mut_slice(), limits);
+    Ok(())
+}
 
 /// What each of these callers reads of a server of these settings that holds nothing, and takes peers from these networks at a
-/// door of their own, with its number, in the order of their ends. Twenty of them are served at a time.
+/// door of their own, with its number, in the order of their ends.
 pub fn heard_by(
     alloc: Global,
     settings: Settings,
     callers: &[Caller<'_>],
     from: Option<Listing<Network>>,
-) -> Result<Vec<(usize, Vec<u8>)>, Fail> {
-    let archive = archive_of(alloc, &settings);
-    let mut world = World::new(
-        Server::new(alloc, settings, archive),
-        clock(),
-        Faults {
-            told: Vec::new(alloc),
-        },
-    );
-    world.from = from;
-    let mut source = Script {
-        alloc,
-        callers,
-        next: 0,
-        clock: 0,
-        closed: Vec::new(alloc),
-    };
-    let mut slots: Vec<Option<Slot<Talk, Mouth<'_>, Ear, Result<Ended, ServeFault>>>> = Vec::new(
-        alloc,
-    );
-    for _ in 0..20 {
-        slots.push(None)?;
-    }
-    let limits = Limits {
-        connections: Some(callers.len() as u64),
-        accept_slots: 20,
-        waiting_bytes: 1_000_000,
-        rounds: 1_000_000,
-    };
-    let _ = serve::<Script<'_>, Talk>(alloc, &mut source, &mut world, slots.as_mut_slice(), limits);
-    Ok(source.closed)
+) -> Result<Vec<Heard>, Fail> {
+    let mut source = Script::new(alloc, callers);
+    let mut world = shared_over_nothing(alloc, settings);
+    take_from(&mut world, from);
+    serve_script::<Talk<ListArchive>>(&mut source, &mut world)?;
+    Ok(source.into_closed())
+}
+
+/// The same of the plant.
+pub fn heard_in_plant(
+    alloc: Global,
+    callers: &[Caller<'_>],
+    from: Option<Listing<Network>>,
+) -> Result<Vec<Heard>, Fail> {
+    let settings = plant(alloc)?;
+    heard_by(alloc, settings, callers, from)
 }

@@ -1,9 +1,8 @@
 //! From where peers are taken at a door of their own.
 
 use crate::conversations::{ASKED, NOTHING};
-use crate::scripts::{Caller, heard_by};
+use crate::scripts::{Caller, Heard, heard_in_plant};
 use conversation::{Door, Network};
-use server_rows::plant::plant;
 use server_rows::streams::bytes_of;
 use std::alloc::Global;
 use std::net::{IpAddr, SocketAddr};
@@ -52,14 +51,19 @@ static NONE: [&str; 12] = [
     "plant",
 ];
 
+/// Whether a network has an address; none where either is none.
+fn has(network: &str, address: &str) -> Option<bool> {
+    let network = Network::parse(network)?;
+    match address.parse::<IpAddr>() {
+        Ok(address) => Some(network.has(address)),
+        Err(_) => None,
+    }
+}
+
 #[test]
 fn networks_have_their_addresses(rt: HostRuntime) -> Result<(), Fail> {
-    for (text, address, has) in &ROWS {
-        let network = Network::parse(text).ok_or("a network")?;
-        let Ok(address) = address.parse::<IpAddr>() else {
-            return Err(Fail::from("an address"));
-        };
-        assert_eq!(rt; network.has(address), *has, "{text} {address}");
+    for (text, address, want) in &ROWS {
+        assert_eq!(rt; has(text, address), Some(*want), "{text} {address}");
     }
     for text in &NONE {
         assert!(rt; Network::parse(text).is_none(), "{text}");
@@ -98,22 +102,45 @@ fn networks(alloc: Global, texts: &[&str]) -> Result<Listing<Network>, Fail> {
     Ok(Listing::of(networks))
 }
 
+/// What they read, where peers are taken from two networks.
+fn heard(alloc: Global) -> Result<Vec<Heard>, Fail> {
+    let asked = bytes_of(alloc, &[ASKED])?;
+    let callers = comers(asked.as_slice());
+    let from = networks(alloc, &["10.1.0.0/16", "fd00::/8"])?;
+    heard_in_plant(alloc, &callers, Some(from))
+}
+
+/// Whether this answers who has this number, or nothing does that isn't taken.
+fn is_answer(number: usize, text: &[u8], answer: &[u8]) -> bool {
+    match COMERS.get(number) {
+        Some((_, _, true)) => text == answer,
+        Some((_, _, false)) | None => text.is_empty(),
+    }
+}
+
+/// The number of the first who reads something else.
+fn first_other(heard: &[Heard], answer: &[u8]) -> Option<usize> {
+    for (number, text) in heard {
+        if !is_answer(*number, text.as_slice(), answer) {
+            return Some(*number);
+        }
+    }
+    None
+}
+
+/// How many of them read something or nothing, and which is the first that reads something else than it should.
+fn answered(alloc: Global) -> Result<(usize, Option<usize>), Fail> {
+    let answer = bytes_of(alloc, &[NOTHING])?;
+    let heard = heard(alloc)?;
+    Ok((
+        heard.len(),
+        first_other(heard.as_slice(), answer.as_slice()),
+    ))
+}
+
 /// A stranger at the door of peers is told nothing, and at the other doors it makes no difference where one comes from.
 #[test]
 fn strangers_are_turned_away(rt: HostRuntime) -> Result<(), Fail> {
-    let alloc = rt.alloc();
-    let asked = bytes_of(alloc, &[ASKED])?;
-    let answer = bytes_of(alloc, &[NOTHING])?;
-    let callers = comers(asked.as_slice());
-    let from = networks(alloc, &["10.1.0.0/16", "fd00::/8"])?;
-    let heard = heard_by(alloc, plant(alloc)?, &callers, Some(from))?;
-    assert_eq!(rt; heard.len(), COMERS.len());
-    for (number, text) in heard.iter() {
-        let is_taken = COMERS
-            .get(*number)
-            .is_some_and(|(_, _, is_taken)| *is_taken);
-        let want = if is_taken { answer.as_slice() } else { b"" };
-        assert_eq!(rt; text.as_slice(), want, "{number}");
-    }
+    assert_eq!(rt; answered(rt.alloc())?, (COMERS.len(), None));
     Ok(())
 }

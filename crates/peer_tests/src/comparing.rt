@@ -1,19 +1,16 @@
 //! A peer that is called, and compared with before.
 
-ghost use Rattle.std.specs.Prelude.{IsTrue};
-ghost use Rattle.records.specs.Spelling.{IsLawfulRecord};
-
-use crate::peers::{answered, replica};
-use archive::{Archive, ListArchive};
+use crate::peers::{answered, insert_of, learn, replica};
+use archive::Archive;
 use exchange::{ExchangeFault, Replica};
 use peer_check::{Clash, Extent, compare};
-use records::{HistoryUpdateType, Moment, Record};
 use stamp::ReplicaNo;
 use std::alloc::Global;
+use std::io::{Read, Write};
 use std::test::Fail;
-use ua_binary::{Bytes, NodeId, Text};
+use ua_binary::{Bytes, Text};
 use ua_server::{Counted, SyncFault};
-use ua_variant::{DataValue, Scalar, Variant};
+use ua_variant::Scalar;
 
 /// The size of a value of which one fills half of a frame.
 const LARGE: usize = 1_048_000;
@@ -54,44 +51,33 @@ static PAIRS: [Pair; 10] = [
     (&[], &["ben"], Extent::All, 2, 0),
 ];
 
-fn is_lawful(held: &Record) -> bool
-    ensures { IsTrue result → IsLawfulRecord held.now }
-{
-    held.is_lawful()
+/// A value of so many bytes.
+fn value_of(alloc: Global, size: usize) -> Result<Scalar, Fail> {
+    let bytes = Bytes::new(vec![in alloc; 0; size]?);
+    Ok(Scalar::ByteString(Some(bytes)))
 }
 
-/// A record, made by a user; its value is so many bytes.
-fn made_by(
+/// An archive learns a record of another replica by its name, made by a user; its value is so many bytes.
+fn hold_one<A: Archive>(
     alloc: Global,
-    origin: ReplicaNo,
-    number: u64,
+    archive: &mut A,
+    name: (ReplicaNo, u64),
     user: &str,
     size: usize,
-) -> Result<Record, Fail> {
-    let bytes = Bytes::new(vec![in alloc; 0; size]?);
-    Ok(Record {
-        origin,
-        number,
-        tick: 100i64.saturating_add_unsigned(number),
-        node: NodeId::Named(1, Text::from_str(alloc, "T")?),
-        time: Moment::at(10),
-        asked: HistoryUpdateType::Insert,
-        user: Text::from_str(alloc, user)?,
-        value: DataValue {
-            value: Some(Variant::Scalar(Scalar::ByteString(Some(bytes)))),
-            status: None,
-            source_time: None,
-            source_pico: None,
-            server_time: None,
-            server_pico: None,
-        },
-    })
+) -> Result<(), Fail> {
+    let (origin, number) = name;
+    let stamp = (origin, number, 100i64.saturating_add_unsigned(number));
+    let node = Text::from_str(alloc, "T")?;
+    let user = Text::from_str(alloc, user)?;
+    let written = value_of(alloc, size)?;
+    let record = insert_of(stamp, node, user, written);
+    learn(archive, &record)
 }
 
 /// Lets a replica hold the records of another one from the first on, each made by one of these users and of so many bytes.
-fn hold(
+fn hold<A: Archive>(
     alloc: Global,
-    held: &mut Replica<ListArchive>,
+    held: &mut Replica<A>,
     origin: u8,
     users: &[&str],
     size: usize,
@@ -99,62 +85,85 @@ fn hold(
     let origin = ReplicaNo::new(origin).ok_or("a replica")?;
     let mut number: u64 = 1;
     for user in users {
-        let record = made_by(alloc, origin, number, user, size)?;
-        if is_lawful(&record) {
-            held.archive.learn(&record)?;
-        }
+        hold_one(alloc, &mut held.archive, (origin, number), user, size)?;
         number = number.saturating_add(1);
     }
     Ok(())
 }
 
-/// A replica that holds records of replica 3, made by these users.
-fn holding(alloc: Global, number: u8, users: &[&str]) -> Result<Replica<ListArchive>, Fail> {
-    let mut held = replica(alloc, number)?;
-    hold(alloc, &mut held, 3, users, 4)?;
-    Ok(held)
+/// Lets a replica hold records of replica 3, made by these users.
+fn hold_some<A: Archive>(alloc: Global, held: &mut Replica<A>, users: &[&str]) -> Result<(), Fail> {
+    hold(alloc, held, 3, users, 4)
 }
 
-/// What replica 1 writes that is compared with a peer which sent these bytes, and what is found.
-fn compared(
-    alloc: Global,
-    one: &mut Replica<ListArchive>,
-    extent: Extent,
-    bytes: &[u8],
-) -> (Vec<u8>, Result<Option<Clash>, SyncFault>) {
-    let mut reader = Counted::new(bytes);
-    let mut writer = Counted::new(Vec::new(alloc));
-    let result = compare(alloc, one, extent, &mut reader, &mut writer);
-    (writer.into_inner(), result)
-}
+/// What a comparison finds: the number of the record in which there is a clash, and whether it is of a record of ann with one
+/// of ben.
+type Found = Result<Option<(u64, bool)>, SyncFault>;
 
 /// Whether a clash is of records of these users.
 fn is_between(clash: &Clash, here: &str, there: &str) -> bool {
     clash.held.user.as_str() == here && clash.brought.user.as_str() == there
 }
 
-/// Whether a comparison ended since the input was over.
-fn is_unanswered(found: &Result<Option<Clash>, SyncFault>) -> bool {
+/// What was found, without the records.
+fn found_of(found: &Result<Option<Clash>, SyncFault>) -> Found {
     match found {
-        Err(SyncFault::Exchange(fault)) => *fault == ExchangeFault::Frame,
-        _ => false,
+        Ok(None) => Ok(None),
+        Ok(Some(clash)) => Ok(Some((clash.held.number, is_between(clash, "ann", "ben")))),
+        Err(fault) => Err(*fault),
     }
 }
 
-/// What comparing with a replica finds that answers each question, and how many were asked.
-fn found_with(
+/// What a replica finds that is compared with a peer.
+fn found_by<A: Archive, R: Read, W: Write>(
     alloc: Global,
-    one: &mut Replica<ListArchive>,
+    one: &mut Replica<A>,
     extent: Extent,
-    two: &mut Replica<ListArchive>,
-) -> (usize, Result<Option<Clash>, SyncFault>) {
+    reader: &mut Counted<R>,
+    writer: &mut Counted<W>,
+) -> Found {
+    let found = compare(alloc, one, extent, reader, writer);
+    found_of(&found)
+}
+
+/// What replica 1 writes that is compared with a peer which sent these bytes, and what is found.
+fn compared<A: Archive>(
+    alloc: Global,
+    one: &mut Replica<A>,
+    extent: Extent,
+    bytes: &[u8],
+) -> (Vec<u8>, Found) {
+    let mut reader = Counted::new(bytes);
+    let mut writer = Counted::new(Vec::new(alloc));
+    let found = found_by(alloc, one, extent, &mut reader, &mut writer);
+    (writer.into_inner(), found)
+}
+
+/// The same where the peer is a replica that answers these questions.
+fn compared_with<A: Archive>(
+    alloc: Global,
+    one: &mut Replica<A>,
+    extent: Extent,
+    two: &mut Replica<A>,
+    questions: &[u8],
+) -> (Vec<u8>, Found) {
+    let back = answered(alloc, two, questions);
+    compared(alloc, one, extent, back.as_slice())
+}
+
+/// What comparing with a replica finds that answers each question, and how many were asked.
+fn found_with<A: Archive>(
+    alloc: Global,
+    one: &mut Replica<A>,
+    extent: Extent,
+    two: &mut Replica<A>,
+) -> (usize, Found) {
     let (mut questions, mut found) = compared(alloc, one, extent, &[]);
     for asked in 1..8 {
-        if !is_unanswered(&found) {
+        if found != Err(SyncFault::Exchange(ExchangeFault::Frame)) {
             return (asked, found);
         }
-        let back = answered(alloc, two, questions.as_slice());
-        let (more, then) = compared(alloc, one, extent, back.as_slice());
+        let (more, then) = compared_with(alloc, one, extent, two, questions.as_slice());
         if more.len() == questions.len() {
             return (asked, then);
         }
@@ -164,22 +173,33 @@ fn found_with(
     (8, found)
 }
 
-/// Whether what was found is a clash in the record of this number, or none for 0.
-fn is_clash_in(found: &Result<Option<Clash>, SyncFault>, number: u64) -> bool {
-    match found {
-        Ok(None) => number == 0,
-        Ok(Some(clash)) => clash.held.number == number && is_between(clash, "ann", "ben"),
-        Err(_) => false,
+/// What should be found: a clash of ann and ben in the record of this number, or none for 0.
+fn clash_in(number: u64) -> Found {
+    if number == 0 {
+        Ok(None)
+    } else {
+        Ok(Some((number, true)))
     }
 }
 
 /// Whether comparing a pair finds what it should behind so many questions.
-fn finds(alloc: Global, pair: &Pair) -> Result<bool, Fail> {
+fn finds_between<A: Archive>(
+    alloc: Global,
+    one: &mut Replica<A>,
+    two: &mut Replica<A>,
+    pair: &Pair,
+) -> Result<bool, Fail> {
     let (here, there, extent, most, number) = *pair;
-    let mut one = holding(alloc, 1, here)?;
-    let mut two = holding(alloc, 2, there)?;
-    let (asked, found) = found_with(alloc, &mut one, extent, &mut two);
-    Ok(is_clash_in(&found, number) && asked == most)
+    hold_some(alloc, one, here)?;
+    hold_some(alloc, two, there)?;
+    Ok(found_with(alloc, one, extent, two) == (most, clash_in(number)))
+}
+
+/// The same of replicas 1 and 2.
+fn finds(alloc: Global, pair: &Pair) -> Result<bool, Fail> {
+    let mut one = replica(alloc, 1)?;
+    let mut two = replica(alloc, 2)?;
+    finds_between(alloc, &mut one, &mut two, pair)
 }
 
 #[test]
@@ -191,19 +211,31 @@ fn numbers_given_twice_are_found(rt: HostRuntime) -> Result<(), Fail> {
 }
 
 /// Whether a clash behind more records of another replica than a frame takes is found behind so many questions.
-fn finds_behind_full_frames(alloc: Global, extent: Extent, most: usize) -> Result<bool, Fail> {
-    let mut one = holding(alloc, 1, &["ann"])?;
-    let mut two = holding(alloc, 2, &["ben"])?;
-    hold(alloc, &mut one, 2, &["eve"], LARGE)?;
-    hold(alloc, &mut two, 2, &["eve", "eve", "eve"], LARGE)?;
-    let (asked, found) = found_with(alloc, &mut one, extent, &mut two);
-    Ok(is_clash_in(&found, 1) && asked == most)
+fn finds_behind_full_frames<A: Archive>(
+    alloc: Global,
+    one: &mut Replica<A>,
+    two: &mut Replica<A>,
+    extent: Extent,
+    most: usize,
+) -> Result<bool, Fail> {
+    hold_some(alloc, one, &["ann"])?;
+    hold_some(alloc, two, &["ben"])?;
+    hold(alloc, one, 2, &["eve"], LARGE)?;
+    hold(alloc, two, 2, &["eve", "eve", "eve"], LARGE)?;
+    Ok(found_with(alloc, one, extent, two) == (most, clash_in(1)))
+}
+
+/// The same of replicas 1 and 2.
+fn finds_behind(alloc: Global, extent: Extent, most: usize) -> Result<bool, Fail> {
+    let mut one = replica(alloc, 1)?;
+    let mut two = replica(alloc, 2)?;
+    finds_behind_full_frames(alloc, &mut one, &mut two, extent, most)
 }
 
 #[test]
 fn numbers_behind_a_full_frame_are_found(rt: HostRuntime) -> Result<(), Fail> {
-    assert!(rt; finds_behind_full_frames(rt.alloc(), Extent::Last, 3)?);
-    assert!(rt; finds_behind_full_frames(rt.alloc(), Extent::All, 3)?);
+    assert!(rt; finds_behind(rt.alloc(), Extent::Last, 3)?);
+    assert!(rt; finds_behind(rt.alloc(), Extent::All, 3)?);
     Ok(())
 }
 
@@ -221,16 +253,27 @@ static ENDINGS: [(&[u8], SyncFault); 4] = [
     ),
 ];
 
+/// What a replica finds that holds a record and is sent these bytes.
+fn found_behind<A: Archive>(
+    alloc: Global,
+    one: &mut Replica<A>,
+    bytes: &[u8],
+) -> Result<Found, Fail> {
+    hold_some(alloc, one, &["ann"])?;
+    let (_, found) = compared(alloc, one, Extent::Last, bytes);
+    Ok(found)
+}
+
+/// The same of replica 1.
+fn found_of_one(alloc: Global, bytes: &[u8]) -> Result<Found, Fail> {
+    let mut one = replica(alloc, 1)?;
+    found_behind(alloc, &mut one, bytes)
+}
+
 #[test]
 fn comparing_ends_so(rt: HostRuntime) -> Result<(), Fail> {
     for (bytes, fault) in &ENDINGS {
-        let mut one = holding(rt.alloc(), 1, &["ann"])?;
-        let (_, found) = compared(rt.alloc(), &mut one, Extent::Last, bytes);
-        let ended = match found {
-            Err(met) => met == *fault,
-            Ok(_) => false,
-        };
-        assert!(rt; ended);
+        assert!(rt; found_of_one(rt.alloc(), bytes)? == Err(*fault));
     }
     Ok(())
 }

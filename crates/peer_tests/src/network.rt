@@ -1,14 +1,16 @@
 //! Connections at once, of clients and of peers.
 
 use crate::peers::{answered, called, filled_replica, replica};
-use archive::ListArchive;
-use multiplex::serve;
+use archive::{Archive, ListArchive};
+use exchange::Replica;
+use multiplex::{Handler, serve};
 use server_rows::network::{Client, Clients, Faults};
 use server_rows::plant::{archive_of, clock, plant};
 use server_rows::streams::{ACK, ANSWER, BEGIN, BEGUN, HELLO, OPEN, OPENED, REQUEST, bytes_of};
 use std::alloc::Global;
 use std::test::Fail;
 use ua_server::{ConstantClock, Conversation, Limits, ServeFault, Server, World};
+use ua_settings::Settings;
 
 /// A Read of the value as the fourth message of a connection, and its answer.
 const READ: &str =
@@ -20,6 +22,64 @@ const VALUE: &str =
 /// The slots of a server for this many connections at a time.
 const SLOTS: usize = 4;
 
+/// What connections share.
+type Shared<A> = World<A, ConstantClock, Faults>;
+
+/// One of them.
+type Talk<A> = Conversation<A, ConstantClock, Faults>;
+
+/// What connections share over the server of these settings, which holds nothing.
+fn shared(alloc: Global, settings: Settings) -> Shared<ListArchive> {
+    let archive = archive_of(alloc, &settings);
+    let log = Faults {
+        told: Vec::new(alloc),
+    };
+    World::new(Server::new(alloc, settings, archive), clock(), log)
+}
+
+/// Serves so many connections of these clients. Whether all of them ended.
+fn serve_clients<'a, H: Handler>(
+    source: &mut Clients<'a>,
+    world: &mut H::World,
+    connections: u32,
+) -> Result<bool, Fail> {
+    let alloc = source.alloc;
+    let limits = Limits {
+        connections: Some(u64::from(connections)),
+        accept_slots: SLOTS,
+        waiting_bytes: 1_000_000,
+        rounds: 10_000,
+    };
+    let mut slots = Vec::new(alloc);
+    for _ in 0..SLOTS {
+        slots.push(None)?;
+    }
+    let report = serve::<Clients<'a>, H>(alloc, source, world, slots.as_mut_slice(), limits);
+    Ok(report.is_done)
+}
+
+/// Whether the clients of these numbers were written these bytes, and no other one any.
+fn is_written(source: &Clients<'_>, want: &[(usize, Vec<u8>)]) -> bool {
+    source.written.len() == want.len()
+        && want.iter().all(|(number, bytes)| source.written_to(*number) == Some(bytes.as_slice()))
+}
+
+/// Whether these faults are told.
+fn is_told<A>(world: &Shared<A>, told: &[ServeFault]) -> bool {
+    world.log.told.as_slice() == told
+}
+
+/// Whether over a world so many connections of these clients are served, and these faults are told.
+fn is_served_over<A: Archive>(
+    source: &mut Clients<'_>,
+    world: &mut Shared<A>,
+    connections: u32,
+    told: &[ServeFault],
+) -> Result<bool, Fail> {
+    let is_done = serve_clients::<Talk<A>>(source, world, connections)?;
+    Ok(is_done && is_told(world, told))
+}
+
 /// Of so many connections a plant's server writes these bytes to the clients of these numbers, and these faults are told.
 fn is_served(
     alloc: Global,
@@ -28,41 +88,10 @@ fn is_served(
     want: &[(usize, Vec<u8>)],
     told: &[ServeFault],
 ) -> Result<bool, Fail> {
-    let settings = plant(alloc)?;
-    let archive = archive_of(alloc, &settings);
-    let mut world = World::new(
-        Server::new(alloc, settings, archive),
-        clock(),
-        Faults {
-            told: Vec::new(alloc),
-        },
-    );
+    let mut world = shared(alloc, plant(alloc)?);
     let mut source = Clients::new(alloc, clients);
-    let mut slots = Vec::new(alloc);
-    for _ in 0..SLOTS {
-        slots.push(None)?;
-    }
-    let limits = Limits {
-        connections: Some(u64::from(connections)),
-        accept_slots: SLOTS,
-        waiting_bytes: 1_000_000,
-        rounds: 10_000,
-    };
-    let report = serve::<Clients<'_>, Conversation<ListArchive, ConstantClock, Faults>>(
-        alloc,
-        &mut source,
-        &mut world,
-        slots.as_mut_slice(),
-        limits,
-    );
-    let written = want.iter().all(|(number, bytes)| source.written_to(*number)
-        == Some(bytes.as_slice()));
-    Ok(
-        report.is_done
-            && written
-            && source.written.len() == want.len()
-            && world.log.told.as_slice() == told,
-    )
+    let is_served = is_served_over(&mut source, &mut world, connections, told)?;
+    Ok(is_served && is_written(&source, want))
 }
 
 /// A client that reads all it is written, and ends well.
@@ -119,22 +148,43 @@ fn goes_on_behind_a_fault(rt: HostRuntime) -> Result<(), Fail> {
     Ok(())
 }
 
+/// What a replica writes that calls another one, where this was answered before, and what it is answered.
+fn round<A: Archive>(
+    alloc: Global,
+    one: &mut Replica<A>,
+    two: &mut Replica<A>,
+    answer: &[u8],
+) -> (Vec<u8>, Vec<u8>) {
+    let (there, _) = called(alloc, two, answer);
+    let back = answered(alloc, one, there.as_slice());
+    (there, back)
+}
+
+/// The same of replica 2 that calls replica 1, which holds nothing.
+fn next_round(alloc: Global, answer: &[u8]) -> Result<(Vec<u8>, Vec<u8>), Fail> {
+    let mut two = filled_replica(alloc, 2)?;
+    let mut one = replica(alloc, 1)?;
+    Ok(round(alloc, &mut one, &mut two, answer))
+}
+
+/// What replica 2 is answered behind this.
+fn next_answer(alloc: Global, answer: &[u8]) -> Result<Vec<u8>, Fail> {
+    let (_, back) = next_round(alloc, answer)?;
+    Ok(back)
+}
+
 /// What replica 2 writes that calls replica 1, which holds nothing, and what it is answered: each answers what the other one
 /// wrote before.
 fn brought(alloc: Global) -> Result<(Vec<u8>, Vec<u8>), Fail> {
-    let mut there = Vec::new(alloc);
     let mut answer = Vec::new(alloc);
-    for _ in 0..4 {
-        let mut two = filled_replica(alloc, 2)?;
-        let (wrote, _) = called(alloc, &mut two, answer.as_slice());
-        there = wrote;
-        answer = answered(alloc, &mut replica(alloc, 1)?, there.as_slice());
+    for _ in 0..3 {
+        answer = next_answer(alloc, answer.as_slice())?;
     }
-    Ok((there, answer))
+    next_round(alloc, answer.as_slice())
 }
 
-/// Whether a client is greeted, a peer is answered so to what it brings, and the next client reads that.
-fn reads_what_came(alloc: Global, brings: &[u8], answer: Vec<u8>) -> Result<bool, Fail> {
+/// What is written to a client that greets, to the peer that comes next, and to a client that reads what that brought.
+fn wanted(alloc: Global, answer: Vec<u8>) -> Result<Vec<(usize, Vec<u8>)>, Fail> {
     let mut want = all_of(
         alloc,
         &[
@@ -143,6 +193,11 @@ fn reads_what_came(alloc: Global, brings: &[u8], answer: Vec<u8>) -> Result<bool
         ],
     )?;
     want.push((1, answer))?;
+    Ok(want)
+}
+
+/// Whether a client is greeted, a peer is answered so to what it brings, and the next client reads that.
+fn reads_what_came(alloc: Global, brings: &[u8], want: &[(usize, Vec<u8>)]) -> Result<bool, Fail> {
     let greets = bytes_of(alloc, &[HELLO, OPEN, REQUEST])?;
     let reads = bytes_of(alloc, &[HELLO, OPEN, BEGIN[0], BEGIN[1], READ])?;
     let clients = [
@@ -150,32 +205,49 @@ fn reads_what_came(alloc: Global, brings: &[u8], answer: Vec<u8>) -> Result<bool
         well(brings),
         well(reads.as_slice()),
     ];
-    is_served(alloc, &clients, 3, want.as_slice(), &[])
+    is_served(alloc, &clients, 3, want, &[])
+}
+
+/// Whether what the peer writes and is answered are frames of records, and whether the client reads them.
+fn is_brought(alloc: Global) -> Result<(bool, bool), Fail> {
+    let (brings, answer) = brought(alloc)?;
+    let begin_so = brings.as_slice().starts_with(b"RXVF") && answer.as_slice().starts_with(b"RXDF");
+    let want = wanted(alloc, answer)?;
+    let is_read = reads_what_came(alloc, brings.as_slice(), want.as_slice())?;
+    Ok((begin_so, is_read))
 }
 
 /// A client reads what a peer brought between it and the client before.
 #[test]
 fn serves_clients_and_peers(rt: HostRuntime) -> Result<(), Fail> {
-    let (brings, answer) = brought(rt.alloc())?;
-    assert!(rt; brings.as_slice().starts_with(b"RXVF") && answer.as_slice().starts_with(b"RXDF"));
-    assert!(rt; reads_what_came(rt.alloc(), brings.as_slice(), answer)?);
+    assert_eq!(rt; is_brought(rt.alloc())?, (true, true));
     Ok(())
 }
 
-/// What is too short to be a peer's is a client's, and one that breaks off there is told.
-#[test]
-fn serves_short_inputs(rt: HostRuntime) -> Result<(), Fail> {
-    let alloc = rt.alloc();
+/// So many clients that are written nothing.
+fn nothing_to(alloc: Global, count: usize) -> Result<Vec<(usize, Vec<u8>)>, Fail> {
+    let mut want = Vec::new(alloc);
+    for number in 0..count {
+        want.push((number, Vec::new(alloc)))?;
+    }
+    Ok(want)
+}
+
+/// Whether short inputs are served, and the one that breaks off is told.
+fn are_short_inputs_served(alloc: Global) -> Result<bool, Fail> {
     let breaks = Some(Client {
         bytes: b"RX",
         breaks: true,
         room: 10_000,
     });
-    let mut want = Vec::new(alloc);
-    for number in 0..3 {
-        want.push((number, Vec::new(alloc)))?;
-    }
     let clients = [well(b""), well(b"RX"), breaks];
-    assert!(rt; is_served(alloc, &clients, 3, want.as_slice(), &[ServeFault::Read])?);
+    let want = nothing_to(alloc, 3)?;
+    is_served(alloc, &clients, 3, want.as_slice(), &[ServeFault::Read])
+}
+
+/// What is too short to be a peer's is a client's, and one that breaks off there is told.
+#[test]
+fn serves_short_inputs(rt: HostRuntime) -> Result<(), Fail> {
+    assert!(rt; are_short_inputs_served(rt.alloc())?);
     Ok(())
 }
