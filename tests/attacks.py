@@ -914,7 +914,10 @@ def lying_peers():
 
         def answers():
             while True:
-                line, _ = listener.accept()
+                try:
+                    line, _ = listener.accept()
+                except OSError:  # it is shut down
+                    return
                 count[0] += 1
                 try:
                     lies(line)
@@ -939,6 +942,7 @@ def lying_peers():
             other, begin = Server(2), time.monotonic()
             done = run([program, "sync", "--settings", other.settings, "--peer", f"127.0.0.1:{listener.getsockname()[1]}"], most=3)
             note("its `sync` " + ("goes on for the 3 s that it had" if done.status == -9 else f"ends after {time.monotonic() - begin:.1f} s: {done.said.strip()}") + f", with {len(other.dump().splitlines())} records")
+        listener.shutdown(socket.SHUT_RDWR)
         listener.close()
 
 
