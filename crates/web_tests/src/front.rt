@@ -3,7 +3,7 @@
 use archive::{Archive, LearnFault, ListArchive, StoreFault};
 use records::{Moment, Record};
 use stamp::ReplicaNo;
-use std::alloc::Global;
+use std::alloc::{AllocError, Global};
 use std::test::Fail;
 use ua_binary::{Listing, NodeId, Text};
 use ua_settings::Settings;
@@ -108,74 +108,91 @@ static ROWS: [Row; 5] = [
     (5, "place", 2, Given::Place),
 ];
 
-/// So many characters of two bytes each.
-fn long_text(alloc: Global, count: usize) -> Result<Text, StoreFault> {
+/// A text of so many characters of two bytes each.
+fn long_text(alloc: Global, count: usize) -> Result<Variant, StoreFault> {
     let mut text = String::new(alloc);
     for _ in 0..count {
         text.push_str("\u{e9}")?;
     }
-    Ok(Text::new(text))
+    Ok(Variant::Scalar(Scalar::String(Some(Text::new(text)))))
 }
 
 /// Two levels, of which one is infinite.
-fn levels(alloc: Global) -> Result<Listing<[u8; 8]>, StoreFault> {
+fn levels(alloc: Global) -> Result<Variant, StoreFault> {
     let half = 0x3FF8_0000_0000_0000_u64.to_le_bytes();
     let infinite = 0x7FF0_0000_0000_0000_u64.to_le_bytes();
     let levels = Vec::from_slice(alloc, &[half, infinite])?;
-    Ok(Listing::of(levels))
+    Ok(Variant::Array(Array::Double(Listing::of(levels))))
 }
 
 /// A value that is written.
 fn variant_of(alloc: Global, given: Given) -> Result<Variant, StoreFault> {
     match given {
         Given::Truth(truth) => Ok(Variant::Scalar(Scalar::Boolean(truth))),
-        Given::Long(count) => Ok(Variant::Scalar(Scalar::String(Some(long_text(alloc, count)?)))),
-        Given::Many => Ok(Variant::Array(Array::Double(levels(alloc)?))),
+        Given::Long(count) => long_text(alloc, count),
+        Given::Many => levels(alloc),
         Given::Place => Ok(Variant::Scalar(Scalar::NodeId(NodeId::Numeric(0, 85)))),
+    }
+}
+
+/// A value as it is written, with no status and no times.
+fn value_of(value: Variant) -> DataValue {
+    DataValue {
+        value: Some(value),
+        status: None,
+        source_time: None,
+        source_pico: None,
+        server_time: None,
+        server_pico: None,
+    }
+}
+
+/// The record of an update, by a replica, of a node's name, a user and a value.
+fn record_by(origin: ReplicaNo, row: &Row, name: Text, user: Text, value: Variant) -> Record {
+    let (number, _, second, _) = *row;
+    Record {
+        origin,
+        number,
+        tick: NOON.saturating_add(SECOND.saturating_mul(60i64.saturating_add_unsigned(number))),
+        node: NodeId::Named(1, name),
+        time: Moment::at(NOON.saturating_add(SECOND.saturating_mul(second))),
+        asked: HistoryUpdateType::Insert,
+        user,
+        value: value_of(value),
     }
 }
 
 /// The record of an update.
 fn record_of(alloc: Global, row: &Row) -> Result<Record, StoreFault> {
-    let (number, node, second, given) = *row;
     let Some(origin) = ReplicaNo::new(7) else {
         return Err(StoreFault::WrongReplica);
     };
-    let node = NodeId::Named(1, Text::from_str(alloc, node)?);
+    let name = Text::from_str(alloc, row.1)?;
     let user = Text::from_str(alloc, "ann")?;
-    let value = variant_of(alloc, given)?;
-    Ok(Record {
-        origin,
-        number,
-        tick: NOON.saturating_add(SECOND.saturating_mul(60i64.saturating_add_unsigned(number))),
-        node,
-        time: Moment::at(NOON.saturating_add(SECOND.saturating_mul(second))),
-        asked: HistoryUpdateType::Insert,
-        user,
-        value: DataValue {
-            value: Some(value),
-            status: None,
-            source_time: None,
-            source_pico: None,
-            server_time: None,
-            server_pico: None,
-        },
-    })
+    let value = variant_of(alloc, row.3)?;
+    Ok(record_by(origin, row, name, user, value))
 }
 
-/// What an archive answers to an update.
-fn learn<A: Archive>(alloc: Global, archive: &mut A, row: &Row) -> Result<bool, LearnFault> {
-    let record = record_of(alloc, row)?;
+/// What an archive answers to a record.
+fn learn_record<A: Archive>(archive: &mut A, record: &Record) -> Result<bool, LearnFault> {
     if record.is_lawful() {
-        archive.learn(&record)
+        archive.learn(record)
     } else {
         Err(LearnFault::Store(StoreFault::Refused))
     }
 }
 
-/// An archive takes all the updates.
-fn learn_all<A: Archive>(alloc: Global, archive: &mut A) -> Result<(), LearnFault> {
-    for row in &ROWS {
+/// What an archive answers to an update.
+fn learn<A: Archive>(alloc: Global, archive: &mut A, row: &Row) -> Result<bool, LearnFault> {
+    match record_of(alloc, row) {
+        Ok(record) => learn_record(archive, &record),
+        Err(fault) => Err(LearnFault::Store(fault)),
+    }
+}
+
+/// An archive takes all of these updates.
+fn learn_all<A: Archive>(alloc: Global, archive: &mut A, rows: &[Row]) -> Result<(), LearnFault> {
+    for row in rows {
         learn(alloc, archive, row)?;
     }
     Ok(())
@@ -189,24 +206,25 @@ fn empty_archive(alloc: Global) -> Result<ListArchive, StoreFault> {
     }
 }
 
-/// What the long text's cell holds, and what stands behind it, up to its age.
-fn put_long(text: &mut Vec<u8>) -> Result<(), Fail> {
-    for _ in 0..200 {
-        text.extend_from_slice("\u{e9}".as_bytes())?;
+/// Appends pieces of a page.
+fn put_all(text: &mut Vec<u8>, pieces: &[&str]) -> Result<(), AllocError> {
+    for piece in pieces {
+        text.extend_from_slice(piece.as_bytes())?;
     }
-    text.extend_from_slice(b"...</td><td>Good</td><td>2026-03-01T12:00:01.0000000Z</td><td>")?;
     Ok(())
 }
 
-/// The page above its rows, with these words for how many connections there are.
-fn wanted_begin(alloc: Global, connections: &str) -> Result<Vec<u8>, Fail> {
-    let mut text = Vec::new(alloc);
-    text.extend_from_slice(BEGIN.as_bytes())?;
-    text.extend_from_slice(STYLE.as_bytes())?;
-    text.extend_from_slice(HEADING.as_bytes())?;
-    text.extend_from_slice(connections.as_bytes())?;
-    text.extend_from_slice(COLUMNS.as_bytes())?;
-    Ok(text)
+/// Appends what the long text's cell holds, and what stands behind it, up to its age.
+fn put_long(text: &mut Vec<u8>) -> Result<(), AllocError> {
+    for _ in 0..200 {
+        text.extend_from_slice("\u{e9}".as_bytes())?;
+    }
+    text.extend_from_slice(b"...</td><td>Good</td><td>2026-03-01T12:00:01.0000000Z</td><td>")
+}
+
+/// Appends the page above its rows, with these words for how many connections there are.
+fn put_begin(text: &mut Vec<u8>, connections: &str) -> Result<(), AllocError> {
+    put_all(text, &[BEGIN, STYLE, HEADING, connections, COLUMNS])
 }
 
 /// How many seconds behind noon a page is asked for, and how old the values of the door, the note and the list are then.
@@ -223,26 +241,19 @@ static AGES: [Aged; 8] = [
     (31_536_009, "365 d", "365 d", "365 d"),
 ];
 
-/// The page with these ages.
-fn wanted(alloc: Global, aged: &Aged) -> Result<Vec<u8>, Fail> {
+/// Appends the rows with these ages, and the end of the page.
+fn put_rows(text: &mut Vec<u8>, aged: &Aged) -> Result<(), AllocError> {
     let (_, door, note, list) = *aged;
-    let mut text = wanted_begin(alloc, "<p>3 connections</p>\n")?;
-    text.extend_from_slice(DOOR.as_bytes())?;
-    text.extend_from_slice(door.as_bytes())?;
-    text.extend_from_slice(ROW_END.as_bytes())?;
-    text.extend_from_slice(NOTE.as_bytes())?;
-    put_long(&mut text)?;
-    text.extend_from_slice(note.as_bytes())?;
-    text.extend_from_slice(ROW_END.as_bytes())?;
-    text.extend_from_slice(NEVER.as_bytes())?;
-    text.extend_from_slice(LIST.as_bytes())?;
-    text.extend_from_slice(list.as_bytes())?;
-    text.extend_from_slice(ROW_END.as_bytes())?;
-    text.extend_from_slice(PLACE.as_bytes())?;
-    text.extend_from_slice(list.as_bytes())?;
-    text.extend_from_slice(ROW_END.as_bytes())?;
-    text.extend_from_slice(END.as_bytes())?;
-    Ok(text)
+    put_all(text, &[DOOR, door, ROW_END, NOTE])?;
+    put_long(text)?;
+    put_all(text, &[note, ROW_END, NEVER, LIST, list, ROW_END])?;
+    put_all(text, &[PLACE, list, ROW_END, END])
+}
+
+/// Appends the page with these ages.
+fn put_wanted(text: &mut Vec<u8>, aged: &Aged) -> Result<(), AllocError> {
+    put_begin(text, "<p>3 connections</p>\n")?;
+    put_rows(text, aged)
 }
 
 /// Whether this is the page of an archive.
@@ -252,30 +263,52 @@ fn is_put<A: Archive>(alloc: Global, archive: &mut A, overview: Overview<'_>, pa
     put.is_ok() && out.as_slice() == page
 }
 
-/// Whether it is that of an archive that took the updates.
-fn is_told(alloc: Global, overview: Overview<'_>, page: &[u8]) -> Result<bool, LearnFault> {
-    let mut archive = empty_archive(alloc)?;
-    learn_all(alloc, &mut archive)?;
-    Ok(is_put(alloc, &mut archive, overview, page))
+/// Whether it is that of an archive that was made, and then takes these updates.
+fn is_put_over<A: Archive + Drop>(
+    alloc: Global,
+    made: Result<A, StoreFault>,
+    rows: &[Row],
+    overview: Overview<'_>,
+    page: &[u8],
+) -> bool {
+    match made {
+        Ok(mut archive) => {
+            learn_all(alloc, &mut archive, rows).is_ok()
+                && is_put(alloc, &mut archive, overview, page)
+        }
+        Err(_) => false,
+    }
 }
 
-/// Whether it is where the settings are these, no peer is called, there are three connections, and it is asked for at this time.
-fn is_right(alloc: Global, aged: &Aged) -> Result<bool, Fail> {
-    let settings = Settings::read(alloc, SETTINGS)?;
-    let page = wanted(alloc, aged)?;
+/// The same of a list.
+fn is_told(alloc: Global, rows: &[Row], overview: Overview<'_>, page: &[u8]) -> bool {
+    is_put_over(alloc, empty_archive(alloc), rows, overview, page)
+}
+
+/// Whether the page is right by these settings, where no peer is called, there are three connections, and it is asked for at this time.
+fn is_right_by(alloc: Global, settings: &Settings, aged: &Aged) -> bool {
     let overview = Overview {
-        settings: &settings,
+        settings,
         calls: &LastCalls::none(alloc),
         connections: 3,
         now: NOON.saturating_add(SECOND.saturating_mul(aged.0)),
     };
-    Ok(is_told(alloc, overview, page.as_slice()) == Ok(true))
+    let mut page = Vec::new(alloc);
+    put_wanted(&mut page, aged).is_ok() && is_told(alloc, &ROWS, overview, page.as_slice())
+}
+
+/// Whether it is by the plant's settings.
+fn is_right(alloc: Global, aged: &Aged) -> bool {
+    match Settings::read(alloc, SETTINGS) {
+        Ok(settings) => is_right_by(alloc, &settings, aged),
+        Err(_) => false,
+    }
 }
 
 #[test]
 fn a_plants_page_is_put(rt: HostRuntime) -> Result<(), Fail> {
     for aged in &AGES {
-        assert!(rt; is_right(rt.alloc(), aged)?, "{}", aged.0);
+        assert!(rt; is_right(rt.alloc(), aged), "{}", aged.0);
     }
     Ok(())
 }
@@ -340,36 +373,52 @@ static ENDS: [(usize, CallEnd); 4] = [
     ),
 ];
 
-/// The page of the peers.
-fn wanted_calls(alloc: Global) -> Result<Vec<u8>, Fail> {
-    let mut text = wanted_begin(alloc, "<p>1 connection</p>\n")?;
-    text.extend_from_slice(CALLS.as_bytes())?;
-    text.extend_from_slice(END.as_bytes())?;
-    Ok(text)
+/// Appends the page of the peers.
+fn put_calls(text: &mut Vec<u8>) -> Result<(), AllocError> {
+    put_begin(text, "<p>1 connection</p>\n")?;
+    put_all(text, &[CALLS, END])
 }
 
-/// Whether the last calls of peers are told.
-fn are_called(alloc: Global) -> Result<bool, Fail> {
-    let settings = Settings::read(alloc, PEERS)?;
-    let mut calls = LastCalls::new(alloc, settings.peers().as_slice())?;
-    for (callee, end) in &ENDS {
-        calls.note(*callee, *end);
-    }
-    let page = wanted_calls(alloc)?;
+/// Whether the page of an archive that holds nothing tells these calls.
+fn are_put(alloc: Global, settings: &Settings, calls: &LastCalls) -> bool {
     let overview = Overview {
-        settings: &settings,
-        calls: &calls,
+        settings,
+        calls,
         connections: 1,
         now: NOON,
     };
-    match empty_archive(alloc) {
-        Ok(mut archive) => Ok(is_put(alloc, &mut archive, overview, page.as_slice())),
-        Err(_) => Ok(false),
+    let mut page = Vec::new(alloc);
+    put_calls(&mut page).is_ok() && is_told(alloc, &[], overview, page.as_slice())
+}
+
+/// The calls of the peers ended.
+fn note_all(calls: &mut LastCalls) {
+    for (callee, end) in &ENDS {
+        calls.note(*callee, *end);
+    }
+}
+
+/// Whether the calls that these settings ask for are told.
+fn are_called_by(alloc: Global, settings: &Settings) -> bool {
+    match LastCalls::new(alloc, settings.peers().as_slice()) {
+        Ok(mut calls) => {
+            note_all(&mut calls);
+            are_put(alloc, settings, &calls)
+        }
+        Err(_) => false,
+    }
+}
+
+/// Whether the last calls of peers are told.
+fn are_called(alloc: Global) -> bool {
+    match Settings::read(alloc, PEERS) {
+        Ok(settings) => are_called_by(alloc, &settings),
+        Err(_) => false,
     }
 }
 
 #[test]
 fn the_last_calls_are_put(rt: HostRuntime) -> Result<(), Fail> {
-    assert!(rt; are_called(rt.alloc())?);
+    assert!(rt; are_called(rt.alloc()));
     Ok(())
 }
