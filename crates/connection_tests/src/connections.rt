@@ -73,22 +73,40 @@ fn bare_server(alloc: Global) -> Option<Server<ListArchive>> {
     Some(Server::new(alloc, settings, archive))
 }
 
-/// The answer of such a server.
+/// The answer of a server.
+fn answer_over<A: Archive>(
+    server: &mut Server<A>,
+    text: &str,
+    out: &mut Vec<u8>,
+) -> Result<Served, HexFault> {
+    answer_hex(server, text, out, &mut clock())
+}
+
+/// The answer of a server without settings.
 fn answer(alloc: Global, text: &str, out: &mut Vec<u8>) -> Result<Served, HexFault> {
     match bare_server(alloc) {
-        Some(mut server) => answer_hex(&mut server, text, out, &mut clock()),
+        Some(mut server) => answer_over(&mut server, text, out),
         None => Err(HexFault::Serve(ServeFault::OutOfMemory)),
     }
 }
 
-/// Such a server serves a client.
+/// A server serves a client.
+fn serve_over<A: Archive, R: Read, W: Write>(
+    server: &mut Server<A>,
+    reader: &mut Counted<R>,
+    writer: &mut Counted<W>,
+) -> Result<Served, ServeFault> {
+    serve(reader, writer, server, &mut clock())
+}
+
+/// A server without settings serves a client.
 fn serve_bare<R: Read, W: Write>(
     alloc: Global,
     reader: &mut Counted<R>,
     writer: &mut Counted<W>,
 ) -> Result<Served, ServeFault> {
     match bare_server(alloc) {
-        Some(mut server) => serve(reader, writer, &mut server, &mut clock()),
+        Some(mut server) => serve_over(&mut server, reader, writer),
         None => Err(ServeFault::OutOfMemory),
     }
 }
@@ -247,10 +265,9 @@ fn serves_clients_over_a_store(rt: HostRuntime) -> Result<(), Fail> {
 const INSERT_7: &str =
     "02010100000000000000640000000000000003010001000000540A0000000000000000000103000000616E6E010607000000";
 
-/// Whether an archive learns the record with these digits.
-fn is_learned<A: Archive>(alloc: Global, archive: &mut A, digits: &str) -> Result<bool, Fail> {
-    let bytes = bytes_of(alloc, &[digits])?;
-    let record = read_record(alloc, bytes.as_slice())?;
+/// Whether an archive learns the record that these bytes spell.
+fn is_learned<A: Archive>(alloc: Global, archive: &mut A, bytes: &[u8]) -> Result<bool, Fail> {
+    let record = read_record(alloc, bytes)?;
     Ok(record.is_lawful() && archive.learn(&record) == Ok(true))
 }
 
@@ -263,17 +280,23 @@ fn dump_of<A: Archive>(alloc: Global, archive: &mut A) -> Result<Vec<u8>, Fail> 
     }
 }
 
-/// What a dump writes of an archive that learned the record with these digits.
+/// What a dump writes of an archive, once it learned the record with these digits.
+fn dump_behind<A: Archive>(alloc: Global, archive: &mut A, digits: &str) -> Result<Vec<u8>, Fail> {
+    let bytes = bytes_of(alloc, &[digits])?;
+    if !is_learned(alloc, archive, bytes.as_slice())? {
+        return Err(Fail::from("not learned"));
+    }
+    dump_of(alloc, archive)
+}
+
+/// The same of an archive that was opened.
 fn dump_of_one<A: Archive + Drop>(
     alloc: Global,
     opened: Result<A, StoreFault>,
     digits: &str,
 ) -> Result<Vec<u8>, Fail> {
     let mut archive = opened?;
-    if !is_learned(alloc, &mut archive, digits)? {
-        return Err(Fail::from("not learned"));
-    }
-    dump_of(alloc, &mut archive)
+    dump_behind(alloc, &mut archive, digits)
 }
 
 /// What a dump writes of an archive in SQLite that learned the record with these digits.
@@ -286,18 +309,23 @@ fn dumped(alloc: Global, digits: &str) -> Result<Vec<u8>, Fail> {
     )
 }
 
+/// Whether a dump writes the line of that record.
+fn is_dumped(alloc: Global) -> Result<bool, Fail> {
+    let line = joined(alloc, &["1 1 100 ", INSERT_7, "\n"])?;
+    let written = dumped(alloc, INSERT_7)?;
+    Ok(written.as_slice() == line.as_bytes())
+}
+
 #[test]
 fn dumps_a_store(rt: HostRuntime) -> Result<(), Fail> {
-    let line = joined(rt.alloc(), &["1 1 100 ", INSERT_7, "\n"])?;
-    let written = dumped(rt.alloc(), INSERT_7)?;
-    assert_eq!(rt; written.as_slice(), line.as_bytes());
+    assert!(rt; is_dumped(rt.alloc())?);
     Ok(())
 }
 
 /// How a connection ends, and how many calls of its reader and of its writer failed.
 type Ended = (Result<Served, ServeFault>, u64, u64);
 
-/// How a connection to such a server ends.
+/// How a connection to a server without settings ends.
 fn ended<R: Read, W: Write>(
     alloc: Global,
     reader: &mut Counted<R>,
@@ -307,32 +335,45 @@ fn ended<R: Read, W: Write>(
     (result, reader.faults(), writer.faults())
 }
 
+/// How a connection ends that sends this, and what is written to it.
+fn served<R: Read + Drop>(alloc: Global, sent: R) -> (Ended, Vec<u8>) {
+    let mut reader = Counted::new(sent);
+    let mut writer = Counted::new(Vec::new(alloc));
+    let end = ended(alloc, &mut reader, &mut writer);
+    (end, writer.into_inner())
+}
+
 /// The connection is served so from pieces of this size, with no fault; the reader fails at its end where it is told to.
 fn is_served(alloc: Global, bytes: &[u8], size: usize, fails: bool, want: &[u8]) -> bool {
-    let mut reader = Counted::new(Slow { bytes, size, fails });
-    let mut writer = Counted::new(Vec::new(alloc));
     let ending: Ended = if fails {
         (Err(ServeFault::Read), 1, 0)
     } else {
         (Ok(Served::EndOfInput), 0, 0)
     };
-    ended(alloc, &mut reader, &mut writer) == ending && writer.into_inner().as_slice() == want
+    let (end, wrote) = served(alloc, Slow { bytes, size, fails });
+    end == ending && wrote.as_slice() == want
 }
 
-/// A writer that takes so many bytes has just these, and its failed call is counted.
-fn is_written(alloc: Global, bytes: &[u8], room: usize, want: &[u8]) -> bool {
+/// How a connection ends that takes so many bytes, and which it takes.
+fn served_narrow(alloc: Global, bytes: &[u8], room: usize) -> (Ended, Vec<u8>) {
     let mut reader = Counted::new(bytes);
     let mut writer = Counted::new(Narrow {
         bytes: Vec::new(alloc),
         room,
     });
+    let end = ended(alloc, &mut reader, &mut writer);
+    (end, writer.into_inner().bytes)
+}
+
+/// A writer that takes so many bytes has just these, and its failed call is counted.
+fn is_written(alloc: Global, bytes: &[u8], room: usize, want: &[u8]) -> bool {
     let ending: Ended = if room < want.len() {
         (Err(ServeFault::Write), 0, 1)
     } else {
         (Ok(Served::EndOfInput), 0, 0)
     };
-    ended(alloc, &mut reader, &mut writer) == ending
-        && Some(writer.into_inner().bytes.as_slice()) == want.get(..room.min(want.len()))
+    let (end, wrote) = served_narrow(alloc, bytes, room);
+    end == ending && Some(wrote.as_slice()) == want.get(..room.min(want.len()))
 }
 
 /// How many bytes answer a front of a Hello, an opening and a message.
@@ -352,16 +393,26 @@ fn connection(alloc: Global) -> Result<(Vec<u8>, Vec<u8>), Fail> {
     Ok((input, want))
 }
 
+/// The first size of pieces in which a connection is served otherwise.
+fn first_other_size(alloc: Global, input: &[u8], want: &[u8]) -> Option<usize> {
+    for size in 1..244 {
+        if !is_served(alloc, input, size, false, want) {
+            return Some(size);
+        }
+    }
+    None
+}
+
+/// How long the connection and its answer are, and the first size of pieces in which it is served otherwise.
+fn served_in_pieces(alloc: Global) -> Result<(usize, usize, Option<usize>), Fail> {
+    let (input, want) = connection(alloc)?;
+    let other = first_other_size(alloc, input.as_slice(), want.as_slice());
+    Ok((input.len(), want.len(), other))
+}
+
 #[test]
 fn serves_in_pieces(rt: HostRuntime) -> Result<(), Fail> {
-    let (input, want) = connection(rt.alloc())?;
-    assert_eq!(rt; (input.len(), want.len()), (243, 215));
-    for size in 1..244 {
-        assert!(rt;
-            is_served(rt.alloc(), input.as_slice(), size, false, want.as_slice()),
-            "{size}"
-        );
-    }
+    assert_eq!(rt; served_in_pieces(rt.alloc())?, (243, 215, None));
     Ok(())
 }
 
@@ -382,28 +433,42 @@ fn first_other_front(alloc: Global, input: &[u8], want: &[u8]) -> Result<Option<
     Ok(None)
 }
 
+/// The same of the fronts of the connection.
+fn first_other_front_of_it(alloc: Global) -> Result<Option<usize>, Fail> {
+    let (input, want) = connection(alloc)?;
+    first_other_front(alloc, input.as_slice(), want.as_slice())
+}
+
 #[test]
 fn serves_each_front(rt: HostRuntime) -> Result<(), Fail> {
-    let (input, want) = connection(rt.alloc())?;
-    let other = first_other_front(rt.alloc(), input.as_slice(), want.as_slice())?;
-    assert_eq!(rt; other, None);
+    assert_eq!(rt; first_other_front_of_it(rt.alloc())?, None);
     Ok(())
+}
+
+/// The first room in which a writer has other bytes.
+fn first_other_room(alloc: Global, input: &[u8], want: &[u8]) -> Option<usize> {
+    for room in 0..217 {
+        if !is_written(alloc, input, room, want) {
+            return Some(room);
+        }
+    }
+    None
+}
+
+/// The same where the connection is served.
+fn first_other_room_of_it(alloc: Global) -> Result<Option<usize>, Fail> {
+    let (input, want) = connection(alloc)?;
+    Ok(first_other_room(alloc, input.as_slice(), want.as_slice()))
 }
 
 #[test]
 fn stops_where_the_writer_does(rt: HostRuntime) -> Result<(), Fail> {
-    let (input, want) = connection(rt.alloc())?;
-    for room in 0..217 {
-        assert!(rt;
-            is_written(rt.alloc(), input.as_slice(), room, want.as_slice()),
-            "{room}"
-        );
-    }
+    assert_eq!(rt; first_other_room_of_it(rt.alloc())?, None);
     Ok(())
 }
 
-/// Whether such a connection is served so where each call is interrupted before.
-fn is_served_halting(alloc: Global, bytes: &[u8], want: &[u8]) -> bool {
+/// How a connection ends where each call is interrupted before, and what is written to it.
+fn served_halting(alloc: Global, bytes: &[u8]) -> (Ended, Vec<u8>) {
     let mut reader = Counted::new(Halting {
         inner: Slow {
             bytes,
@@ -419,15 +484,21 @@ fn is_served_halting(alloc: Global, bytes: &[u8], want: &[u8]) -> bool {
         },
         halts: false,
     });
-    ended(alloc, &mut reader, &mut writer) == (Ok(Served::EndOfInput), 0, 0)
-        && writer.into_inner().inner.bytes.as_slice() == want
+    let end = ended(alloc, &mut reader, &mut writer);
+    (end, writer.into_inner().inner.bytes)
+}
+
+/// Whether the connection is served so.
+fn is_served_halting(alloc: Global) -> Result<bool, Fail> {
+    let (input, want) = connection(alloc)?;
+    let (end, wrote) = served_halting(alloc, input.as_slice());
+    Ok(end == (Ok(Served::EndOfInput), 0, 0) && wrote.as_slice() == want.as_slice())
 }
 
 /// A call that was interrupted is tried again, and counts as no failed one.
 #[test]
 fn goes_on_where_it_was_interrupted(rt: HostRuntime) -> Result<(), Fail> {
-    let (input, want) = connection(rt.alloc())?;
-    assert!(rt; is_served_halting(rt.alloc(), input.as_slice(), want.as_slice()));
+    assert!(rt; is_served_halting(rt.alloc())?);
     Ok(())
 }
 
@@ -488,9 +559,8 @@ fn many_given_up(alloc: Global, count: u32) -> Result<Vec<u8>, Fail> {
 
 /// Whether a connection of these bytes ends so, and this goes out.
 fn ends(alloc: Global, input: &[u8], want: &[u8], ending: Result<Served, ServeFault>) -> bool {
-    let mut reader = Counted::new(input);
-    let mut writer = Counted::new(Vec::new(alloc));
-    serve_bare(alloc, &mut reader, &mut writer) == ending && writer.into_inner().as_slice() == want
+    let ((result, _, _), wrote) = served(alloc, input);
+    result == ending && wrote.as_slice() == want
 }
 
 /// Whether a connection with so many chunks behind the opening ends so, and only the beginning is
@@ -522,19 +592,17 @@ fn session_of(alloc: Global, begin: &[&str], answers: bool) -> Result<String, Fa
     Ok(text)
 }
 
+/// Whether the session is answered so.
+fn is_session_served(alloc: Global) -> Result<bool, Fail> {
+    let text = session_of(alloc, &[HELLO, OPEN], false)?;
+    let want = session_of(alloc, &[ACK, OPENED], true)?;
+    is_answered(alloc, text.as_str(), &[want.as_str()], Served::EndOfInput)
+}
+
 /// Each request of a session is answered so, behind those before it.
 #[test]
 fn serves_a_session(rt: HostRuntime) -> Result<(), Fail> {
-    let text = session_of(rt.alloc(), &[HELLO, OPEN], false)?;
-    let want = session_of(rt.alloc(), &[ACK, OPENED], true)?;
-    assert!(rt;
-        is_answered(
-            rt.alloc(),
-            text.as_str(),
-            &[want.as_str()],
-            Served::EndOfInput
-        )?
-    );
+    assert!(rt; is_session_served(rt.alloc())?);
     Ok(())
 }
 
