@@ -18,7 +18,8 @@ use Rattle.hist_read.specs.declared.modified.ModifiedPage.{ModifiedPage}
 abbrev pub portion : ℕ
 portion = 32
 
--- how many values are asked for: one more than the page has
+-- how many values are asked for: one more than the page may have; none where the near bound alone
+-- is asked for
 abbrev pub body_limit : Details → Option Position → ℕ
 body_limit q p = if is_near_alone q then 0 else page_size q p + 1
 

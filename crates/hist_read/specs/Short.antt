@@ -13,6 +13,7 @@ IsWritable v =
     IfSome v.source_pico IsPicoseconds × IfSome v.server_pico IsPicoseconds
     × (length (data_value.canon v) < 2 ^ 31)
 
+-- these of values, whose number can be counted too
 abbrev pub AreWritable : List DataValue → Type 0
 AreWritable values = All IsWritable values × (length values < 2 ^ 31)
 

@@ -25,10 +25,12 @@ use Rattle.hist_update.specs.Updates.{update_one, update_all, begin, listing_ref
 
 -- ---- one operation
 
+-- what comes in an operation's way where the archive doesn't learn its record
 abbrev pub of_learn : LearnFault → OperationError
 of_learn (learn.Store fault) = undone.Failed (setback.Store fault)
 of_learn fault = undone.Refused BAD_RESOURCE_UNAVAILABLE
 
+-- the status that a client is told of an operation
 abbrev pub code_told : Result Status OperationError → Status
 code_told (Ok code) = code
 code_told (Err (undone.Refused code)) = code
@@ -58,6 +60,7 @@ pub record IsChangePlace (old : Store) (request : Request) (time : ℤ)
   pub number : place.number ≡ min (vec old.content old.own + 1) greatest
   pub tick : place.tick ≡ lift request.reading (top old.content)
 
+-- its number is one that a record may have
 abbrev pub IsNumber : ChangePlace → Type 0
 IsNumber place = (1 ≤ place.number) × (place.number ≤ greatest)
 
@@ -75,18 +78,23 @@ pub record IsDraft (r : Record) : Type 0 where
   pub value : IsShortData r.value
   pub suits : is_value_for r.asked r.value ≡ true
 
+-- its bytes are more than a record may have
 abbrev pub is_long : Record → Bool
 is_long r = nat_lt longest (length (fields.canon r))
 
-abbrev pub no_tick : Option ℤ → Option Status
-no_tick None = Some BAD_RESOURCE_UNAVAILABLE
-no_tick (Some tick) = None
+-- what is told where no tick is left
+abbrev pub tick_refusal : Option ℤ → Option Status
+tick_refusal None = Some BAD_RESOURCE_UNAVAILABLE
+tick_refusal (Some tick) = None
 
+-- what is told of a change that isn't made: that its record is too long, before all else; what
+-- its details refuse; that no tick is left
 abbrev pub refusal_by : Bool → Option Status → Option ℤ → Option Status
 refusal_by true refusal tick = Some BAD_ENCODING_LIMITS_EXCEEDED
 refusal_by false (Some code) tick = Some code
-refusal_by false None tick = no_tick tick
+refusal_by false None tick = tick_refusal tick
 
+-- what is told of the change by this record, where it isn't made
 abbrev pub refusal : Record → ChangePlace → Option Status
 refusal r place = refusal_by (is_long r) (conflict r.asked place.live) place.tick
 
@@ -95,6 +103,7 @@ abbrev pub told_of : Result Bool LearnFault → Status → Result Status Operati
 told_of (Ok added) code = Ok code
 told_of (Err fault) code = Err (of_learn fault)
 
+-- the archive was asked to learn a record, and what it answered is told
 abbrev pub Submits : Store → Store → Record → Status → Result Status OperationError → Type 0
 Submits old new r code result =
     (answer : Result Bool LearnFault) × Learns old new r answer × (result ≡ told_of answer code)

@@ -108,7 +108,8 @@ update_event space user asked results =
     Update (cut_to 256 user) (answered_audits (map (asked_audit space) asked) results)
 
 -- whether what updates come to is noted: for a log of events; and where peers have a door, since
--- records of one's own number come back there only to a store that no client updated
+-- a store that lost its records may take those of its own number back from peers there only until
+-- a client updates it
 abbrev pub notes_updates : SettingsValues → Bool
 notes_updates settings = settings.events || is_some settings.door
 

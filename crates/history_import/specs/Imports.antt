@@ -74,8 +74,8 @@ TellsBefore why input rows ends before after =
       | _ ↦ TellsPart input rows ends before after
     ]
 
--- which rows were done where this fault ended an import: the first ones, or none where it ended
--- before the header was read; none where the text doesn't begin by the header
+-- which rows were done where this fault ended an import: none where the text doesn't begin by the
+-- header; else the first ones behind it, or none where the fault came before it was read
 abbrev pub StopsAfter : ImportFault → (input : Option (List ℕ)) → List (List (List ℕ)) → Type 0
 StopsAfter why input rows =
     elim why [

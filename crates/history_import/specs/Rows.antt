@@ -70,7 +70,7 @@ row_type seen fields =
 abbrev pub some_pico : ℤ → Option ℕ
 some_pico time = if pico_of time == 0 then None else Some (pico_of time)
 
--- a status, where it isn't good
+-- a status, where it isn't 0: a value is Good without one
 abbrev pub some_status : Status → Option Status
 some_status status = if status.0 == 0 then None else Some status
 

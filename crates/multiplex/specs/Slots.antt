@@ -84,7 +84,8 @@ pub record IsLongestUnheard {H R W V E : Type 0} (handler : Behavior H V E) (now
 abbrev pub IsResponsive : {H R W E : Type 0} → Slot H R W E → Type 0
 IsResponsive slot = (slot.ending ≡ None) × (slot.waiting ≡ [])
 
--- it is over, and all was written that can be
+-- it is over and may be closed: one that finished, or has no more input, once all is written; one
+-- that failed, was silent for too long or makes room for another at once, whatever waits
 abbrev pub MayClose : {H R W E : Type 0} → Slot H R W E → Type 0
 MayClose slot = elim slot.ending [
   | None ↦ ⊥

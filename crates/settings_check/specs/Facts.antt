@@ -94,7 +94,7 @@ abbrev pub events_facts : (events : Bool) → List (List ℕ)
 events_facts events =
     if events then codes "what happens is told on standard error, a line each" ∷ [] else []
 
--- behind how many refused logins from one address its next ones wait
+-- after how many refused logins from one address its next ones wait
 abbrev pub logins_line : (most : ℕ) → List ℕ
 logins_line most =
     codes "behind " ++ counted_noun most (codes " refused login") (codes " refused logins")

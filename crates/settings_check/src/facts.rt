@@ -196,7 +196,7 @@ fn put_events(out: &mut Vec<u8>, events: bool) -> Result<(), AllocError>
     Ok(())
 }
 
-/// Appends behind how many refused logins from one address its next ones wait.
+/// Appends after how many refused logins from one address its next ones wait.
 fn put_most_logins(out: &mut Vec<u8>, most: u32) -> Result<(), AllocError>
     ensures { OnOk result (out.new.items ≡ out.old.items ++ logins_line most) }
 {

@@ -93,17 +93,20 @@ with_audit event state =
 
 -- ---- the calls
 
+-- a session was made, which nobody activated; nothing was where it couldn't be
 pub record Creates (old : SessionsState) (result : Result (NodeId × NodeId) SessionFault)
     (new : SessionsState) : Type 0 where
   pub answer : IsOrStarved OutOfMemory (create_answer old) result
   pub leaves : MatchResult result (λ _. new ≡ with_new old) (λ _. new ≡ old)
 
+-- the session of this token has the user whom the claim shows; else nothing changed
 pub record Activates (old : SessionsState) (token : NodeId) (allowed : Allowed) (claim : Claim)
     (result : Result (List ℕ) SessionFault) (new : SessionsState) : Type 0 where
   pub answer : IsOrStarved OutOfMemory (activate_answer old token allowed claim) result
   pub leaves : MatchResult result
       (λ user. new ≡ record old { alive = with_user token user old.alive }) (λ _. new ≡ old)
 
+-- the session of this token is gone; nothing changed where there is none
 pub record Closes (old : SessionsState) (token : NodeId) (result : Result (Unit {0}) SessionFault)
     (new : SessionsState) : Type 0 where
   pub answer : result ≡ close_answer old token
@@ -112,5 +115,6 @@ pub record Closes (old : SessionsState) (token : NodeId) (result : Result (Unit 
 
 -- ---- what each session keeps
 
+-- its user, where it has one, is as long as a record's may be
 abbrev pub HasShortUser : Session → Type 0
 HasShortUser session = IfSome session.user (λ user. length user ≤ 256)

@@ -10,7 +10,7 @@ use Rattle.ua_settings.specs.declared.settings.Parts.{Parts}
 -- its nodes; how many connections it serves at a time, and how many MiB may wait to be written;
 -- the peers that it calls, where peers come to it, if not to the address where clients do, and
 -- where browsers come to it, if they do; what it does once its store is broken, whether others
--- may have a hand in its files, and from how many milliseconds on a turn is told; behind how many
+-- may have a hand in its files, and from how many milliseconds on a turn is told; after how many
 -- refused logins from one address its next ones wait, and whether what happens is told
 abbrev pub SettingsValues : Type 0
 SettingsValues = Parts

@@ -69,8 +69,8 @@ pub struct Parts {
     pub is_strict: bool,
     /// From how many milliseconds on a turn of a connection is told; none: none is.
     pub slow: Option<u32>,
-    /// Behind how many refused logins from one address within a minute its next ones are answered a second later each,
-    /// 1 to 1,000; none: behind any number they aren't.
+    /// After how many refused logins from one address within a minute its next ones are answered a
+    /// second later each, 1 to 1,000; none: after any number they aren't.
     pub logins: Option<u32>,
     /// Whether what happens is told on standard error.
     pub events: bool,
@@ -326,8 +326,8 @@ impl Settings {
         self.slow
     }
 
-    /// Behind how many refused logins from one address within a minute its next ones are answered a second later each;
-    /// none: behind any number they aren't.
+    /// After how many refused logins from one address within a minute its next ones are answered a
+    /// second later each; none: after any number they aren't.
     pub fn logins(&self) -> Option<u32>
         ensures { result ≡ self.now.logins }
     {

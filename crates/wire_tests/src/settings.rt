@@ -356,7 +356,7 @@ enum Asked<'a> {
     Admitted(&'a [u8], u32),
     /// Where browsers come to, and how many at a time.
     Web(&'a str, u32),
-    /// Behind how many refused logins the next ones wait, and whether what happens is told.
+    /// After how many refused logins the next ones wait, and whether what happens is told.
     Log(Option<u32>, bool),
     /// Whether the users have the passwords of the files.
     Passwords,
@@ -585,7 +585,7 @@ fn webs_are_read(rt: HostRuntime) -> Result<(), Fail> {
     Ok(())
 }
 
-/// What goes on behind the start; behind how many refused logins the next ones wait, and whether what happens is told.
+/// What goes on after the start; after how many refused logins the next ones wait, and whether what happens is told.
 static LOGS: [(&str, Option<u32>, bool); 6] = [
     ("", None, false),
     ("logins = 1\n", Some(1), false),
