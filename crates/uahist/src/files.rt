@@ -122,10 +122,10 @@ pub fn why_broken(archive: FileArchive) -> &'static str {
     let files = archive.into_files();
     let met = files.tally();
     match (files.may_be_used(), met.caught > 0, met.refused > 0) {
-        (false, _, true) => "a sync of its disk failed, which had no room",
+        (false, _, true) => "a sync of its disk failed; it had been full",
         (false, _, false) => "a sync of its disk failed",
         (true, true, _) => "its disk gave other bytes than were written there",
-        (true, false, true) => "its disk had no room",
+        (true, false, true) => "a read or a write of its disk failed; it had been full",
         (true, false, false) => causes::BROKEN,
     }
 }
