@@ -77,7 +77,7 @@ static ROWS: [(&str, &str); 7] = [
          there are users with a name; without a name: not allowed\n\
          0 variables, 0 folders\n\
          4 peers are called; the door listens at 10.0.0.1:4841\n\
-         behind 5 refused logins from one address within a minute its next ones are answered a second later each\n\
+         after 5 refused logins from one address within a minute its next ones are answered a second later each\n\
          warning: two peers have the address 10.0.0.2:4841\n\
          warning: a peer has this server's own address 10.0.0.1:4840\n\
          warning: a peer has this server's own address 10.0.0.1:4841\n",

@@ -97,7 +97,7 @@ events_facts events =
 -- after how many refused logins from one address its next ones wait
 abbrev pub logins_line : (most : ℕ) → List ℕ
 logins_line most =
-    codes "behind " ++ counted_noun most (codes " refused login") (codes " refused logins")
+    codes "after " ++ counted_noun most (codes " refused login") (codes " refused logins")
     ++ codes " from one address within a minute its next ones are answered a second later each"
 
 -- the same, where they wait

@@ -200,7 +200,7 @@ fn put_events(out: &mut Vec<u8>, events: bool) -> Result<(), AllocError>
 fn put_most_logins(out: &mut Vec<u8>, most: u32) -> Result<(), AllocError>
     ensures { OnOk result (out.new.items ≡ out.old.items ++ logins_line most) }
 {
-    out.extend_from_slice(b"behind ")?;
+    out.extend_from_slice(b"after ")?;
     put_counted(out, u64::from(most), b" refused login", b" refused logins")?;
     out.extend_from_slice(
         b" from one address within a minute its next ones are answered a second later each",

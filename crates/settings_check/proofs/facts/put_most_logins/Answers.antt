@@ -11,9 +11,9 @@ returns c =
     let second = c.put_counted.new.out.items in
     let new = c.extend_from_slice-2.new.self.items in
     let count = counted_noun c.args.most (codes " refused login") (codes " refused logins") in
-    two result old second new (codes "behind " ++ count)
+    two result old second new (codes "after " ++ count)
     (codes " from one address within a minute its next ones are answered a second later each")
-    (join old first second (codes "behind ") count c.in_ok-extend_from_slice.ensures.items
+    (join old first second (codes "after ") count c.in_ok-extend_from_slice.ensures.items
     (c.in_ok-put_counted.ensures
     ∙ ap (λ n. first ++ counted_noun n (codes " refused login") (codes " refused logins"))
     c.from.ensures))
