@@ -101,7 +101,7 @@ class Server:
 
 def words():
     """Words that are no command."""
-    name, nothing = write(PLANT), "want a command, and behind --perform insert, replace or update"
+    name, nothing = write(PLANT), "want a command, and after --perform insert, replace or update"
     lacking = "the following required arguments were not provided: "
     for cause, what, given, why in (
             ("they name no command", "no word", [], nothing),

@@ -10,7 +10,7 @@ use ua_server::ProgramFault;
 use ua_settings::SettingsFault;
 
 /// What is said of words that the parser takes, and that say nothing to do.
-const NO_COMMAND: &str = "want a command, and behind --perform insert, replace or update";
+const NO_COMMAND: &str = "want a command, and after --perform insert, replace or update";
 
 /// Why a store broke, where nothing more is known.
 pub(crate) const BROKEN: &str = "a read or a write of its disk failed";
