@@ -44,7 +44,7 @@ AreOfClient door steps =
     (3 ≤ length (bytes_received steps)) × (is_peers door (bytes_received steps) ≡ false)
     × TakesAll steps
 
--- for these bytes, that came behind those that wait, this was made: one stretch of the answer to
+-- for these bytes, that came after those that wait, this was made: one stretch of the answer to
 -- them, over an archive, by what the clock gave
 pub record AnswersStretch {A C L : Type 0} (state : A → Store) (gave : C → List ℤ → C → Type 0)
     (v : World A C L) (link : ConnectionState) (came made : List ℕ) (w : World A C L)

@@ -35,7 +35,7 @@ Telling L = L → LogEvent → L → Type 0
 abbrev pub Logs : {A C L : Type 0} → Telling L → LogEvent → World A C L → World A C L → Type 0
 Logs told event v w = (w ≡ record v { log = w.log }) × told v.log event w.log
 
--- what a step of a client did in its sessions, which were these before it and behind it, if it did
+-- what a step of a client did in its sessions, which were these before it and after it, if it did
 -- something of which a log is told
 abbrev pub audited_by : (old new : SessionsState) → Option AuditEvent
 audited_by old new = if new.audits == old.audits then None else new.last_audit

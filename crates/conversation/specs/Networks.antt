@@ -20,7 +20,7 @@ width address = elim address [ V4 a ↦ 32 | V6 a ↦ 128 ]
 abbrev pub is_slash : ℕ → Bool
 is_slash letter = letter == 47
 
--- a text writes this number, which is below 256, in decimal digits, perhaps behind a plus
+-- a text writes this number, which is below 256, in decimal digits, perhaps after a plus
 abbrev pub IsLengthText : List ℕ → ℕ → Type 0
 IsLengthText text n =
     IsNumeral 10 (without_leading_plus text) × (n ≡ digits_value 10 (without_leading_plus text))

@@ -60,7 +60,7 @@ moved_by other = elim other [
   | _ ↦ none_moved
 ]
 
--- the other end behind an answer, which may have ended the connection
+-- the other end after an answer, which may have ended the connection
 abbrev pub unless_over : Option ConversationEnding → OtherEnd → OtherEnd
 unless_over ending other = elim ending [ None ↦ other | Some end ↦ Over (moved_by other) ]
 

@@ -77,7 +77,7 @@ fn are_done(updates: &[UpdateAudit]) -> bool
     updates.iter().any(|update| was_done(update))
 }
 
-/// Whether they still come back behind what a client did: an update ends that, of which something was done.
+/// Whether they still come back after what a client did: an update ends that, of which something was done.
 pub(crate) fn restoring_unless(restoring: bool, event: Option<&AuditEvent>) -> bool
     ensures { result ≡ restoring_unless restoring (option_copied event.entry) }
 {

@@ -174,7 +174,7 @@ impl Logins {
         self.is_held = false;
     }
 
-    /// A client was answered, behind which this stands for a log.
+    /// A client was answered, after which this stands for a log.
     pub(crate) fn note_audit(
         &mut self,
         limit: Option<u32>,

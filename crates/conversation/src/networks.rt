@@ -27,7 +27,7 @@ fn width(address: IpAddr) -> u8
     }
 }
 
-/// The number that a text writes in decimal digits, perhaps behind a `+`, if it is below 256.
+/// The number that a text writes in decimal digits, perhaps after a `+`, if it is below 256.
 fn length_in(text: &str) -> Option<u8>
     ensures { MatchOption result (IsNoLength text.now) (IsLengthText text.now) }
 {

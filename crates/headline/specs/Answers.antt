@@ -32,7 +32,7 @@ replica_answer query s node point = result_in (read_node s.id node query point s
 abbrev pub results_of : HistoryQuery → ReplicaState → List HistoryReadResult
 results_of asked s = map (λ item. replica_answer asked.query s item.0 item.1) asked.nodes
 
--- the bytes of a response with these results, behind its header
+-- the bytes of a response with these results, after its header
 abbrev pub bytes_of : List HistoryReadResult → List ℕ
 bytes_of results = history_read_response.canon (map history_fields results)
 

@@ -21,7 +21,7 @@ pub record CallState : Type 0 where
   pub here : Content
   pub there : Content
 
--- Behind what came in between, the one that is called holds `there` and answers what was said, and
+-- After what came in between, the one that is called holds `there` and answers what was said, and
 -- the caller holds `here` and takes the answer; nothing comes in the way of either.
 pub record Round (e : Execution) (caller called : Party) (before : CallState) : Type 0 where
   pub here : Content
@@ -37,7 +37,7 @@ pub record Round (e : Execution) (caller called : Party) (before : CallState) : 
       × WasHeld e (turned caller before.state here answer).content
       × WasHeld e (turned called Serving there asked).content
 
--- how the call stands behind the round
+-- how the call stands after the round
 abbrev pub call_behind : (e : Execution) (caller called : Party) (before : CallState)
     → Round e caller called before → CallState
 call_behind e caller called before round = record {

@@ -22,7 +22,7 @@ pub record RestartsAs (left later : Store) : Type 0 where
   pub content : IsLeft left later.content
   pub used : IsInUse later
 
--- another execution that goes on behind this one
+-- another execution that goes on after this one
 abbrev pub Extends : Execution → Execution → Type 0
 Extends p q = (more : List Event) × (q ≡ record p { events = p.events ++ more })
 
@@ -53,7 +53,7 @@ module _ {A : Type 0} (state : A → Store) where
     pub used : AreInUse machines
     pub hold : AreSites state machines (run p.events p.start).replicas
 
-  -- so it is behind the execution, and what happened since
+  -- so it is after the execution, and what happened since
   abbrev pub ExtendsTo : Execution → List A → Type 0
   ExtendsTo p machines = (q : Execution) × Extends p q × Simulates q machines
 

@@ -143,7 +143,7 @@ pub record Plant (A : Type 0) : Type 0 where
   pub machines : List A
   pub written : List (List ℕ)
 
--- the plant behind a turn of the machine at this place, by which this was written to a peer
+-- the plant after a turn of the machine at this place, by which this was written to a peer
 abbrev pub plant_after : {A : Type 0} → Plant A → (place : ℕ) → A → (made : List ℕ) → Plant A
 plant_after old place later made = record {
   machines = slice_set old.machines place later;
@@ -163,7 +163,7 @@ module _ {A : Type 0} (state : A → Store) where
     pub written : (bytes : List ℕ) → Has plant.written bytes
         → BringsSent (run p.events p.start).pool bytes
 
-  -- so it is behind the execution, and what happened since
+  -- so it is after the execution, and what happened since
   abbrev pub PlantExtendsTo : Execution → Plant A → Type 0
   PlantExtendsTo p plant = (q : Execution) × Extends p q × PlantSimulates q plant
 
@@ -227,7 +227,7 @@ module _ {A : Type 0} (state : A → Store) where
   ArePlantSteps plant [] = ⊤
   ArePlantSteps plant (next ∷ later) = IsPlantStep plant next × ArePlantSteps next later
 
-  -- each of these plants simulates an execution that goes on behind that of the one before it
+  -- each of these plants simulates an execution that goes on after that of the one before it
   abbrev pub AreSimulated : Execution → List (Plant A) → Type 0
   AreSimulated p [] = ⊤
   AreSimulated p (plant ∷ later) =

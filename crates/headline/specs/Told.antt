@@ -24,7 +24,7 @@ operations_of type R (DeleteAtTime (node, times)) = deletes_at times
 operations_of type R Other = []
 
 -- where a user asked at this moment for the details, over R, each operation whose code is Good in
--- the result was granted to that user, and has its record in S, one that is new behind R
+-- the result was granted to that user, and has its record in S, one that is new after R
 pub record IsHeldFor (own : ℕ) (seen : UserSpace) (user : List ℕ) (now : Ticks) (R : Content)
     (details : Details) (result : HistoryUpdateResult) (S : Content) : Type 0 where
   pub held : (k : ℕ) (code : Status) → slice_get result.operation_results k ≡ Some code
@@ -35,7 +35,7 @@ pub record IsHeldFor (own : ℕ) (seen : UserSpace) (user : List ℕ) (now : Tic
       × HasRecordOf R S (asked_for user now node) own operation
 
 -- these details added what their result tells, over R: a record for each operation whose code is
--- Good, one after the other, and for one that broke the store where a record may stand behind a
+-- Good, one after the other, and for one that broke the store where a record may stand after a
 -- break, and nothing else; or they were refused, and added nothing
 abbrev pub AddsFrom : (may : Bool) → ℕ → UserSpace → List ℕ → Ticks → Content → Details
     → HistoryUpdateResult → Content → Type 0
@@ -45,7 +45,7 @@ AddsFrom may own seen user now R details result S =
     × AddsFor may (asked_for user now node) own (operations_of type R details) result R S)
     ⊎ ((result.operation_results ≡ []) × (S ≡ R))
 
--- so did all of them, each behind those before it
+-- so did all of them, each after those before it
 abbrev pub AddsAll : (may : Bool) → ℕ → UserSpace → List ℕ → Ticks → List Details
     → List HistoryUpdateResult → Content → Content → Type 0
 AddsAll may own seen user now [] results R S = (results ≡ []) × (S ≡ R)

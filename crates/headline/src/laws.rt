@@ -77,8 +77,8 @@ fn whole_reads(details: ReadRawModifiedDetails)
 /// So do their servers, message for message: two HistoryReads that ask the same, each in an activated session of its server, are
 /// answered by the same results, node by node, whatever else differs in the messages (their time, their handle, the session), as
 /// long as both servers have the same nodes. Excepted are results that report want of memory or a fault of the store, and a whole
-/// response that reports want of memory; one that is larger than its client takes is replaced behind this, by what that client
-/// said it takes. Where no result reports any of these, the bytes of the responses behind their headers are equal.
+/// response that reports want of memory; one that is larger than its client takes is replaced after this, by what that client
+/// said it takes. Where no result reports any of these, the bytes of the responses after their headers are equal.
 pub fn replicas_converge()
     ensures vectors { (p : Execution) (s t : ReplicaState) → IsExecution p → IsReachable p s
         → IsReachable p t
@@ -177,7 +177,7 @@ pub fn merging_is_a_join()
 /// comes to above all that was held: a replica has learned it, at any time, exactly where its vector covers it. Wherever
 /// it was learned, it stands, in all reads of its node that reach its time, their pages joined: its own modification is
 /// shown, with its user and its tick; where its stamp is the greatest of its node and time, a write's value is the live
-/// one, and no other is, and behind a delete none is; and where it isn't, a write's value is shown by a modification. Of
+/// one, and no other is, and after a delete none is; and where it isn't, a write's value is shown by a modification. Of
 /// each node and time where something was learned one stamp is the greatest, its own or one above its own; and a read of
 /// its one time reaches it.
 pub fn every_update_stands(details: ReadRawModifiedDetails)
@@ -272,7 +272,7 @@ pub fn pages_stay(details: ReadRawModifiedDetails)
 }
 
 /// The headline of machines: archives in use, in whatever stores. Those that begin with nothing hold what the replicas of a past do, and go on to, in pasts
-/// that go on behind it, whatever is done to them over a network: one serves a client, whatever that sends and however its connection ends; one calls another,
+/// that go on after it, whatever is done to them over a network: one serves a client, whatever that sends and however its connection ends; one calls another,
 /// and their call is cut off anywhere or comes to its end; a store breaks in the midst of either, and is opened anew; one stops between its connections, and its
 /// store is opened anew. So the laws of replicas are laws of machines: two whose vectors are equal, where neither answer reports want of memory or a fault of
 /// the store, answer a read of a node's history alike.
@@ -304,9 +304,9 @@ pub fn machines_simulate_an_execution<A: Archive>()
 {}
 
 /// What a client is told is Good is held: where the message of an activated session is a HistoryUpdate and is answered by results, each operation whose code is
-/// Good was granted to the session's user, who may write, and has its record in what is held behind it: a new one, whose tick is above all that were held before the details it is of,
+/// Good was granted to the session's user, who may write, and has its record in what is held after it: a new one, whose tick is above all that were held before the details it is of,
 /// and of the message's moment or a later one. The operations are those that the details ask where something is held that has all that was held before the
-/// message, for the details before them were done. And nothing else is added: what is held behind the message is what was held before it and these records,
+/// message, for the details before them were done. And nothing else is added: what is held after the message is what was held before it and these records,
 /// one for each such operation, in order; but where an operation broke the store its record may stand too, if `may` says that one may.
 #[tactic(auto, using(crate::proofs::Told::good_held))]
 pub fn good_answers_are_stored()

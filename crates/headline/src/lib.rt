@@ -13,7 +13,7 @@
 //! - `pages_stay`: pages show what the first one's replica held then, whatever happens in between.
 //! - `machines_simulate_an_execution`: archives that clients' connections, calls between them and restarts change hold
 //!   what the replicas of a past do.
-//! - `good_answers_are_stored`: behind a message each operation that its response tells as Good has its record.
+//! - `good_answers_are_stored`: after a message each operation that its response tells as Good has its record.
 #![tactic(auto)]
 
 mod lawful;

@@ -43,7 +43,7 @@ use ua_connection::Clock;
 
 /// What the answer to a client's message leaves at an archive in use is what events of a world leave: whatever the message says, updates
 /// at this replica, each as its conditions ask, one after the other, make of the world one in which it holds what it is left with, and
-/// all else is as it was. What came before the message on its connection, and what comes behind it, is of other turns. An archive in
+/// all else is as it was. What came before the message on its connection, and what comes after it, is of other turns. An archive in
 /// use is left with what it holds; of one whose store broke in the midst, or that was stopped there, it is whatever an opening may find.
 pub fn answers_are_updates<A: Archive>()
     ensures { (settings : SettingsValues) (a b : A) (link next : ConnectionState)
@@ -96,7 +96,7 @@ pub fn connections_forge_nothing()
 {}
 
 /// The headline of plants: machines that serve many clients and peers at once are replicas of a past. A plant that begins with nothing
-/// simulates the empty past, and each thing that happens leads on to a past that goes on behind it: a client's message is answered, frames of a
+/// simulates the empty past, and each thing that happens leads on to a past that goes on after it: a client's message is answered, frames of a
 /// peer are, some first records are learned of a frame that is learned over several turns, records of a peer aren't taken, a call to a peer
 /// begins, a machine is stopped and its store opened anew; also where the store broke in the midst of a turn. These come in any order at any
 /// machines, so that between two frames of one dialog anything may happen to both its ends. A peer may be anybody and say anything, and what is
@@ -171,7 +171,7 @@ pub fn conversations_take_turns<A: Archive, C: Clock, L: Log>()
 /// When a call is done each end holds all that the other one held: whatever other turns come in between, which only add to what either
 /// holds, if the caller ended the call well then it holds all that the one that it called held when the call began, and that one holds all
 /// that the caller holds by then. All that either holds is held by replicas of a past. A round of a call is what its two ends make of each
-/// other's frames where nothing comes in the way, and that is so of each frame behind which an end goes on, or is done.
+/// other's frames where nothing comes in the way, and that is so of each frame after which an end goes on, or is done.
 pub fn a_call_that_is_done_leaves_all_at_both()
     ensures done { (e : Execution) (caller called : Party) (here there : Content) (rounds : ℕ)
         (after : CallState) → IsExecution e → WasHeld e here

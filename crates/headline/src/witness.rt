@@ -55,7 +55,7 @@ fn two(
 }
 
 /// Opens two archives in memory, two replicas of one archive that hold nothing, and lets events happen between them: updates at
-/// either, batches that one sends and that come to the other, in any order. Behind them there is a past of just these events, and
+/// either, batches that one sends and that come to the other, in any order. After them there is a past of just these events, and
 /// the archives hold what its replicas do; its world is sound. So what the laws of this crate ask for is there, of code that runs:
 /// a past, replicas of it at any time, machines of it, updates that were answered, and archives that may be read.
 ///

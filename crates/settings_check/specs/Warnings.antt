@@ -89,13 +89,13 @@ path_warning s =
     warned (option_map_or (λ path. not (begins_with path (codes "/"))) s.store false)
     (codes "the store's path is relative: from another folder it makes a new, empty archive")
 
--- a peer has the address of one of those behind it
+-- a peer has the address of one of those after it
 abbrev pub repeated_warning : PeerCall → (behind : List PeerCall) → List (List ℕ)
 repeated_warning peer behind =
     warned (list_any (λ other. pointwise nat_eq other.address peer.address) behind)
     (codes "two peers have the address " ++ legible peer.address)
 
--- a warning for each peer whose address one of those behind it has
+-- a warning for each peer whose address one of those after it has
 abbrev pub repeated_warnings : List PeerCall → List (List ℕ)
 repeated_warnings [] = []
 repeated_warnings (peer ∷ peers) = repeated_warning peer peers ++ repeated_warnings peers

@@ -217,7 +217,7 @@ fn have_address(peers: &[PeerCall], address: &str) -> bool
     peers.iter().any(|peer| has_address(peer, address))
 }
 
-/// Appends a warning where a peer has the address of one of those behind it.
+/// Appends a warning where a peer has the address of one of those after it.
 fn put_repeated_of(
     out: &mut Vec<u8>,
     peer: &PeerCall,
@@ -231,7 +231,7 @@ fn put_repeated_of(
     put_warned_of(out, again, b"two peers have the address ", address)
 }
 
-/// Appends a warning of each peer whose address one behind it has too.
+/// Appends a warning of each peer whose address one after it has too.
 fn put_repeated(out: &mut Vec<u8>, peers: &[PeerCall]) -> Result<(), AllocError>
     ensures { OnOk result
         (out.new.items ≡ out.old.items ++ text_of (repeated_warnings peers.now)) }

@@ -1,4 +1,4 @@
-//! Why something was refused, in words: a second line on standard error, behind the program's own. No clause speaks of it, as of
+//! Why something was refused, in words: a second line on standard error, after the program's own. No clause speaks of it, as of
 //! all that the system says.
 
 use archive::StoreFault;
@@ -228,7 +228,7 @@ fn of_exchange(number: u32) -> Option<&'static str> {
     }
 }
 
-/// What is told of an ending behind its own line, by what the system said last where the machine couldn't do something, and by
+/// What is told of an ending after its own line, by what the system said last where the machine couldn't do something, and by
 /// why a store broke that it closed. An address of which it said nothing wasn't asked for: its text spells none.
 pub(crate) fn of_ending(
     ending: &Result<(), ProgramFault>,

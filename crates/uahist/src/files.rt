@@ -28,7 +28,7 @@ const HEADER: [u8; 100] = [
     0, 0, 0, 0, 0, 0, 0, 0, 0, 0, 0, 46, 118, 136,
 ];
 
-/// A leaf of a tree of rows, which stands behind the header: of no cell, so its cells begin where the page ends.
+/// A leaf of a tree of rows, which stands after the header: of no cell, so its cells begin where the page ends.
 const LEAF: [u8; 8] = [13, 0, 0, 0, 0, 4, 0, 0];
 
 /// How many bytes a file has, 0 where none stands at the path.

@@ -23,7 +23,7 @@ const TICK: u64 = 500;
 /// How many events one wait takes.
 const EVENTS: usize = 256;
 
-/// How many are let into the waiting room behind one wait.
+/// How many are let into the waiting room after one wait.
 const MOST_AT_ONCE: usize = 64;
 
 /// A peer that is called, and when.
@@ -167,7 +167,7 @@ impl<'a> TcpSource<'a> {
         Ok(None)
     }
 
-    /// The next doorway where somebody may come. The one behind it is asked first the next time.
+    /// The next doorway where somebody may come. The one after it is asked first the next time.
     fn next_coming(&mut self) -> Option<&mut Doorway> {
         let count = self.doorways.len();
         for _ in 0..count {
@@ -363,7 +363,7 @@ impl Source for TcpSource<'_> {
         }
     }
 
-    /// A connection that can't be had is tried again behind the next wait.
+    /// A connection that can't be had is tried again after the next wait.
     fn accept(&mut self, slot: usize) -> Arrival<Incoming, Outgoing> {
         self.was_asked = true;
         match self.next_for(slot) {

@@ -145,7 +145,7 @@ TellsCsv R question head_only chunked faults text sending =
           ⊎ ((faults ≡ []) × BeginsCsv R question chunked text sending)
     ]
 
--- A portion of a history as it is sent, and behind the last one the end. Where the store met a
+-- A portion of a history as it is sent, and after the last one the end. Where the store met a
 -- fault, or a value has no text, the history is broken off without it.
 abbrev pub IsPortionText : (chunked : Bool) → (portion : List ℕ) → Result Bool ReportFault
     → List ℕ → Type 0
@@ -157,7 +157,7 @@ IsPortionText chunked portion result text =
       | _ ↦ text ≡ piece_text (coding_of chunked) portion
     ]
 
--- what is still to be sent behind a portion, where it isn't the last
+-- what is still to be sent after a portion, where it isn't the last
 abbrev pub rest_of : (chunked : Bool) → Remainder → Result Bool ReportFault → Option Sending
 rest_of chunked left result =
     elim result [
@@ -231,11 +231,11 @@ AreWrongIn s came =
 
 -- ---- a step
 
--- what is behind a text and still to be sent, if anything is
+-- what is after a text and still to be sent, if anything is
 abbrev pub sending_of : Rest → Option Sending
 sending_of behind = elim behind [ rest.Sending left ↦ Some left | _ ↦ None ]
 
--- what a step comes to, by what is behind its text
+-- what a step comes to, by what is after its text
 abbrev pub step_of : Rest → WebStep
 step_of behind =
     elim behind [ rest.Sending left ↦ Continues | rest.Over ↦ Ended | rest.Denied ↦ Denied ]

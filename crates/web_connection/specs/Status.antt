@@ -12,13 +12,13 @@ use Rattle.web_page.specs.declared.calls.LastCall.{LastCall}
 
 -- ---- records
 
--- a replica and the number of its last record, behind a comma, if it has any
+-- a replica and the number of its last record, after a comma, if it has any
 abbrev pub member_text : (replica number : ℕ) → List ℕ
 member_text replica number =
     if nat_lt 0 number then codes ",\"" ++ decimal replica ++ codes "\":" ++ decimal number
     else []
 
--- the replicas that have records, each behind a comma
+-- the replicas that have records, each after a comma
 unfoldable pub members_text : (numbers : ℕ → ℕ) → List ℕ
 members_text numbers =
     flat_map (λ replica. member_text replica (numbers replica)) (range_with_len 1 64)
@@ -68,19 +68,19 @@ IsLastJson last text = elim last [
   | Some end ↦ (time : List ℕ) × IsEndTime end time × (text ≡ end_json end time)
 ]
 
--- a peer at this address, with this text of its last call, behind a comma
+-- a peer at this address, with this text of its last call, after a comma
 unfoldable pub peer_json : (address last : List ℕ) → List ℕ
 peer_json address last =
     codes ",{\"address\":" ++ string_text address ++ codes ",\"last\":" ++ last ++ codes "}"
 
--- a peer and its last call, behind a comma
+-- a peer and its last call, after a comma
 abbrev pub IsPeerJson : LastCall → List ℕ → Type 0
 IsPeerJson call text =
     (last : List ℕ) × IsLastJson call.end last × (text ≡ peer_json call.address last)
 
 -- ---- the whole
 
--- the text around these members and these peers, each of which stands behind a comma
+-- the text around these members and these peers, each of which stands after a comma
 abbrev pub status_json : Overview → (members peers : List ℕ) → List ℕ
 status_json overview members peers =
     codes "{" ++ replica_text overview.settings ++ codes ",\"connections\":"

@@ -10,7 +10,7 @@ use Rattle.web_request.specs.declared.answer.Kind.{Kind}
 use Rattle.web_request.specs.declared.answer.Kind.TheVariants.{Csv}
 use Rattle.web_request.specs.declared.answer.Status.TheVariants.{Success}
 
--- what the head of an answer tells: the connection is closed behind it
+-- what the head of an answer tells: the connection is closed after it
 abbrev pub told_of : Kind → Body → Answer
 told_of kind body = record { status = Success; kind = kind; body = body; keeps_open = false }
 

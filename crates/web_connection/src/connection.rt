@@ -152,7 +152,7 @@ impl WebConnection {
     /// that was begun is broken off.
     ///
     /// The one error is want of memory, and then nothing is appended. The connection is over then, as
-    /// it is behind `Ended` and `Denied`.
+    /// it is after `Ended` and `Denied`.
     pub fn answer<A: Archive>(
         &mut self,
         overview: Overview<'_>,

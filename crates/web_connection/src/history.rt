@@ -151,7 +151,7 @@ fn sent_text(alloc: Global, portion: &[u8], chunked: bool) -> Result<Vec<u8>, Al
     Ok(out)
 }
 
-/// The last portion in its frame, and the end behind it.
+/// The last portion in its frame, and the end after it.
 fn last_text(alloc: Global, portion: &[u8], chunked: bool) -> Result<Vec<u8>, AllocError>
     ensures { IfOk result (λ text. text.items
         ≡ piece_text (coding_of chunked) portion.now ++ end_text (coding_of chunked) []) }
@@ -189,7 +189,7 @@ pub(crate) fn history_text<A: Archive>(
     }
 }
 
-/// A portion as it is sent: behind the last one stands the end. Where the store met a fault, or a value
+/// A portion as it is sent: after the last one stands the end. Where the store met a fault, or a value
 /// has no text, there is no end.
 fn portion_text(
     alloc: Global,
@@ -209,7 +209,7 @@ fn portion_text(
     }
 }
 
-/// What is behind a portion.
+/// What is after a portion.
 fn rest_of(portions: Portions, next: Result<bool, ReportFault>, chunked: bool) -> Rest
     ensures left { sending_of result ≡ rest_of chunked portions next }
     ensures let_in { result ≢ Denied }

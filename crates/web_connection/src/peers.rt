@@ -130,7 +130,7 @@ fn last_json(alloc: Global, last: Option<CallEnd>) -> Result<Vec<u8>, AllocError
     }
 }
 
-/// A peer at this address, with this text of its last call, behind a comma.
+/// A peer at this address, with this text of its last call, after a comma.
 #[tactic(auto, unfolding(crate::specs::Status::peer_json))]
 fn peer_json(alloc: Global, address: &[u8], last: &[u8]) -> Result<Vec<u8>, AllocError>
     ensures { IfOk result (λ text. text.items ≡ peer_json address.now last.now) }
@@ -145,7 +145,7 @@ fn peer_json(alloc: Global, address: &[u8], last: &[u8]) -> Result<Vec<u8>, Allo
     Ok(text)
 }
 
-/// A peer and its last call, behind a comma.
+/// A peer and its last call, after a comma.
 fn called_json(alloc: Global, call: &LastCall) -> Result<Vec<u8>, AllocError>
     ensures { IfOk result (λ text. IsPeerJson call.now text.items) }
 {
@@ -153,7 +153,7 @@ fn called_json(alloc: Global, call: &LastCall) -> Result<Vec<u8>, AllocError>
     peer_json(alloc, call.address.as_str().as_bytes(), last.as_slice())
 }
 
-/// The peers that are called, each with its last call and behind a comma.
+/// The peers that are called, each with its last call and after a comma.
 pub(crate) fn peers_text(alloc: Global, calls: &[LastCall]) -> Result<Vec<u8>, AllocError>
     ensures { IfOk result (λ text. AreLines IsPeerJson calls.now text.items) }
 {

@@ -42,7 +42,7 @@ fn refusal_of(settings: &Settings, request: &Request) -> Option<Refusal>
     None
 }
 
-/// What is behind a refusal.
+/// What is after a refusal.
 fn refused_rest(settings: &Settings, request: &Request) -> Rest
     ensures none { sending_of result ≡ None }
     ensures denied { (result ≡ Denied) ↔ (are_wrong settings.now request.now.credentials ≡ true) }

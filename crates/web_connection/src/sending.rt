@@ -11,7 +11,7 @@ pub(crate) struct Sending {
     pub(crate) chunked: bool,
 }
 
-/// What is behind what a step tells.
+/// What is after what a step tells.
 #[derive(Drop)]
 pub(crate) enum Rest {
     /// What is still to be sent.
@@ -22,11 +22,11 @@ pub(crate) enum Rest {
     Denied,
 }
 
-/// What a step tells: bytes, and what is behind them.
+/// What a step tells: bytes, and what is after them.
 #[derive(Drop)]
 pub(crate) struct Told {
     /// The bytes.
     pub(crate) text: Vec<u8>,
-    /// What is behind them.
+    /// What is after them.
     pub(crate) rest: Rest,
 }

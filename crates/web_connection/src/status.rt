@@ -15,7 +15,7 @@ use ua_settings::Settings;
 use uuid::Uuid;
 use web_page::Overview;
 
-/// Appends a replica and the number of its last record behind a comma, if it has any.
+/// Appends a replica and the number of its last record after a comma, if it has any.
 fn put_member(out: &mut Vec<u8>, replica: ReplicaNo, number: u64) -> Result<(), AllocError>
     ensures { OnOk result (out.new.items ≡ out.old.items ++ member_text replica number) }
 {
@@ -40,7 +40,7 @@ fn put_numbered(out: &mut Vec<u8>, vector: &Vector, number: u8) -> Result<(), Al
     }
 }
 
-/// The replicas that have records, each behind a comma.
+/// The replicas that have records, each after a comma.
 #[tactic(auto, unfolding(crate::specs::Status::members_text))]
 fn members_text(alloc: Global, vector: &Vector) -> Result<Vec<u8>, AllocError>
     ensures { IfOk result (λ text. text.items ≡ members_text (number_of vector.now)) }
@@ -79,7 +79,7 @@ fn replica_text(alloc: Global, settings: &Settings) -> Result<Vec<u8>, AllocErro
     Ok(text)
 }
 
-/// Around these members and these peers, each of which stands behind a comma.
+/// Around these members and these peers, each of which stands after a comma.
 fn whole_text(
     alloc: Global,
     overview: Overview<'_>,

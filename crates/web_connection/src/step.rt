@@ -7,7 +7,7 @@ pub enum WebStep {
     NeedsInput,
     /// There is more to answer: ask again, once what was made is written.
     Continues,
-    /// The answer is over, and the connection is to be closed behind it.
+    /// The answer is over, and the connection is to be closed after it.
     Ended,
     /// The answer is over: who asked isn't one of the settings' users and was told so. Credentials were
     /// given; who gave none is answered as `Ended`.

@@ -18,7 +18,7 @@ use Rattle.web_page.specs.declared.calls.Overview.{Overview as Lent}
 abbrev pub uncalled : PeerCall → LastCall
 uncalled peer = record { address = peer.address; end = None }
 
--- behind a call of the peer of this number that ended so: its entry tells that, all others stay
+-- after a call of the peer of this number that ended so: its entry tells that, all others stay
 abbrev pub after_call : (callee : ℕ) → CallEnd → List LastCall → List LastCall
 after_call callee end calls = elim (slice_get calls callee) [
   | None ↦ calls
@@ -52,7 +52,7 @@ tick_time ticks = record { ticks = ticks; pico = 0 }
 abbrev pub IsEndTime : CallEnd → List ℕ → Type 0
 IsEndTime end text = IsTimeText (tick_time end.at) text
 
--- words, and a number behind them in brackets
+-- words, and a number after them in brackets
 abbrev pub numbered_words : (words : List ℕ) → (number : ℕ) → List ℕ
 numbered_words words number = words ++ codes " (" ++ decimal number ++ codes ")"
 

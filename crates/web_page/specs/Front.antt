@@ -140,7 +140,7 @@ ArePeers calls text =
 
 -- ---- the page
 
--- rows of these variables, one behind the other
+-- rows of these variables, one after the other
 abbrev pub AreRows : Layout → (now : ℤ) → Content → List Listed → List ℕ → Type 0
 AreRows space now R listed rows = AreLines (IsVariableRow space now R) listed rows
 

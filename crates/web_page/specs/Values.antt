@@ -14,7 +14,7 @@ use Rattle.history_csv.specs.Rows.{IsVariantText, IsTextless, code_text, time_of
 
 -- ---- types
 
--- the names of the types that a value may have, each behind its number (Part 6, 5.1.2)
+-- the names of the types that a value may have, each after its number (Part 6, 5.1.2)
 unfoldable pub type_names : List (ℕ × List ℕ)
 type_names =
     (1, codes "Boolean") ∷ (2, codes "SByte") ∷ (3, codes "Byte") ∷ (4, codes "Int16")
@@ -89,7 +89,7 @@ AreLatestTexts now latest value status time age =
 abbrev pub is_start : ℕ → Bool
 is_start b = nat_lt b 128 || nat_le 192 b
 
--- a text up to the character that stands behind so many, with dots in place of the rest
+-- a text up to the character that stands after so many, with dots in place of the rest
 abbrev pub cut_behind : (left : ℕ) → List ℕ → List ℕ
 cut_behind left [] = []
 cut_behind left (b ∷ text) =

@@ -54,7 +54,7 @@ fn end_time(end: CallEnd) -> Time
     }
 }
 
-/// Words, and a number behind them in brackets.
+/// Words, and a number after them in brackets.
 fn numbered_words(alloc: Global, words: &[u8], number: u64) -> Result<Vec<u8>, AllocError>
     ensures { IfOk result (λ text. text.items ≡ numbered_words words.now number) }
 {
@@ -72,7 +72,7 @@ impl CallCause {
     ghost use Rattle.std.specs.Prelude.{◌≡◌, IfOk};
     ghost use Rattle.web_page.specs.Calls.{cause_words};
 
-    /// Its words, with its number behind them, as the line on standard error tells it. The one error
+    /// Its words, with its number after them, as the line on standard error tells it. The one error
     /// is want of memory.
     pub fn words(self, alloc: Global) -> Result<Vec<u8>, AllocError>
         ensures { IfOk result (λ text. text.items ≡ cause_words self) }

@@ -5,14 +5,14 @@ ghost use Rattle.history_report.specs.Html.{is_forbidden, printable_byte, entity
 
 use std::alloc::AllocError;
 
-/// Whether a byte behind this one is of a control that HTML forbids or reads as another.
+/// Whether a byte after this one is of a control that HTML forbids or reads as another.
 fn is_forbidden(before: u8, byte: u8) -> bool
     ensures { result ≡ is_forbidden before byte }
 {
     before == 194 && byte < 160 || byte == 127 || byte < 32 && !(byte == b'\t' || byte == b'\n')
 }
 
-/// A byte behind this one as a page has it: in place of a forbidden one `?`, or the second byte of
+/// A byte after this one as a page has it: in place of a forbidden one `?`, or the second byte of
 /// `¿`.
 fn printable_byte(before: u8, byte: u8) -> u8
     ensures { result ≡ printable_byte before byte }

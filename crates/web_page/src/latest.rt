@@ -111,7 +111,7 @@ fn value_shown(alloc: Global, value: &Option<Variant>) -> Result<Vec<u8>, AllocE
     }
 }
 
-/// A number, and a unit behind it.
+/// A number, and a unit after it.
 fn unit_text(alloc: Global, number: u64, unit: &[u8]) -> Result<Vec<u8>, AllocError>
     ensures { IfOk result (λ text. text.items ≡ decimal number ++ unit.now) }
 {

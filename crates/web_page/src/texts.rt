@@ -38,7 +38,7 @@ fn type_name(number: u8) -> &'static str
     }
 }
 
-/// What stands behind the name of a type.
+/// What stands after the name of a type.
 fn array_word(is_array: bool) -> &'static str
     ensures { result.now ≡ (if is_array then codes " array" else []) }
 {
