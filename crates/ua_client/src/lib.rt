@@ -11,8 +11,6 @@ mod fault;
 mod line;
 mod requests;
 mod responses;
-#[cfg(test)]
-mod tests;
 
 pub use chunks::{ChunkIds, put_closing, put_greeting, put_message, put_opening};
 pub use client::{Client, connect};

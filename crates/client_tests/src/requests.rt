@@ -3,18 +3,6 @@
 ghost use Rattle.std.specs.Prelude.{◌≡◌, IfOk};
 ghost use Rattle.ua_services.specs.Attributes.{AreShortValues};
 
-use crate::chunks::{ChunkIds, put_closing, put_greeting, put_message, put_opening};
-use crate::client::connect;
-use crate::fault::ClientFault;
-use crate::line::Line;
-use crate::requests::{
-    Login, NewSession, UpdateAsked, is_short_update, put_activate_session_request,
-    put_close_session_request, put_create_session_request, put_history_update_request,
-};
-use crate::responses::{
-    answer_in, read_acknowledge, read_activate_session_response, read_create_session_response,
-    read_history_update_response,
-};
 use counted_io::Counted;
 use std::alloc::{AllocError, Global};
 use std::fmt::Debug;
@@ -23,6 +11,13 @@ use ua_binary::{
     put_node_id_ref,
 };
 use ua_channel::put_response_header;
+use ua_client::{
+    ChunkIds, ClientFault, Line, Login, NewSession, UpdateAsked, answer_in, connect,
+    is_short_update, put_activate_session_request, put_close_session_request, put_closing,
+    put_create_session_request, put_greeting, put_history_update_request, put_message, put_opening,
+    read_acknowledge, read_activate_session_response, read_create_session_response,
+    read_history_update_response,
+};
 use ua_services::{
     ApplicationDescription, ApplicationType, CreateSessionResponse, EndpointDescription,
     HistoryUpdateResult, MessageSecurityMode, UserTokenPolicy, UserTokenType,

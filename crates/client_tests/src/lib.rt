@@ -1,0 +1,5 @@
+//! Tests: what a client writes and reads.
+#![tactic(auto)]
+
+#[cfg(test)]
+mod requests;
