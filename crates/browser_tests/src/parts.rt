@@ -199,7 +199,7 @@ fn leads_on<A: Archive>(alloc: Global, archive: &mut A, changes: bool, counts: &
         && are_good_rows(alloc, archive, changes, rows.as_slice())
 }
 
-/// Histories of 600 values: before which second each ends, whether it is of modifications, and the
+/// Histories of 501 values: before which second each ends, whether it is of modifications, and the
 /// line of its first page's link.
 static LINKS: [((Option<i64>, bool), &str); 4] = [
     (
@@ -370,21 +370,21 @@ fn holds_of(alloc: Global, count: u64, at_once: u64, asked: Asked) -> bool {
 
 #[test]
 fn pages_of_values_lead_on(rt: HostRuntime) -> Result<(), Fail> {
-    let asked = Asked::Pages(false, &[500, 500, 203]);
-    assert!(rt; holds_of(rt.alloc(), 1203, 1, asked));
+    let asked = Asked::Pages(false, &[500, 203]);
+    assert!(rt; holds_of(rt.alloc(), 703, 1, asked));
     Ok(())
 }
 
 #[test]
 fn pages_of_modifications_lead_on(rt: HostRuntime) -> Result<(), Fail> {
-    let asked = Asked::Pages(true, &[498, 498, 207]);
-    assert!(rt; holds_of(rt.alloc(), 1203, 3, asked));
+    let asked = Asked::Pages(true, &[498, 498, 3]);
+    assert!(rt; holds_of(rt.alloc(), 999, 3, asked));
     Ok(())
 }
 
 #[test]
 fn links_are_written(rt: HostRuntime) -> Result<(), Fail> {
-    assert!(rt; holds_of(rt.alloc(), 600, 1, Asked::Links));
+    assert!(rt; holds_of(rt.alloc(), 501, 1, Asked::Links));
     Ok(())
 }
 

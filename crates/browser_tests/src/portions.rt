@@ -8,7 +8,7 @@ use records::{Moment, Record};
 use stamp::ReplicaNo;
 use std::alloc::{AllocError, Global};
 use std::test::Fail;
-use ua_binary::{Listing, NodeId, Text};
+use ua_binary::{Bytes, Listing, NodeId, Text};
 use ua_variant::{Array, DataValue, HistoryUpdateType, Scalar, Variant};
 use uuid::Uuid;
 
@@ -18,10 +18,11 @@ const NOON: i64 = 134_168_400_000_000_000;
 /// A second.
 const SECOND: i64 = 10_000_000;
 
-/// What is written: a number, or an array of a type that has no text.
+/// What is written: a number, 50,000 bytes, or an array of a type that has no text.
 #[derive(Clone, Copy)]
 pub(crate) enum Written {
     Number(i32),
+    Long,
     Many,
 }
 
@@ -39,10 +40,14 @@ pub(crate) fn node_of(alloc: Global, name: &str) -> Result<NodeId, AllocError> {
 }
 
 /// What is written, as a value.
-fn variant_of(alloc: Global, written: Written) -> Variant {
+fn variant_of(alloc: Global, written: Written) -> Result<Variant, AllocError> {
     match written {
-        Written::Number(number) => Variant::Scalar(Scalar::Int32(number)),
-        Written::Many => Variant::Array(Array::NodeId(Listing::of(Vec::new(alloc)))),
+        Written::Number(number) => Ok(Variant::Scalar(Scalar::Int32(number))),
+        Written::Long => {
+            let bytes = Bytes::new(vec![in alloc; 0; 50_000]?);
+            Ok(Variant::Scalar(Scalar::ByteString(Some(bytes))))
+        }
+        Written::Many => Ok(Variant::Array(Array::NodeId(Listing::of(Vec::new(alloc))))),
     }
 }
 
@@ -52,9 +57,9 @@ fn tick_of(number: u64) -> i64 {
 }
 
 /// A value as it was written, with no status and no times.
-fn value_of(alloc: Global, written: Written) -> DataValue {
+fn value_of(value: Variant) -> DataValue {
     DataValue {
-        value: Some(variant_of(alloc, written)),
+        value: Some(value),
         status: None,
         source_time: None,
         source_pico: None,
@@ -63,15 +68,15 @@ fn value_of(alloc: Global, written: Written) -> DataValue {
     }
 }
 
-/// The record of an update, by a replica, of a node and a user.
+/// The record of an update, by a replica, of a node, a user and a value.
 fn record_by(
-    alloc: Global,
     origin: ReplicaNo,
     update: &Update,
     node: NodeId,
     user: Text,
+    value: Variant,
 ) -> Record {
-    let (number, _, second, written) = *update;
+    let (number, _, second, _) = *update;
     Record {
         origin,
         number,
@@ -80,7 +85,7 @@ fn record_by(
         time: moment_of(second),
         asked: HistoryUpdateType::Update,
         user,
-        value: value_of(alloc, written),
+        value: value_of(value),
     }
 }
 
@@ -91,7 +96,8 @@ fn record_of(alloc: Global, update: &Update) -> Result<Record, StoreFault> {
     };
     let node = node_of(alloc, update.1)?;
     let user = Text::from_str(alloc, "ann")?;
-    Ok(record_by(alloc, origin, update, node, user))
+    let value = variant_of(alloc, update.3)?;
+    Ok(record_by(origin, update, node, user, value))
 }
 
 /// What an archive answers to a record.
@@ -183,28 +189,34 @@ pub(crate) fn line_count(text: &[u8]) -> usize {
 type Case = (bool, Form);
 
 /// What is tried: how many updates an archive has at first, how many of them at each second, and
-/// which of them has no text; the updates that come before each portion, two at a time; how many
-/// lines each portion has, and how it ends.
+/// which of them is no number, and what it is; the updates that come before each portion, two at a
+/// time; how many lines each portion has, and how it ends.
 struct Tried {
     count: u64,
     at_once: u64,
-    textless: Option<u64>,
+    other: Option<(u64, Written)>,
     between: &'static [[Update; 2]],
     wanted: &'static [(usize, Result<bool, ReportFault>)],
 }
 
-/// An archive takes the updates of these numbers, of which one has no text, one at each second.
-fn learns_around<A: Archive>(alloc: Global, archive: &mut A, count: u64, textless: u64) -> bool {
-    let second = 0i64.saturating_add_unsigned(textless);
-    learn_many(alloc, archive, 1, textless.saturating_sub(1), 1).is_ok()
-        && learn(alloc, archive, &(textless, "n", second, Written::Many)).is_ok()
-        && learn_many(alloc, archive, textless.saturating_add(1), count, 1).is_ok()
+/// An archive takes the updates of these numbers, one at each second; this one is no number.
+fn learns_around<A: Archive>(
+    alloc: Global,
+    archive: &mut A,
+    count: u64,
+    other: (u64, Written),
+) -> bool {
+    let (number, written) = other;
+    let second = 0i64.saturating_add_unsigned(number);
+    learn_many(alloc, archive, 1, number.saturating_sub(1), 1).is_ok()
+        && learn(alloc, archive, &(number, "n", second, written)).is_ok()
+        && learn_many(alloc, archive, number.saturating_add(1), count, 1).is_ok()
 }
 
 /// An archive takes the updates that it has at first.
 fn learns_first<A: Archive>(alloc: Global, archive: &mut A, tried: &Tried) -> bool {
-    match tried.textless {
-        Some(textless) => learns_around(alloc, archive, tried.count, textless),
+    match tried.other {
+        Some(other) => learns_around(alloc, archive, tried.count, other),
         None => learn_many(alloc, archive, 1, tried.count, tried.at_once).is_ok(),
     }
 }
@@ -337,9 +349,11 @@ static CHANGES: [(&str, Case); 2] = [
 ];
 
 /// The portions of 40 updates.
-const THREE: &[(usize, Result<bool, ReportFault>)] = &[
-    (16, Ok(true)),
-    (16, Ok(true)),
+const FIVE: &[(usize, Result<bool, ReportFault>)] = &[
+    (8, Ok(true)),
+    (8, Ok(true)),
+    (8, Ok(true)),
+    (8, Ok(true)),
     (8, Ok(true)),
     (0, Ok(false)),
 ];
@@ -348,9 +362,9 @@ const THREE: &[(usize, Result<bool, ReportFault>)] = &[
 static SINGLE: Tried = Tried {
     count: 40,
     at_once: 1,
-    textless: None,
+    other: None,
     between: &[],
-    wanted: THREE,
+    wanted: FIVE,
 };
 
 #[test]
@@ -362,18 +376,18 @@ fn portions_join(rt: HostRuntime) -> Result<(), Fail> {
 static SEVENS: Tried = Tried {
     count: 40,
     at_once: 7,
-    textless: None,
+    other: None,
     between: &[],
-    wanted: THREE,
+    wanted: FIVE,
 };
 
 /// 40 updates at one second.
 static AT_ONCE: Tried = Tried {
     count: 40,
     at_once: 40,
-    textless: None,
+    other: None,
     between: &[],
-    wanted: THREE,
+    wanted: FIVE,
 };
 
 #[test]
@@ -407,9 +421,9 @@ const BETWEEN: &[[Update; 2]] = &[
 static GROWING: Tried = Tried {
     count: 40,
     at_once: 1,
-    textless: None,
+    other: None,
     between: BETWEEN,
-    wanted: THREE,
+    wanted: FIVE,
 };
 
 #[test]
@@ -417,13 +431,13 @@ fn portions_are_of_one_state(rt: HostRuntime) -> Result<(), Fail> {
     are_parted(rt.alloc(), &CASES, &GROWING)
 }
 
-/// A history that ends before the 25th of 40 updates, which has no text.
+/// A history that ends before the 21st of 40 updates, which has no text.
 static WITHOUT_TEXT: Tried = Tried {
     count: 40,
     at_once: 1,
-    textless: Some(25),
+    other: Some((21, Written::Many)),
     between: &[],
-    wanted: &[(16, Ok(true)), (8, Err(ReportFault::NoText))],
+    wanted: &[(8, Ok(true)), (8, Ok(true)), (4, Err(ReportFault::NoText))],
 };
 
 #[test]
@@ -431,11 +445,25 @@ fn a_value_without_text_ends_a_history(rt: HostRuntime) -> Result<(), Fail> {
     are_parted(rt.alloc(), &CASES, &WITHOUT_TEXT)
 }
 
+/// 12 updates, one at each second, of which the third has a long line: a portion ends behind it.
+static WITH_LONG: Tried = Tried {
+    count: 12,
+    at_once: 1,
+    other: Some((3, Written::Long)),
+    between: &[],
+    wanted: &[(3, Ok(true)), (8, Ok(true)), (1, Ok(true)), (0, Ok(false))],
+};
+
+#[test]
+fn a_long_line_ends_a_portion(rt: HostRuntime) -> Result<(), Fail> {
+    are_parted(rt.alloc(), &CASES, &WITH_LONG)
+}
+
 /// The history of an archive that holds nothing, its header alone.
 static NOTHING: Tried = Tried {
     count: 0,
     at_once: 1,
-    textless: None,
+    other: None,
     between: &[],
     wanted: &[(0, Ok(false))],
 };

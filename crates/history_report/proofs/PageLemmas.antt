@@ -1,10 +1,11 @@
 -- Pages of a history, and what they are of.
-use Rattle.std.proofs.Common.{◌≡◌, ℕ, zero, suc, ◌+◌, ◌-◌, ◌≤◌, ◌<◌, ℤ, Bool, true, false, cond, ◌&&◌, List, [], ◌∷◌, ◌++◌, filter, take, drop, length, reverse, slice_get, Option, Some, None, Ok, Err, refl, sym, ap, ◌∙◌, subst, arith, inl, inr}
-use Rattle.std.specs.Prelude.{int_lt}
+use Rattle.std.proofs.Common.{◌≡◌, ℕ, zero, suc, ◌+◌, ◌-◌, ◌≤◌, ◌<◌, ℤ, Bool, true, false, cond, ◌&&◌, List, [], ◌∷◌, ◌++◌, filter, take, drop, length, reverse, slice_get, Option, Some, None, Result, Ok, Err, Vec, Global, refl, sym, ap, ◌∙◌, subst, arith, inl, inr}
+use Rattle.std.specs.Prelude.{int_lt, MatchResult}
 use Rattle.std.proofs.Common.{add-one}
 use Rattle.std.specs.List.{AllByRecursion}
 use Rattle.std.proofs.lemmas.Bool.Decides.{nat_tests}
 use Rattle.std.proofs.lemmas.Int.{ints}
+use Rattle.std.proofs.lemmas.List.{length-take, take-append-drop}
 use Rattle.std.proofs.lemmas.Option.{slice_get_within}
 use Rattle.stamp.specs.Numbers.{number_of}
 use Rattle.ua_binary.specs.declared.values.NodeId.{NodeId}
@@ -32,7 +33,7 @@ use Rattle.archive.proofs.Turning.{has_from_filter_map, has_from_flat_map, has_f
 use Rattle.history_report.specs.declared.pages.Pages.{Pages}
 use Rattle.history_report.specs.declared.report.Report.{Report}
 use Rattle.history_report.specs.Reports.{is_in_stretch, values_asked, changes_asked}
-use Rattle.history_report.specs.Paging.{IsTime, IsBehind, place_behind, values_left, changes_left, IsPageOf, GivesPage, Fails}
+use Rattle.history_report.specs.Paging.{IsTime, IsBehind, place_behind, values_left, changes_left, IsPageOf, Offers, GivesPage, Fails}
 
 -- ---- lists
 
@@ -65,6 +66,14 @@ module _ {X : Type 0} where
   take-empty : (k : ℕ) (xs : List X) → take (suc k) xs ≡ [] → xs ≡ []
   take-empty k [] e = refl
   take-empty k (x ∷ xs) e = absurd cc
+
+  -- the first of the first
+  take-taken : (n k : ℕ) (xs : List X) → n ≤ k → take n (take k xs) ≡ take n xs
+  take-taken zero k xs le = refl
+  take-taken (suc n) zero xs le = absurd (omega (arith, le))
+  take-taken (suc n) (suc k) [] le = refl
+  take-taken (suc n) (suc k) (x ∷ xs) le =
+      ap (λ l. x ∷ l) (take-taken n k xs (omega (arith, le)))
 
   -- what stands at a place of the first is what stands there in all
   of_take : (k i : ℕ) (xs : List X) (x : X) → slice_get (take k xs) i ≡ Some x
@@ -167,6 +176,47 @@ unanswered t u why P asks = moves-stays t u (StoreFailed why ∷ [])
     (λ marks R S. S ≡ R) asks.leaves.passes asks.stays (there-behind t u (Some why) asks.leaves)
     (λ honest R h. refl)
 
+-- the first of what is still to come
+pub offered : {X : Type 0} (t u : Store) (rest : Content → List X)
+    (result : Result (Vec X Global) StoreFault)
+    → Asks t u result (λ v. v.items ≡ take 8 (rest t.content))
+    → MatchResult result (λ page. Offers t u page.items rest) (λ why. Fails t u why)
+offered {X} t u rest (Ok page) asks =
+    answered t u (λ R (v : Vec X Global). v.items ≡ take 8 (rest R)) page asks
+offered {X} t u rest (Err why) asks =
+    unanswered t u why (λ (v : Vec X Global). v.items ≡ take 8 (rest t.content)) asks
+
+module _ {X : Type 0} (t u : Store) (page : List X) (rest : Content → List X)
+    (offers : Offers t u page rest) where
+  -- they are a page
+  pub offers-page : GivesPage t u page (λ R. drop 8 (rest R)) rest
+  offers-page = moves-as t u []
+      (λ marks R S. (S ≡ R) × IsLawfulContent R × (page ≡ take 8 (rest R)))
+      (λ marks R S. (S ≡ R) × IsPageOf page (drop 8 (rest R)) (rest R))
+      (λ ms R S p. (
+        p.0,
+        (
+          ap (λ l. l ++ drop 8 (rest R)) p.2 ∙ take-append-drop 8 (rest R),
+          λ none. ap (drop 8) (take-empty 7 (rest R) (sym p.2 ∙ none)),
+        ),
+      )) offers
+
+  -- and so are the first of them
+  pub offers-first : (count : ℕ) → 1 ≤ count → count ≤ length page
+      → Transitions t u [] (λ marks R S. (S ≡ R) × IsLawfulContent R
+      × (take count page ≡ take (suc (count - 1)) (rest R)))
+  offers-first count some few = moves-as t u []
+      (λ marks R S. (S ≡ R) × IsLawfulContent R × (page ≡ take 8 (rest R)))
+      (λ marks R S. (S ≡ R) × IsLawfulContent R
+      × (take count page ≡ take (suc (count - 1)) (rest R)))
+      (λ ms R S p. (p.0, p.1, taken (rest R) p.2)) offers
+    where
+      taken : (xs : List X) → page ≡ take 8 xs → take count page ≡ take (suc (count - 1)) xs
+      taken xs is =
+          let whole : suc (count - 1) ≡ count = omega (arith, some) in
+          let within : count ≤ 8 = omega (arith, few, ap length is, length-take 8 xs) in
+          ap (take count) is ∙ (take-taken count 8 xs within ∙ ap (λ n. take n xs) (sym whole))
+
 -- ---- live values
 
 past_back : (x y : Held) → int_lt x.time y.time ≡ true → int_lt y.time x.time ≡ false
@@ -194,13 +244,13 @@ IsPast o from to new_from new_to =
           ≡ (is_between from to t && int_lt h.time t)
     ]
 
-module _ (t u : Store) (node : NodeId) (old new : Pages) (page : List Held)
+module _ (t u : Store) (node : NodeId) (old new : Pages) (page : List Held) (k : ℕ)
     (asks : Transitions t u [] (λ marks R S. (S ≡ R) × IsLawfulContent R
-    × (page ≡ take 16 (values_left node old R)))) where
+    × (page ≡ take (suc k) (values_left node old R)))) where
   -- what is still to come behind the page
   values-rest : new.within ≡ old.within
       → IsBehind page old.span.from old.span.to new.span.from new.span.to → (R : Content)
-      → page ≡ take 16 (values_left node old R)
+      → page ≡ take (suc k) (values_left node old R)
       → IsPageOf page (values_left node new R) (values_left node old R)
   values-rest within behind R is = go (last page) refl behind
     where
@@ -218,14 +268,14 @@ module _ (t u : Store) (node : NodeId) (old new : Pages) (page : List Held)
       go None none kept =
           subst (λ (l : List Held). IsPageOf page l (values_left node old R))
           (sym (same new.within within new.span.from new.span.to kept.0 kept.1))
-          (page-none 15 page (values_left node old R) is (no-last page none))
-      go (Some h) at past = page-last 15 page (values_left node new R) (values_left node old R) h is
+          (page-none k page (values_left node old R) is (no-last page none))
+      go (Some h) at past = page-last k page (values_left node new R) (values_left node old R) h is
           at
           (ap (λ (v : List ℕ). range_of (cut R (number_of v)) node new.span.from new.span.to
           Forward) within
           ∙ (range_on (cut R (number_of old.within)) node old.span.from old.span.to new.span.from
           new.span.to (length page - 1) h past
-          (of_take 16 (length page - 1) (values_left node old R) h
+          (of_take (suc k) (length page - 1) (values_left node old R) h
           (ap (λ (l : List Held). slice_get l (length page - 1)) (sym is) ∙ at))
           ∙ ap (λ n. drop n (values_left node old R)) (sym (add-one (length page - 1)))))
 
@@ -234,32 +284,32 @@ module _ (t u : Store) (node : NodeId) (old new : Pages) (page : List Held)
       → GivesPage t u page (values_left node new) (values_left node old)
   values-page within behind =
       moves-as t u [] (λ marks R S. (S ≡ R) × IsLawfulContent R
-      × (page ≡ take 16 (values_left node old R)))
+      × (page ≡ take (suc k) (values_left node old R)))
       (λ marks R S. (S ≡ R) × IsPageOf page (values_left node new R) (values_left node old R))
       (λ ms R S p. (p.0, values-rest within behind R p.2)) asks
 
 -- ---- modifications
 
-module _ (t u : Store) (node : NodeId) (old new : Pages) (page : List Entry)
+module _ (t u : Store) (node : NodeId) (old new : Pages) (page : List Entry) (k : ℕ)
     (asks : Transitions t u [] (λ marks R S. (S ≡ R) × IsLawfulContent R
-    × (page ≡ take 16 (changes_left node old R)))) where
+    × (page ≡ take (suc k) (changes_left node old R)))) where
   abbrev left_behind : Content → Option LogPlace → List Entry
   left_behind R place =
       log_of (cut R (number_of old.within)) node old.span.from old.span.to place Forward
 
-  changes-rest : (R : Content) → IsLawfulContent R → page ≡ take 16 (changes_left node old R)
+  changes-rest : (R : Content) → IsLawfulContent R → page ≡ take (suc k) (changes_left node old R)
       → IsPageOf page (left_behind R (place_behind old.after page)) (changes_left node old R)
   changes-rest R lawful is = go (last page) refl
     where
       go : (o : Option Entry) → last page ≡ o → IsPageOf page
           (left_behind R (elim o [ None ↦ old.after | Some e ↦ Some (place_of e) ]))
           (changes_left node old R)
-      go None none = page-none 15 page (changes_left node old R) is (no-last page none)
-      go (Some e) at = page-last 15 page (left_behind R (Some (place_of e)))
+      go None none = page-none k page (changes_left node old R) is (no-last page none)
+      go (Some e) at = page-last k page (left_behind R (Some (place_of e)))
           (changes_left node old R) e is at
           (log_resumes (cut R (number_of old.within)) node old.span.from old.span.to old.after
           Forward (length page - 1) e (closed_cut R (number_of old.within) lawful.closed)
-          (of_take 16 (length page - 1) (changes_left node old R) e
+          (of_take (suc k) (length page - 1) (changes_left node old R) e
           (ap (λ (l : List Entry). slice_get l (length page - 1)) (sym is) ∙ at)))
 
   pub changes-page : new ≡ record old { after = place_behind old.after page }
@@ -267,7 +317,7 @@ module _ (t u : Store) (node : NodeId) (old new : Pages) (page : List Entry)
   changes-page same =
       subst (λ p. GivesPage t u page (changes_left node p) (changes_left node old)) (sym same)
       (moves-as t u [] (λ marks R S. (S ≡ R) × IsLawfulContent R
-      × (page ≡ take 16 (changes_left node old R)))
+      × (page ≡ take (suc k) (changes_left node old R)))
       (λ marks R S. (S ≡ R) × IsPageOf page (left_behind R (place_behind old.after page))
       (changes_left node old R))
       (λ ms R S p. (p.0, changes-rest R p.1 p.2)) asks)

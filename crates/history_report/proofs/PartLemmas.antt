@@ -23,7 +23,7 @@ use Rattle.history_report.specs.declared.fault.PartFault.{PartFault}
 use Rattle.history_report.specs.declared.fault.PartFault.TheVariants as part_fault
 use Rattle.history_report.specs.declared.report.Report.{Report}
 use Rattle.history_report.specs.Reports.{is_in_stretch, values_asked, changes_asked}
-use Rattle.history_report.specs.Parts.{part_before, part_up_to, rest_from, row_times, end_between, IsFirstPart, AreCrowded, IsPartEnd}
+use Rattle.history_report.specs.Parts.{part_before, part_up_to, rest_from, row_times, end_between, IsFirstPart, AreCrowded, IsPartEnd, AreFirstTimes}
 use Rattle.history_report.proofs.PageLemmas.{filter_same, filter_both}
 
 -- ---- rows in the order of time
@@ -445,7 +445,7 @@ first_changes R report t is ends =
     changes-part report t (end_within R report t ends) R
     ∙ first-earlier time t 500 last xs (changes-go R report) at same
 
--- ---- which rows are seen
+-- ---- which times are seen
 
 -- what stands at a place of the first is what stands there in all
 get-taken : {X : Type 0} (n k : ℕ) (xs : List X) → k < n → slice_get (take n xs) k ≡ slice_get xs k
@@ -453,6 +453,15 @@ get-taken zero k xs lt = absurd (omega (arith, lt))
 get-taken (suc n) k [] lt = refl
 get-taken (suc n) zero (x ∷ xs) lt = refl
 get-taken (suc n) (suc k) (x ∷ xs) lt = get-taken n k xs (omega (arith, lt))
+
+-- the time that is seen at a place is that of the row there
+time-seen : {X : Type 0} (time : X → ℤ) (xs : List X) (times : List ℤ) (k : ℕ)
+    → AreFirstTimes (map time xs) times → k < 501
+    → slice_get times k ≡ option_map time (slice_get xs k)
+time-seen time xs times k is lt =
+    sym (get-taken 501 k times lt)
+    ∙ (ap (λ l. slice_get l k) is
+    ∙ (get-taken 501 k (map time xs) lt ∙ slice_get-map time xs k))
 
 -- where nothing stands at a place there are no more
 no-more : {X : Type 0} (k : ℕ) (xs : List X) → slice_get xs k ≡ None → length xs ≤ k
@@ -471,22 +480,19 @@ first-before time k last (x ∷ xs) up at = (
   all-has (λ y. int_lt (time x) (time y) ≡ true) xs last up.0 (has_from_get xs k last at),
 )
 
--- at what is seen of live values
-pub values-end : (R : Content) (report : Report) (page : List Held) (end : Option ℤ)
-    → page ≡ take 501 (values_asked R report)
-    → end ≡ option_map (λ (h : Held). h.time) (slice_get page 500)
+-- at the times that are seen of live values
+pub values-end : (R : Content) (report : Report) (times : List ℤ) (end : Option ℤ)
+    → AreFirstTimes (map (λ (h : Held). h.time) (values_asked R report)) times
+    → end ≡ slice_get times 500
     → IsPartEnd (map (λ (h : Held). h.time) (values_asked R report)) end
-values-end R report page end is ends =
+values-end R report times end is ends =
     subst (IsPartEnd (map (λ (h : Held). h.time) asked))
-    (sym (ends ∙ ap (option_map (λ (h : Held). h.time)) seen))
+    (sym (ends ∙ time-seen (λ (h : Held). h.time) asked times 500 is (omega arith)))
     (times-end (λ (h : Held). h.time) asked
     (option_map (λ (h : Held). h.time) (slice_get asked 500)) (go (slice_get asked 500) refl))
   where
     asked : List Held
     asked = values_asked R report
-
-    seen : slice_get page 500 ≡ slice_get asked 500
-    seen = ap (λ l. slice_get l 500) is ∙ get-taken 501 500 asked (omega arith)
 
     go : (o : Option Held) → slice_get asked 500 ≡ o
         → IsEndOf (λ (h : Held). h.time) asked (option_map (λ (h : Held). h.time) o)
@@ -505,24 +511,24 @@ EndsChanges changes result =
       | Err (part_fault.Report why) ↦ ⊥
     ]
 
-pub changes-end : (R : Content) (report : Report) (page : List Entry)
-    (result : Result (Option ℤ) PartFault) → page ≡ take 501 (changes_asked R report)
-    → result ≡ end_between (option_map (λ (e : Entry). e.time) (slice_get page 0))
-    (option_map (λ (e : Entry). e.time) (slice_get page 500))
+pub changes-end : (R : Content) (report : Report) (times : List ℤ)
+    (result : Result (Option ℤ) PartFault)
+    → AreFirstTimes (map (λ (e : Entry). e.time) (changes_asked R report)) times
+    → result ≡ end_between (slice_get times 0) (slice_get times 500)
     → EndsChanges (changes_asked R report) result
-changes-end R report page result is ends =
+changes-end R report times result is ends =
     subst (EndsChanges asked) (sym (ends
-    ∙ (ap (λ o. end_between (option_map (λ (e : Entry). e.time) o)
-    (option_map (λ (e : Entry). e.time) (slice_get page 500))) (seen 0 (omega arith))
-    ∙ ap (λ o. end_between (option_map (λ (e : Entry). e.time) (slice_get asked 0))
-    (option_map (λ (e : Entry). e.time) o)) (seen 500 (omega arith)))))
+    ∙ (ap (λ o. end_between o (slice_get times 500)) (seen 0 (omega arith))
+    ∙ ap (λ o. end_between (option_map (λ (e : Entry). e.time) (slice_get asked 0)) o)
+    (seen 500 (omega arith)))))
     (go (slice_get asked 0) (slice_get asked 500) refl refl)
   where
     asked : List Entry
     asked = changes_asked R report
 
-    seen : (k : ℕ) → k < 501 → slice_get page k ≡ slice_get asked k
-    seen k lt = ap (λ l. slice_get l k) is ∙ get-taken 501 k asked lt
+    seen : (k : ℕ) → k < 501
+        → slice_get times k ≡ option_map (λ (e : Entry). e.time) (slice_get asked k)
+    seen k lt = time-seen (λ (e : Entry). e.time) asked times k is lt
 
     ordered : (first last : Entry) → slice_get asked 0 ≡ Some first
         → slice_get asked 500 ≡ Some last

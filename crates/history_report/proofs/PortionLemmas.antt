@@ -1,26 +1,22 @@
 -- A history, made portion by portion.
-use Rattle.std.proofs.Common.{◌≡◌, ℕ, zero, suc, ◌+◌, ◌<◌, ◌≤◌, Bool, true, false, List, [], ◌∷◌, ◌++◌, take, length, slice_get, get_or, append-nil, append_assoc, Some, None, Result, Ok, Err, refl, sym, ap, ◌∙◌, subst, inl, inr}
-use Rattle.std.specs.Prelude.{◌==◌, MatchResult}
-use Rattle.std.proofs.lemmas.Bool.{true≢false}
-use Rattle.std.proofs.lemmas.List.{take_more, take_all}
+use Rattle.std.proofs.Common.{◌≡◌, ℕ, zero, suc, ◌+◌, ◌<◌, ◌≤◌, Bool, true, false, List, [], ◌∷◌, ◌++◌, take, length, slice_get, get_or, append-nil, append_assoc, Some, None, Result, Ok, Err, refl, sym, ap, ◌∙◌, subst, arith, inl, inr}
+use Rattle.std.specs.Prelude.{◌==◌, ◌⊎◌, MatchResult, OnErr}
+use Rattle.std.proofs.lemmas.List.{take_more}
 use Rattle.std.proofs.lemmas.Option.{slice_get-get_or}
 use Rattle.records.specs.Contents.{Content, vec}
-use Rattle.records.specs.declared.shown.Held.{Held}
-use Rattle.records.specs.declared.shown.Entry.{Entry}
 use Rattle.stamp.specs.Numbers.{number_of}
 use Rattle.archive.specs.Store.{Store, StoreFailed, IsLawfulContent, faults_of}
 use Rattle.archive.specs.Steps.{Transitions}
 use Rattle.archive.specs.declared.fault.StoreFault.{StoreFault}
 use Rattle.archive.proofs.Acting.{moves-as}
 use Rattle.history_text.specs.declared.fault.TextFault.{TextFault}
-use Rattle.history_csv.specs.Rows.{IsTextless, ShowsTextless}
 use Rattle.history_report.specs.declared.fault.ReportFault.{ReportFault}
 use Rattle.history_report.specs.declared.fault.ReportFault.TheVariants as fault
 use Rattle.history_report.specs.declared.pages.Pages.{Pages}
 use Rattle.history_report.specs.declared.report.Report.{Report}
-use Rattle.history_report.specs.Reports.{AreLines, IsChangeLine, IsValueLine, ReadsFor, footer_of, report_faults}
+use Rattle.history_report.specs.Reports.{AreLines, ReadsFor, report_faults}
 use Rattle.history_report.specs.Paging.{IsPut, IsWhy, IsPageOf, GivesPage, Fails, values_left, changes_left, fault_told}
-use Rattle.history_report.specs.Portions.{IsPortion, IsWhole, PutsBefore, PutsRows, PutsPortion, PutsValues, PutsChanges, Remainder, TakesPortion, changes_to_come, ending, kept_behind, values_to_come}
+use Rattle.history_report.specs.Portions.{IsWhole, PutsBefore, PutsFirst, PutsRows, PutsPortion, PutsValues, PutsChanges, TakesPortion, ending, kept_behind}
 use Rattle.history_report.proofs.LineLemmas.{lines-append, lines-one}
 use Rattle.history_report.proofs.PageLemmas.{IsSpanOf, values-all, changes-all}
 use Rattle.history_report.proofs.PrintingLemmas.{AreShown, take-front}
@@ -45,10 +41,18 @@ module _ {X : Type 0} (IsLine : X → List ℕ → Type 0) (HasNoText : X → Ty
         (lines-one IsLine (get_or xs i d) line one)),
   )
 
-  -- all lines
-  pub rows-all : (new : List ℕ) (i : ℕ) → length xs ≤ i
-      → IsPut old new (AreLines IsLine (take i xs)) → PutsRows IsLine HasNoText xs old new (Ok tt)
-  rows-all new i all = subst (λ l. IsPut old new (AreLines IsLine l)) (take_all i xs all)
+  -- all lines, or those of the first, where they are long
+  pub rows-first : (new : List ℕ) (count i : ℕ) → count ≡ i → i ≤ length xs
+      → (length xs ≤ i) ⊎ ((1 ≤ i) × (length old + 65536 ≤ length new))
+      → IsPut old new (AreLines IsLine (take i xs))
+      → PutsRows IsLine HasNoText xs old new (Ok count)
+  rows-first new count i is few ends put =
+      subst (λ (n : ℕ). PutsFirst IsLine xs old new n) (sym is) (put, few, go ends)
+    where
+      go : (length xs ≤ i) ⊎ ((1 ≤ i) × (length old + 65536 ≤ length new))
+          → (i ≡ length xs) ⊎ ((1 ≤ i) × (length old + 65536 ≤ length new))
+      go (inl all) = inl (omega (arith, few, all))
+      go (inr long) = inr long
 
   -- up to one that has no text
   rows-before : (now new : List ℕ) (i : ℕ) (d : X) → i < length xs
@@ -83,6 +87,19 @@ module _ {X : Type 0} (IsLine : X → List ℕ → Type 0) (HasNoText : X → Ty
       none.0)
 
 -- ---- a portion of what is left
+
+-- one line at least was put, where there are rows
+pub first-some : {X : Type 0} (IsLine : X → List ℕ → Type 0) (xs : List X) (old new : List ℕ)
+    (count : ℕ) → PutsFirst IsLine xs old new count → (length xs == 0) ≡ false → 1 ≤ count
+first-some IsLine [] old new count puts some = absurd cc
+first-some IsLine (x ∷ xs) old new count (put, few, inl all) some = omega (arith, all)
+first-some IsLine (x ∷ xs) old new count (put, few, inr long) some = long.0
+
+some-first : {X : Type 0} (count : ℕ) (xs : List X) → 1 ≤ count → (length xs == 0) ≡ false
+    → take count xs ≡ [] → ⊥
+some-first zero xs one some none = absurd (omega (arith, one))
+some-first (suc k) [] one some none = absurd cc
+some-first (suc k) (x ∷ xs) one some none = absurd cc
 
 module _ {X : Type 0} (IsLine : X → List ℕ → Type 0) (HasNoText : X → Type 0) where
   -- a first part of a first part
@@ -119,14 +136,14 @@ module _ {X : Type 0} (IsLine : X → List ℕ → Type 0) (HasNoText : X → Ty
           (λ ms R S e. (e, (refl, same))) fails,
     )
 
-    module _ (page : List X) (q : GivesPage t u page more rest) where
+    module _ (page : List X) (later : Content → List X) (q : GivesPage t u page later rest) where
       -- of any content that was held
       told : (result : Result Bool ReportFault) → [] ≡ report_faults (ending result)
-          → ((R : Content) → IsPageOf page (more R) (rest R)
+          → ((R : Content) → IsPageOf page (later R) (rest R)
           → PutsPortion IsLine HasNoText footer (rest R) (more R) old new result) → Takes result
       told result quiet f = (
         [],
-        moves-as t u [] (λ marks R S. (S ≡ R) × IsPageOf page (more R) (rest R))
+        moves-as t u [] (λ marks R S. (S ≡ R) × IsPageOf page (later R) (rest R))
             (λ marks R S. (S ≡ R) × (([] ≡ report_faults (ending result))
             × PutsPortion IsLine HasNoText footer (rest R) (more R) old new result))
             (λ ms R S p. (p.0, (quiet, f R p.1))) q,
@@ -139,7 +156,7 @@ module _ {X : Type 0} (IsLine : X → List ℕ → Type 0) (HasNoText : X → Ty
       -- nothing was left
       pub portion-ends : page ≡ [] → new ≡ old ++ footer → Takes (Ok false)
       portion-ends none put = told (Ok false) refl (λ R is. (
-        sym is.0 ∙ (ap (λ l. l ++ more R) none ∙ is.1 none),
+        sym is.0 ∙ (ap (λ l. l ++ later R) none ∙ is.1 none),
         put,
       ))
 
@@ -152,24 +169,26 @@ module _ {X : Type 0} (IsLine : X → List ℕ → Type 0) (HasNoText : X → Ty
       portion-closes none (Err why) same =
           subst (λ w. Takes (Err w)) (sym same.0) (portion-starves same.1)
 
-      -- a page was left
-      pub portion-goes : (page ≡ [] → ⊥) → PutsRows IsLine HasNoText page old new (Ok tt)
-          → Takes (Ok true)
-      portion-goes some put = told (Ok true) refl (λ R is. (page, is.0, some, put))
-
       -- the lines of a page break off
       pub portion-breaks : (why : ReportFault) → PutsRows IsLine HasNoText page old new (Err why)
           → Takes (Err why)
       portion-breaks fault.NoText put = told (Err fault.NoText) refl (λ R is.
           subst (λ l. PutsBefore IsLine HasNoText l old new) is.0
-          (before-more page (more R) old new put))
+          (before-more page (later R) old new put))
       portion-breaks fault.OutOfMemory put = told (Err fault.OutOfMemory) refl (λ R is. put.1)
       portion-breaks fault.Write put = absurd (let e = put.0 in cc)
       portion-breaks (fault.Store why) put = absurd (let e = put.0 in cc)
 
--- some rows are no empty list
-pub some-items : {X : Type 0} (l : List X) → (length l == 0) ≡ false → l ≡ [] → ⊥
-some-items l e none = true≢false (sym (ap (λ k. length k == 0) none) ∙ e)
+    -- the first of a page were left
+    pub portion-goes : (count : ℕ) (page : List X) → GivesPage t u (take count page) more rest
+        → (length page == 0) ≡ false → PutsFirst IsLine page old new count → Takes (Ok true)
+    portion-goes count page q some puts =
+        told (take count page) more q (Ok true) refl (λ R is. (
+          take count page,
+          is.0,
+          some-first count page (first-some IsLine page old new count puts some) some,
+          puts.0,
+        ))
 
 -- a portion of modifications, or of live values
 pub portion-by : (report : Report) (was now : Pages) (t u : Store) (old new : List ℕ)
@@ -190,49 +209,10 @@ portion-by report was now t u old new result changes is =
           (values_left report.node now R) old new result
     ])) (sym is)
 
--- ---- behind a fault
-
--- what is told of a fault doesn't depend on what is left behind it
-fault-same : {X : Type 0} (IsLine : X → List ℕ → Type 0) (HasNoText : X → Type 0)
-    (footer : List ℕ) (rest more other : List X) (old new : List ℕ) (why : ReportFault)
-    → PutsPortion IsLine HasNoText footer rest more old new (Err why)
-    → PutsPortion IsLine HasNoText footer rest other old new (Err why)
-fault-same IsLine HasNoText footer rest more other old new fault.NoText put = put
-fault-same IsLine HasNoText footer rest more other old new fault.Write put = put
-fault-same IsLine HasNoText footer rest more other old new fault.OutOfMemory put = put
-fault-same IsLine HasNoText footer rest more other old new (fault.Store why) put = put
-
--- a portion, by whether modifications are asked for
-abbrev PortionBy : (was now : Remainder) → Content → (old new : List ℕ)
-    → Result Bool ReportFault → (changes : Bool) → Type 0
-PortionBy was now R old new result changes =
-    elim changes [
-      | true ↦ PutsChanges was.report (changes_to_come was R) (changes_to_come now R) old new
-          result
-      | false ↦ PutsValues was.report (values_to_come was R) (values_to_come now R) old new result
-    ]
-
-pub portion-back : (was now back : Remainder) (t u : Store) (old new : List ℕ)
-    (why : ReportFault) → TakesPortion was now t u old new (Err why)
-    → TakesPortion was back t u old new (Err why)
-portion-back was now back t u old new why (used, takes) = (
-  used,
-  moves-as t u used
-      (λ marks R S. (S ≡ R) × ((faults_of used ≡ report_faults (Err why))
-      × IsPortion was now R old new (Err why)))
-      (λ marks R S. (S ≡ R) × ((faults_of used ≡ report_faults (Err why))
-      × IsPortion was back R old new (Err why)))
-      (λ ms R S p. (p.0, (p.1.0, go R was.report.changes p.1.1))) takes,
-)
-  where
-    go : (R : Content) (changes : Bool) → PortionBy was now R old new (Err why) changes
-        → PortionBy was back R old new (Err why) changes
-    go R true put = fault-same (IsChangeLine was.report) (λ (e : Entry). ShowsTextless e.value)
-        (footer_of was.report) (changes_to_come was R) (changes_to_come now R)
-        (changes_to_come back R) old new why put
-    go R false put = fault-same (IsValueLine was.report) (λ (h : Held). IsTextless h.value.value)
-        (footer_of was.report) (values_to_come was R) (values_to_come now R)
-        (values_to_come back R) old new why put
+-- whatever holds, holds of a fault
+pub on-fault : {A E P : Type 0} (result : Result A E) → P → OnErr result P
+on-fault (Ok a) holds = tt
+on-fault (Err why) holds = holds
 
 -- ---- the beginning
 

@@ -1,6 +1,7 @@
 -- An archive is read, and then again, for a part of a history.
-use Rattle.std.proofs.Common.{◌≡◌, ℕ, ℤ, Bool, true, false, List, [], ◌++◌, map, take, Option, Some, None, Result, Ok, Err, refl, sym, ap, ◌∙◌, subst, inl, inr}
-use Rattle.std.specs.Prelude.{if◌then◌else◌}
+use Rattle.std.proofs.Common.{◌≡◌, ℕ, ◌+◌, ◌≤◌, ℤ, Bool, true, false, List, [], ◌∷◌, ◌++◌, map, take, length, append-nil, append_assoc, Option, Some, None, Result, Ok, Err, refl, sym, ap, ◌∙◌, subst, arith, inl, inr}
+use Rattle.std.specs.Prelude.{◌==◌, if◌then◌else◌}
+use Rattle.std.proofs.lemmas.List.{length-append, length-map, map-append, take-append-le}
 use Rattle.std.specs.Ordering.{int_eq}
 use Rattle.records.specs.Contents.{Content, vec}
 use Rattle.records.specs.declared.shown.Held.{Held}
@@ -9,7 +10,7 @@ use Rattle.stamp.specs.Numbers.{number_of}
 use Rattle.archive.specs.Store.{Store, IsLawfulContent, faults_of}
 use Rattle.archive.specs.Steps.{Transitions}
 use Rattle.archive.specs.declared.fault.StoreFault.{StoreFault}
-use Rattle.archive.proofs.Acting.{moves-then, moves-as, faults-append}
+use Rattle.archive.proofs.Acting.{moves-none, moves-then, moves-as, faults-append}
 use Rattle.history_csv.specs.Rows.{IsTextless, ShowsTextless}
 use Rattle.history_report.specs.declared.fault.PartFault.{PartFault}
 use Rattle.history_report.specs.declared.fault.PartFault.TheVariants as part_fault
@@ -18,8 +19,8 @@ use Rattle.history_report.specs.declared.fault.ReportFault.TheVariants as fault
 use Rattle.history_report.specs.declared.pages.Pages.{Pages}
 use Rattle.history_report.specs.declared.report.Report.{Report}
 use Rattle.history_report.specs.Reports.{PrintsReport, PrintsWhole, ReadsFor, IsAt, IsChangeLine, IsValueLine, footer_of, report_faults, values_asked, changes_asked}
-use Rattle.history_report.specs.Paging.{IsPut, Fails, values_left, changes_left}
-use Rattle.history_report.specs.Parts.{part_up_to, part_fault_told, end_between, HasTextless, IsFirstPart, AreCrowded, IsPrinted, PutsPart, AsksForPart, IsPartEnd}
+use Rattle.history_report.specs.Paging.{IsPut, IsPageOf, GivesPage, Fails, values_left, changes_left}
+use Rattle.history_report.specs.Parts.{part_up_to, part_fault_told, end_between, HasTextless, IsFirstPart, AreCrowded, IsPrinted, PutsPart, AsksForPart, IsPartEnd, AreFirstTimes}
 use Rattle.history_report.proofs.PageLemmas.{IsSpanOf, values-all, changes-all}
 use Rattle.history_report.proofs.PartLemmas.{EndsChanges}
 use Rattle.history_report.proofs.PrintingLemmas.{AreShown}
@@ -66,6 +67,12 @@ reads-quiet s t P quiet = (
       (λ marks R S. (S ≡ R) × (([] ≡ report_faults (Ok tt)) × P R))
       (λ ms R S p. (p.0, (refl, p.1))) quiet,
 )
+
+-- nor is more told of them
+pub reads-stays : (s t : Store) → Stays s t → ReadsFor s t (Ok tt) (λ R. Unit {0})
+reads-stays s t stays = reads-quiet s t (λ R. Unit {0})
+    (moves-as s t [] (λ marks R S. S ≡ R) (λ marks R S. (S ≡ R) × Unit {0})
+    (λ ms R S p. (p, tt)) stays)
 
 -- ---- a part
 
@@ -145,40 +152,155 @@ part-stops s t (fault.Store why) C L P Q lacks reads = (
   reads-as s t (Err (fault.Store why)) P (λ R. fault.Store why ≡ fault.NoText → L R) lacks reads,
 )
 
--- ---- which rows are seen
+-- one call behind a reading was ended by this
+pub part-behind : {A B : Type 0} (s t u : Store) (why : PartFault) (C L : Content → Type 0)
+    (P : A → Content → Type 0) (Q : B → Content → Type 0) → Stays s t
+    → AsksForPart {A = A} t u (Err why) (λ R. ⊥) (λ R. ⊥) P
+    → AsksForPart {A = B} s u (Err why) C L Q
+part-behind s t u why C L P Q stays ends =
+    part-then s t u (Err why) (λ R. Unit {0}) C (λ R. ⊥) L Q Q (λ b R p q. q) (λ R p l. absurd l)
+    (reads-stays s t stays) (part-ends t u why (λ R. ⊥) (λ R. ⊥) P Q ends)
 
-module _ (report : Report) (pages : Pages) (t u w : Store) (shown : AreShown t u pages.within)
+-- memory was wanting behind a walk
+pub part-memory : {A : Type 0} (s t : Store) (why : PartFault) (C L : Content → Type 0)
+    (Q : A → Content → Type 0) → Stays s t → why ≡ part_fault.Report fault.OutOfMemory
+    → AsksForPart s t (Err why) C L Q
+part-memory {A} s t why C L Q stays is =
+    subst (λ (w : PartFault). AsksForPart {A = A} s t (Err w) C L Q) (sym is)
+    (part-starves s t C L (λ R. Unit {0}) Q (reads-stays s t stays))
+
+-- ---- which times are seen
+
+-- the archive was asked without a fault, and so far these times of the first were seen
+abbrev pub Timing : {X : Type 0} → (X → ℤ) → Store → Store → (all rest : Content → List X)
+    → (seen : List ℤ) → Type 0
+Timing time old new all rest seen =
+    Transitions old new []
+    (λ marks R S. (S ≡ R) × (seen ++ map time (rest R) ≡ map time (all R)))
+
+-- none so far
+pub timing-none : {X : Type 0} (time : X → ℤ) (s : Store) (all : Content → List X)
+    (seen : List ℤ) → seen ≡ [] → Timing time s s all all seen
+timing-none time s all seen none =
+    moves-none s (λ marks R S. (S ≡ R) × (seen ++ map time (all R) ≡ map time (all R)))
+    (λ R. (refl, ap (λ l. l ++ map time (all R)) none))
+
+pub timing-stays : {X : Type 0} (time : X → ℤ) (s t : Store) (all rest : Content → List X)
+    (seen : List ℤ) → Timing time s t all rest seen → Stays s t
+timing-stays time s t all rest seen = moves-as s t []
+    (λ marks R S. (S ≡ R) × (seen ++ map time (rest R) ≡ map time (all R))) (λ marks R S. S ≡ R)
+    (λ ms R S p. p.0)
+
+-- at least 501
+pub timing-enough : {X : Type 0} (time : X → ℤ) (s t : Store) (all rest : Content → List X)
+    (seen : List ℤ) → 501 ≤ length seen → Timing time s t all rest seen
+    → ReadsFor s t (Ok tt) (λ R. AreFirstTimes (map time (all R)) seen)
+timing-enough time s t all rest seen enough timing =
+    reads-quiet s t (λ R. AreFirstTimes (map time (all R)) seen)
+    (moves-as s t [] (λ marks R S. (S ≡ R) × (seen ++ map time (rest R) ≡ map time (all R)))
+    (λ marks R S. (S ≡ R) × AreFirstTimes (map time (all R)) seen)
+    (λ ms R S p. (
+      p.0,
+      sym (take-append-le 501 seen (map time (rest R)) enough) ∙ ap (take 501) p.1,
+    )) timing)
+
+module _ {X : Type 0} (time : X → ℤ) (s t u : Store) (all rest more : Content → List X)
+    (seen : List ℤ) (page : List X) (timing : Timing time s t all rest seen)
+    (gives : GivesPage t u page more rest) where
+  -- those of a page more
+  pub timing-next : (new : List ℤ) → new ≡ seen ++ map time page → Timing time s u all more new
+  timing-next new put = moves-then s t u [] []
+      (λ marks R S. (S ≡ R) × (seen ++ map time (rest R) ≡ map time (all R)))
+      (λ marks R S. (S ≡ R) × IsPageOf page (more R) (rest R))
+      (λ marks R S. (S ≡ R) × (new ++ map time (more R) ≡ map time (all R)))
+      (λ ms ns R S T p q. (
+        q.0 ∙ p.0,
+        joined R (subst (λ C. IsPageOf page (more C) (rest C)) p.0 q.1) p.1,
+      )) timing gives
+    where
+      joined : (R : Content) → IsPageOf page (more R) (rest R)
+          → seen ++ map time (rest R) ≡ map time (all R)
+          → new ++ map time (more R) ≡ map time (all R)
+      joined R is so_far =
+          ap (λ l. l ++ map time (more R)) put
+          ∙ (append_assoc seen (map time page) (map time (more R))
+          ∙ (ap (λ l. seen ++ l) (sym (map-append time page (more R)) ∙ ap (map time) is.0)
+          ∙ so_far))
+
+  -- all
+  pub timing-all : page ≡ [] → ReadsFor s u (Ok tt) (λ R. AreFirstTimes (map time (all R)) seen)
+  timing-all none = reads-quiet s u (λ R. AreFirstTimes (map time (all R)) seen)
+      (moves-then s t u [] []
+      (λ marks R S. (S ≡ R) × (seen ++ map time (rest R) ≡ map time (all R)))
+      (λ marks R S. (S ≡ R) × IsPageOf page (more R) (rest R))
+      (λ marks R S. (S ≡ R) × AreFirstTimes (map time (all R)) seen)
+      (λ ms ns R S T p q. (
+        q.0 ∙ p.0,
+        last R (subst (λ C. IsPageOf page (more C) (rest C)) p.0 q.1) p.1,
+      )) timing gives)
+    where
+      last : (R : Content) → IsPageOf page (more R) (rest R)
+          → seen ++ map time (rest R) ≡ map time (all R) → AreFirstTimes (map time (all R)) seen
+      last R is so_far =
+          let empty : rest R ≡ [] = sym is.0 ∙ (ap (λ l. l ++ more R) none ∙ is.1 none) in
+          ap (take 501) (sym (append-nil seen)
+          ∙ (ap (λ (l : List X). seen ++ map time l) (sym empty) ∙ so_far))
+
+-- a page that isn't empty has a time at least
+pub more-times : {X : Type 0} (time : X → ℤ) (pages : ℕ) (seen new : List ℤ) (page : List X)
+    → pages ≤ length seen → new ≡ seen ++ map time page → (length page == 0) ≡ false
+    → pages + 1 ≤ length new
+more-times time pages seen new page few put some =
+    omega (
+      arith,
+      few,
+      at-least page some,
+      ap length put,
+      length-append seen (map time page),
+      length-map page time,
+    )
+  where
+    at-least : {X : Type 0} (l : List X) → (length l == 0) ≡ false → 1 ≤ length l
+    at-least [] e = absurd cc
+    at-least (x ∷ l) e = omega arith
+
+module _ (report : Report) (pages : Pages) (times : List ℤ) (t u w : Store)
+    (shown : AreShown t u pages.within)
     (span : IsSpanOf report pages.span.from pages.span.to) where
-  pub seen-values : (page : List Held) → Transitions u w [] (λ marks R S. (S ≡ R)
-      × IsLawfulContent R × (page ≡ take 501 (values_left report.node pages R)))
-      → ReadsFor t w (Ok tt) (λ R. page ≡ take 501 (values_asked R report))
-  seen-values page asks = reads-quiet t w (λ R. page ≡ take 501 (values_asked R report))
-      (moves-then t u w [] [] (λ marks R S. (S ≡ R) × IsLawfulContent R
+  -- which records are shown was asked
+  shown-reads : ReadsFor t u (Ok tt)
+      (λ R. IsLawfulContent R × ((o : ℕ) → number_of pages.within o ≡ vec R o))
+  shown-reads = reads-quiet t u
+      (λ R. IsLawfulContent R × ((o : ℕ) → number_of pages.within o ≡ vec R o))
+      (moves-as t u [] (λ marks R S. (S ≡ R) × IsLawfulContent R
       × ((o : ℕ) → number_of pages.within o ≡ vec R o))
-      (λ marks R S. (S ≡ R) × IsLawfulContent R
-      × (page ≡ take 501 (values_left report.node pages R)))
-      (λ marks R S. (S ≡ R) × (page ≡ take 501 (values_asked R report)))
-      (λ ms ns R S T p q. (
-        q.0 ∙ p.0,
-        subst (λ C. page ≡ take 501 (values_left report.node pages C)) p.0 q.2
-            ∙ ap (take 501) (values-all R report pages p.1 p.2 span),
-      )) shown asks)
+      (λ marks R S. (S ≡ R)
+      × (IsLawfulContent R × ((o : ℕ) → number_of pages.within o ≡ vec R o)))
+      (λ ms R S p. (p.0, (p.1, p.2))) shown)
 
-  pub seen-changes : pages.after ≡ None → (page : List Entry)
-      → Transitions u w [] (λ marks R S. (S ≡ R)
-      × IsLawfulContent R × (page ≡ take 501 (changes_left report.node pages R)))
-      → ReadsFor t w (Ok tt) (λ R. page ≡ take 501 (changes_asked R report))
-  seen-changes first page asks = reads-quiet t w (λ R. page ≡ take 501 (changes_asked R report))
-      (moves-then t u w [] [] (λ marks R S. (S ≡ R) × IsLawfulContent R
-      × ((o : ℕ) → number_of pages.within o ≡ vec R o))
-      (λ marks R S. (S ≡ R) × IsLawfulContent R
-      × (page ≡ take 501 (changes_left report.node pages R)))
-      (λ marks R S. (S ≡ R) × (page ≡ take 501 (changes_asked R report)))
-      (λ ms ns R S T p q. (
-        q.0 ∙ p.0,
-        subst (λ C. page ≡ take 501 (changes_left report.node pages C)) p.0 q.2
-            ∙ ap (take 501) (changes-all R report pages p.1 p.2 span first),
-      )) shown asks)
+  pub seen-values : ReadsFor u w (Ok tt) (λ R. AreFirstTimes
+      (map (λ (h : Held). h.time) (values_left report.node pages R)) times)
+      → ReadsFor t w (Ok tt) (λ R. AreFirstTimes
+      (map (λ (h : Held). h.time) (values_asked R report)) times)
+  seen-values = reads-then t u w (Ok tt)
+      (λ R. IsLawfulContent R × ((o : ℕ) → number_of pages.within o ≡ vec R o))
+      (λ R. AreFirstTimes (map (λ (h : Held). h.time) (values_left report.node pages R)) times)
+      (λ R. AreFirstTimes (map (λ (h : Held). h.time) (values_asked R report)) times)
+      (λ R p q. subst (λ (l : List Held). AreFirstTimes (map (λ (h : Held). h.time) l) times)
+      (values-all R report pages p.0 p.1 span) q)
+      shown-reads
+
+  pub seen-changes : pages.after ≡ None → ReadsFor u w (Ok tt) (λ R. AreFirstTimes
+      (map (λ (e : Entry). e.time) (changes_left report.node pages R)) times)
+      → ReadsFor t w (Ok tt) (λ R. AreFirstTimes
+      (map (λ (e : Entry). e.time) (changes_asked R report)) times)
+  seen-changes first = reads-then t u w (Ok tt)
+      (λ R. IsLawfulContent R × ((o : ℕ) → number_of pages.within o ≡ vec R o))
+      (λ R. AreFirstTimes (map (λ (e : Entry). e.time) (changes_left report.node pages R)) times)
+      (λ R. AreFirstTimes (map (λ (e : Entry). e.time) (changes_asked R report)) times)
+      (λ R p q. subst (λ (l : List Entry). AreFirstTimes (map (λ (e : Entry). e.time) l) times)
+      (changes-all R report pages p.0 p.1 span first) q)
+      shown-reads
 
 -- an end that is missing is for no fault of a report
 never : (first last : Option ℤ) (why : ReportFault)

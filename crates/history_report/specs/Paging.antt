@@ -12,7 +12,7 @@ use Rattle.records.specs.declared.shown.Entry.{Entry}
 use Rattle.archive.specs.Reading.{is_between, place_of, range_of, log_of}
 use Rattle.archive.specs.declared.reading.Direction.TheVariants.{Forward}
 use Rattle.archive.specs.declared.reading.LogPlace.{LogPlace}
-use Rattle.archive.specs.Store.{Store, StoreFailed}
+use Rattle.archive.specs.Store.{Store, StoreFailed, IsLawfulContent}
 use Rattle.archive.specs.Steps.{Transitions}
 use Rattle.archive.specs.declared.fault.StoreFault.{StoreFault}
 use Rattle.history_text.specs.declared.fault.TextFault.{TextFault}
@@ -68,6 +68,11 @@ abbrev pub GivesPage : {X : Type 0} → Store → Store → List X → (more res
     → Type 0
 GivesPage old new page more rest =
     Transitions old new [] (λ marks R S. (S ≡ R) × IsPageOf page (more R) (rest R))
+
+-- the archive offered the first eight of what is still to come
+abbrev pub Offers : {X : Type 0} → Store → Store → List X → (rest : Content → List X) → Type 0
+Offers old new page rest = Transitions old new []
+    (λ marks R S. (S ≡ R) × IsLawfulContent R × (page ≡ take 8 (rest R)))
 
 -- the archive met this fault of its store
 abbrev pub Fails : Store → Store → StoreFault → Type 0

@@ -1,5 +1,5 @@
 -- One page of a history, which leads to the rest.
-use Rattle.std.specs.Prelude.{◌≡◌, ℕ, ◌≤◌, ℤ, int_lt, true, false, List, map, length, slice_get, Option, Some, None, Result, Ok, Err, if◌then◌else◌}
+use Rattle.std.specs.Prelude.{◌≡◌, ℕ, ◌≤◌, ℤ, int_lt, true, false, List, map, take, length, slice_get, Option, Some, None, Result, Ok, Err, if◌then◌else◌}
 use Rattle.std.specs.Ordering.{int_eq}
 use Rattle.records.specs.Contents.{Content}
 use Rattle.records.specs.declared.shown.Entry.{Entry}
@@ -43,6 +43,10 @@ IsPartEnd times end =
       | Some time ↦ (slice_get times 500 ≡ Some time)
           × (first : ℤ) × (slice_get times 0 ≡ Some first) × (int_lt first time ≡ true)
     ]
+
+-- these are the first of all times, as far as the 501st
+abbrev pub AreFirstTimes : (all seen : List ℤ) → Type 0
+AreFirstTimes all seen = take 501 seen ≡ take 501 all
 
 -- the first part of a report: all of it, or what it asks for before this end
 abbrev pub IsFirstPart : Content → Report → Report → Type 0

@@ -1,5 +1,5 @@
 -- A history that is made portion by portion.
-use Rattle.std.specs.Prelude.{◌≡◌, ℕ, Bool, true, false, List, [], ◌∷◌, ◌++◌, take, Result, Ok, Err, MatchResult}
+use Rattle.std.specs.Prelude.{◌≡◌, ◌⊎◌, ℕ, ◌+◌, ◌≤◌, Bool, true, false, List, [], ◌∷◌, ◌++◌, take, length, Result, Ok, Err, MatchResult}
 use Rattle.stamp.specs.Numbers.{number_of}
 use Rattle.records.specs.Contents.{Content, IsClosed, IsWithin, vec}
 use Rattle.records.specs.declared.shown.Held.{Held}
@@ -67,12 +67,20 @@ abbrev pub PutsBefore : {X : Type 0} → (X → List ℕ → Type 0) → (X → 
 PutsBefore IsLine HasNoText xs old new =
     (k : ℕ) × IsPut old new (AreLines IsLine (take k xs)) × IsAt HasNoText xs k
 
--- the lines of these were put behind a text, those up to one that has no text, or none
+-- the lines of so many of these were put behind a text: of all, or of one at least, where they are
+-- 64 KiB or longer
+abbrev pub PutsFirst : {X : Type 0} → (X → List ℕ → Type 0) → List X → (old new : List ℕ)
+    → (count : ℕ) → Type 0
+PutsFirst IsLine xs old new count =
+    IsPut old new (AreLines IsLine (take count xs)) × (count ≤ length xs)
+    × ((count ≡ length xs) ⊎ ((1 ≤ count) × (length old + 65536 ≤ length new)))
+
+-- the lines of the first of these were put behind a text, those up to one that has no text, or none
 abbrev pub PutsRows : {X : Type 0} → (X → List ℕ → Type 0) → (X → Type 0) → List X
-    → (old new : List ℕ) → Result (Unit {0}) ReportFault → Type 0
+    → (old new : List ℕ) → Result ℕ ReportFault → Type 0
 PutsRows IsLine HasNoText xs old new result =
     elim result [
-      | Ok done ↦ IsPut old new (AreLines IsLine xs)
+      | Ok count ↦ PutsFirst IsLine xs old new count
       | Err fault.NoText ↦ PutsBefore IsLine HasNoText xs old new
       | Err why ↦ (why ≡ fault.OutOfMemory) × (new ≡ old)
     ]

@@ -31,7 +31,7 @@ fn walk<A: Archive, S: Watch>(
     seeing: &mut S,
 ) -> Result<(), ReportFault>
     ensures walks { Walks (A.state archive.old) (A.state archive.new) result }
-    ensures asked { IsAskedWithin 16 (A.asked archive.old) (A.asked archive.new) }
+    ensures asked { IsAskedWithin 8 (A.asked archive.old) (A.asked archive.new) }
     ensures own { IsErrOf result ReportFault.Write → ⊥ }
     ensures same { pages.new.within ≡ pages.old.within }
 {
@@ -58,7 +58,7 @@ fn edges_of<A: Archive>(
     pages: &mut Pages,
 ) -> Result<Option<Edges>, ReportFault>
     ensures walks { Walks (A.state archive.old) (A.state archive.new) result }
-    ensures asked { IsAskedWithin 16 (A.asked archive.old) (A.asked archive.new) }
+    ensures asked { IsAskedWithin 8 (A.asked archive.old) (A.asked archive.new) }
     ensures own { IsErrOf result ReportFault.Write → ⊥ }
     ensures same { pages.new.within ≡ pages.old.within }
 {
@@ -78,7 +78,7 @@ fn columns_between<A: Archive>(
     edges: Edges,
 ) -> Result<Columns, ReportFault>
     ensures walks { Walks (A.state archive.old) (A.state archive.new) result }
-    ensures asked { IsAskedWithin 16 (A.asked archive.old) (A.asked archive.new) }
+    ensures asked { IsAskedWithin 8 (A.asked archive.old) (A.asked archive.new) }
     ensures own { IsErrOf result ReportFault.Write → ⊥ }
     ensures same { pages.new.within ≡ pages.old.within }
 {
@@ -102,7 +102,7 @@ fn put_numbers<A: Archive>(
     out: &mut Vec<u8>,
 ) -> Result<(), ReportFault>
     ensures walks { Walks (A.state archive.old) (A.state archive.new) result }
-    ensures asked { IsAskedWithin 16 (A.asked archive.old) (A.asked archive.new) }
+    ensures asked { IsAskedWithin 8 (A.asked archive.old) (A.asked archive.new) }
     ensures own { IsErrOf result ReportFault.Write → ⊥ }
     ensures same { pages.new.within ≡ pages.old.within }
     ensures drawn { OnOk result (IsPut out.old.items out.new.items (IsDrawing report.now)) }
@@ -137,7 +137,7 @@ pub(crate) fn put_drawing<A: Archive>(
     out: &mut Vec<u8>,
 ) -> Result<(), ReportFault>
     ensures walks { Walks (A.state archive.old) (A.state archive.new) result }
-    ensures asked { IsAskedWithin 16 (A.asked archive.old) (A.asked archive.new) }
+    ensures asked { IsAskedWithin 8 (A.asked archive.old) (A.asked archive.new) }
     ensures own { IsErrOf result ReportFault.Write → ⊥ }
     ensures same { pages.new.within ≡ pages.old.within }
     ensures drawn { OnOk result (IsPut out.old.items out.new.items (IsDrawing report.now)) }

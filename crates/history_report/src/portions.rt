@@ -8,11 +8,11 @@ ghost use Rattle.history_report.specs.Portions.{PutsRows, PutsValues, PutsChange
 
 use crate::fault::ReportFault;
 use crate::lines::{footer, put_header};
-use crate::pages::{Pages, next_changes, next_values};
+use crate::pages::{Pages, first_changes, first_values, go_behind, span_behind};
 use crate::report::Report;
-use crate::rows::Row;
-use crate::span::{Span, span_of};
-use archive::{Archive, LogPlace};
+use crate::rows::{LONG, Row};
+use crate::span::span_of;
+use archive::Archive;
 use history_text::TextFault;
 use std::alloc::Global;
 use std::marker::Model;
@@ -77,27 +77,33 @@ fn take_back(fault: TextFault, start: usize, out: &mut Vec<u8>) -> ReportFault
     }
 }
 
-/// Appends a line for each row, up to one that has no text; nothing where memory is wanting.
+/// Appends a line for each of the first rows, up to one that has no text, or where the lines are
+/// 64 KiB or longer, and tells of how many; nothing where memory is wanting.
 fn append_rows<T: Row>(
     alloc: Global,
     report: &Report,
     rows: &[T],
     out: &mut Vec<u8>,
-) -> Result<(), ReportFault>
+) -> Result<usize, ReportFault>
     ensures { PutsRows (T.is_line report.now) T.is_textless rows.now
         out.old.items out.new.items result }
 {
     let start = out.len();
+    let mut count = 0usize;
     for row in rows {
         match row.put_line(alloc, report, out) {
             Ok(()) => {}
             Err(fault) => return Err(take_back(fault, start, out)),
         }
+        count += 1;
+        if out.len().saturating_sub(start) >= LONG {
+            return Ok(count);
+        }
     }
-    Ok(())
+    Ok(count)
 }
 
-/// Appends the next page of live values; false: none was left, and the footer was appended.
+/// Appends the lines of the next live values; false: none was left, and the footer was appended.
 fn append_values<A: Archive>(
     alloc: Global,
     archive: &mut A,
@@ -109,10 +115,11 @@ fn append_values<A: Archive>(
         (λ R. PutsValues report.now (values_left report.now.node pages.old R)
         (values_left report.now.node pages.new R) out.old.items out.new.items result) }
     ensures same { pages.new.within ≡ pages.old.within }
-    ensures asked { IsAskedWithin 16 (A.asked archive.old) (A.asked archive.new) }
+    ensures kept { OnErr result (pages.new ≡ pages.old) }
+    ensures asked { IsAskedWithin 8 (A.asked archive.old) (A.asked archive.new) }
     ensures own { IsErrOf result ReportFault.Write → ⊥ }
 {
-    let page = match next_values(alloc, archive, report, pages) {
+    let page = match first_values(alloc, archive, report, pages) {
         Ok(page) => page,
         Err(fault) => return Err(ReportFault::Store(fault)),
     };
@@ -121,12 +128,15 @@ fn append_values<A: Archive>(
         return append_footer(report, out);
     }
     match append_rows(alloc, report, rows, out) {
-        Ok(()) => Ok(true),
+        Ok(count) => {
+            pages.span = span_behind(pages.span, &rows[..count]);
+            Ok(true)
+        }
         Err(fault) => Err(fault),
     }
 }
 
-/// Appends the next page of modifications; false: none was left, and the footer was appended.
+/// Appends the lines of the next modifications; false: none was left, and the footer was appended.
 fn append_changes<A: Archive>(
     alloc: Global,
     archive: &mut A,
@@ -138,10 +148,11 @@ fn append_changes<A: Archive>(
         (λ R. PutsChanges report.now (changes_left report.now.node pages.old R)
         (changes_left report.now.node pages.new R) out.old.items out.new.items result) }
     ensures same { pages.new.within ≡ pages.old.within }
-    ensures asked { IsAskedWithin 16 (A.asked archive.old) (A.asked archive.new) }
+    ensures kept { OnErr result (pages.new ≡ pages.old) }
+    ensures asked { IsAskedWithin 8 (A.asked archive.old) (A.asked archive.new) }
     ensures own { IsErrOf result ReportFault.Write → ⊥ }
 {
-    let page = match next_changes(alloc, archive, report, pages) {
+    let page = match first_changes(alloc, archive, report, pages) {
         Ok(page) => page,
         Err(fault) => return Err(ReportFault::Store(fault)),
     };
@@ -150,12 +161,16 @@ fn append_changes<A: Archive>(
         return append_footer(report, out);
     }
     match append_rows(alloc, report, rows, out) {
-        Ok(()) => Ok(true),
+        Ok(count) => {
+            go_behind(pages, &rows[..count]);
+            Ok(true)
+        }
         Err(fault) => Err(fault),
     }
 }
 
-/// Appends the next page of what a report asks for; false: none was left, and the footer was appended.
+/// Appends the lines of the next of what a report asks for; false: none was left, and the footer was
+/// appended.
 fn append_page<A: Archive>(
     alloc: Global,
     archive: &mut A,
@@ -166,7 +181,8 @@ fn append_page<A: Archive>(
     ensures takes { TakesPortion (left_of report.now pages.old) (left_of report.now pages.new)
         (A.state archive.old) (A.state archive.new) out.old.items out.new.items result }
     ensures same { pages.new.within ≡ pages.old.within }
-    ensures asked { IsAskedWithin 16 (A.asked archive.old) (A.asked archive.new) }
+    ensures kept { OnErr result (pages.new ≡ pages.old) }
+    ensures asked { IsAskedWithin 8 (A.asked archive.old) (A.asked archive.new) }
     ensures own { IsErrOf result ReportFault.Write → ⊥ }
 {
     if report.changes {
@@ -174,14 +190,6 @@ fn append_page<A: Archive>(
     } else {
         append_values(alloc, archive, report, pages, out)
     }
-}
-
-/// What is still to come is so again.
-fn go_back(pages: &mut Pages, span: Span, after: Option<LogPlace>)
-    ensures { pages.new ≡ record pages.old { span = span; after = after } }
-{
-    pages.span = span;
-    pages.after = after;
 }
 
 impl Portions {
@@ -219,9 +227,9 @@ impl Portions {
         }
     }
 
-    /// Appends the lines of the next page of at most sixteen values or modifications, and tells
-    /// whether there was one; where none was left, it appends the footer. The archive stays as it
-    /// is.
+    /// Appends the lines of the next values or modifications, of at most eight, and of fewer where
+    /// their lines are 64 KiB or longer, and tells whether there was one; where none was left, it
+    /// appends the footer. The archive stays as it is.
     ///
     /// Errors: `Store` where the archive met a fault of its store, `OutOfMemory` where memory was
     /// wanting; then nothing is appended. `NoText` where a value has no text: then the lines before
@@ -236,16 +244,9 @@ impl Portions {
             out.old.items out.new.items result }
         ensures same { IsOfSame self.old self.new }
         ensures kept { OnErr result (self.new ≡ self.old) }
-        ensures asked { IsAskedWithin 16 (A.asked archive.old) (A.asked archive.new) }
+        ensures asked { IsAskedWithin 8 (A.asked archive.old) (A.asked archive.new) }
         ensures own { IsErrOf result ReportFault.Write → ⊥ }
     {
-        let (span, after) = (self.pages.span, self.pages.after);
-        match append_page(alloc, archive, &self.report, &mut self.pages, out) {
-            Ok(more) => Ok(more),
-            Err(fault) => {
-                go_back(&mut self.pages, span, after);
-                Err(fault)
-            }
-        }
+        append_page(alloc, archive, &self.report, &mut self.pages, out)
     }
 }

@@ -57,7 +57,7 @@ fn print_values<A: Archive, W: Write>(
         (λ R. PrintsLines (IsValueLine report.now) (λ h. IsTextless h.value.value) []
         (values_left report.now.node pages R) (W.contents output.old.inner)
         (W.contents output.new.inner) result) }
-    ensures asked { IsAskedWithin 16 (A.asked archive.old) (A.asked archive.new) }
+    ensures asked { IsAskedWithin 8 (A.asked archive.old) (A.asked archive.new) }
     ensures write { IsErrOf result ReportFault.Write
         → output.new.faults ≡ counted output.old.faults }
     ensures kept { (IsErrOf result ReportFault.Write → ⊥) → output.new.faults ≡ output.old.faults }
@@ -92,7 +92,7 @@ fn print_changes<A: Archive, W: Write>(
         (λ R. PrintsLines (IsChangeLine report.now) (λ e. ShowsTextless e.value) []
         (changes_left report.now.node pages R) (W.contents output.old.inner)
         (W.contents output.new.inner) result) }
-    ensures asked { IsAskedWithin 16 (A.asked archive.old) (A.asked archive.new) }
+    ensures asked { IsAskedWithin 8 (A.asked archive.old) (A.asked archive.new) }
     ensures write { IsErrOf result ReportFault.Write
         → output.new.faults ≡ counted output.old.faults }
     ensures kept { (IsErrOf result ReportFault.Write → ⊥) → output.new.faults ≡ output.old.faults }
@@ -126,7 +126,7 @@ fn print_rows<A: Archive, W: Write>(
     ensures prints { ReadsFor (A.state archive.old) (A.state archive.new) result
         (λ R. PrintsRows report.now pages R (W.contents output.old.inner)
         (W.contents output.new.inner) result) }
-    ensures asked { IsAskedWithin 16 (A.asked archive.old) (A.asked archive.new) }
+    ensures asked { IsAskedWithin 8 (A.asked archive.old) (A.asked archive.new) }
     ensures write { IsErrOf result ReportFault.Write
         → output.new.faults ≡ counted output.old.faults }
     ensures kept { (IsErrOf result ReportFault.Write → ⊥) → output.new.faults ≡ output.old.faults }
@@ -155,7 +155,7 @@ fn send_footer<W: Write>(report: &Report, output: &mut Counted<W>) -> Result<(),
 /// Prints a node's history: a header, a line for each live value, or for each modification, whose
 /// source time is at `from` or later and before `to`, in the order of time, of one time the newest
 /// modification first, and a footer. `form` says what these are: `Form` has them. The archive stays
-/// as it is. At most sixteen values are in memory at a time, and of what is written of them
+/// as it is. At most eight values are in memory at a time, and of what is written of them
 /// 64 KiB and a line.
 ///
 /// Errors: `Store` where the archive met a fault of its store, `NoText` where the next value has no
@@ -170,7 +170,7 @@ pub fn print_report<A: Archive, W: Write>(
 ) -> Result<(), ReportFault>
     ensures prints { Prints report.now (A.state archive.old) (A.state archive.new)
         (W.contents output.old.inner) (W.contents output.new.inner) result }
-    ensures asked { IsAskedWithin 16 (A.asked archive.old) (A.asked archive.new) }
+    ensures asked { IsAskedWithin 8 (A.asked archive.old) (A.asked archive.new) }
     ensures write { IsErrOf result ReportFault.Write
         → output.new.faults ≡ counted output.old.faults }
     ensures kept { (IsErrOf result ReportFault.Write → ⊥) → output.new.faults ≡ output.old.faults }

@@ -11,16 +11,16 @@ use crate::lines::{put_change_line, put_value_line};
 use crate::report::Report;
 use counted_io::Counted;
 use history_text::TextFault;
-use records::{Entry, Held};
+use records::{Entry, Held, Moment};
 use std::alloc::Global;
 use std::io::Write;
 
-/// How long a text is made before it is printed.
-const LONG: usize = 65_536;
+/// How long a text is made before it is printed, or a portion of it ends.
+pub(crate) const LONG: usize = 65_536;
 
 /// A live value, or a modification.
 pub(crate) trait Row {
-    ghost use Rattle.std.specs.Prelude.{◌≡◌, ℕ, List, IfErr, OnOk, OnErr};
+    ghost use Rattle.std.specs.Prelude.{◌≡◌, ℕ, ℤ, List, IfErr, OnOk, OnErr};
     ghost use Rattle.history_report.specs.declared.report.Report.{Report};
     ghost use Rattle.history_report.specs.Paging.{IsPut, IsWhy};
 
@@ -29,6 +29,13 @@ pub(crate) trait Row {
 
     /// It shows a value that has no text.
     ghost is_textless: { Self → Type 0 };
+
+    /// Its source time.
+    ghost time_of: { Self → ℤ };
+
+    /// Its source time.
+    fn time(&self) -> Moment
+        ensures { result ≡ time_of self.now };
 
     /// Appends it as a line. `NoText` says that it shows a value that has no text, and
     /// `OutOfMemory` that memory ran out; then nothing is appended.
@@ -44,6 +51,12 @@ impl Row for Held {
 
     ghost is_textless = { λ held. IsTextless held.value.value };
 
+    ghost time_of = { λ held. held.time };
+
+    fn time(&self) -> Moment {
+        self.time
+    }
+
     fn put_line(&self, alloc: Global, report: &Report, out: &mut Vec<u8>) -> Result<(), TextFault> {
         put_value_line(alloc, report, self, out)
     }
@@ -53,6 +66,12 @@ impl Row for Entry {
     ghost is_line = { IsChangeLine };
 
     ghost is_textless = { λ entry. ShowsTextless entry.value };
+
+    ghost time_of = { λ entry. entry.time };
+
+    fn time(&self) -> Moment {
+        self.time
+    }
 
     fn put_line(&self, alloc: Global, report: &Report, out: &mut Vec<u8>) -> Result<(), TextFault> {
         put_change_line(alloc, report, self, out)

@@ -60,7 +60,7 @@ fn tell_next<A: Archive>(
         (¬ IsDenied overview.entry.settings.now (web_of came.now sending))
         (λ told. (told.rest ≡ Denied)
         ↔ IsDenied overview.entry.settings.now (web_of came.now sending))) }
-    ensures asked { IsAskedWithin 501 (A.asked archive.old) (A.asked archive.new) }
+    ensures asked { IsAskedWithin 8 (A.asked archive.old) (A.asked archive.new) }
 {
     match sending {
         None => answer_first(alloc, archive, overview, came),
@@ -95,7 +95,7 @@ fn take_step<A: Archive>(
         (web_of came.now sending.old) made result (web_of came.now sending.new) }
     ensures lacks { result ≡ Ok NeedsInput
         → (out.new.items ≡ out.old.items) × NeedsRequest (web_of came.now sending.new) }
-    ensures asked { IsAskedWithin 501 (A.asked archive.old) (A.asked archive.new) }
+    ensures asked { IsAskedWithin 8 (A.asked archive.old) (A.asked archive.new) }
 {
     let alloc = *out.allocator();
     match tell_next(alloc, came, sending.take(), overview, archive) {
@@ -146,10 +146,10 @@ impl WebConnection {
 
     /// Makes the next part of the answer, and appends it to `out`: what came is refused, or the page
     /// that is asked for is told, whole or its head alone; a history as CSV goes on at each call, by at
-    /// most sixteen values or modifications of the records that were held when it began. Who isn't
-    /// one of the settings' users is told that, and no page; where credentials were given, the step is
-    /// `Denied`. The archive stays as it is; where its store meets a fault that is told, or a history
-    /// that was begun is broken off.
+    /// most eight values or modifications, and 64 KiB and a line, of the records that were held when
+    /// it began. Who isn't one of the settings' users is told that, and no page; where credentials were
+    /// given, the step is `Denied`. The archive stays as it is; where its store meets a fault that is
+    /// told, or a history that was begun is broken off.
     ///
     /// The one error is want of memory, and then nothing is appended. The connection is over then, as
     /// it is after `Ended` and `Denied`.
@@ -164,7 +164,7 @@ impl WebConnection {
             self.old made result self.new }
         ensures lacks { result ≡ Ok NeedsInput
             → (out.new.items ≡ out.old.items) × NeedsRequest self.new }
-        ensures asked { IsAskedWithin 501 (A.asked archive.old) (A.asked archive.new) }
+        ensures asked { IsAskedWithin 8 (A.asked archive.old) (A.asked archive.new) }
     {
         take_step(
             self.came.as_slice(),

@@ -95,7 +95,7 @@ fn begin_csv<A: Archive>(
         × BeginsCsv R question chunked told.text.items (sending_of told.rest))))
         (λ starved. OnlyAsks (A.state archive.old) (A.state archive.new)) }
     ensures let_in { IfOk result (λ told. told.rest ≢ Denied) }
-    ensures asked { IsAskedWithin 501 (A.asked archive.old) (A.asked archive.new) }
+    ensures asked { IsAskedWithin 8 (A.asked archive.old) (A.asked archive.new) }
 {
     let mut names = Vec::new(alloc);
     match Portions::begin(alloc, archive, report_of(question, Form::Csv), &mut names) {
@@ -131,7 +131,7 @@ pub(crate) fn told_csv<A: Archive>(
         (sending_of told.rest)))
         (λ starved. OnlyAsks (A.state archive.old) (A.state archive.new)) }
     ensures let_in { IfOk result (λ told. told.rest ≢ Denied) }
-    ensures asked { IsAskedWithin 501 (A.asked archive.old) (A.asked archive.new) }
+    ensures asked { IsAskedWithin 8 (A.asked archive.old) (A.asked archive.new) }
 {
     if head_only {
         return Ok(Told {
@@ -173,7 +173,7 @@ pub(crate) fn history_text<A: Archive>(
         (λ text. Makes (A.state archive.old) (A.state archive.new)
         (λ R faults. TellsHistory R question head_only faults text.items))
         (λ starved. OnlyAsks (A.state archive.old) (A.state archive.new)) }
-    ensures asked { IsAskedWithin 501 (A.asked archive.old) (A.asked archive.new) }
+    ensures asked { IsAskedWithin 8 (A.asked archive.old) (A.asked archive.new) }
 {
     let mut page = Vec::new(alloc);
     match put_part(alloc, archive, report_of(question, Form::Page), &mut page) {
@@ -233,7 +233,7 @@ pub(crate) fn next_portion<A: Archive>(
         (λ R faults. GoesOn R sending faults told.text.items (sending_of told.rest)))
         (λ starved. OnlyAsks (A.state archive.old) (A.state archive.new)) }
     ensures let_in { IfOk result (λ told. told.rest ≢ Denied) }
-    ensures asked { IsAskedWithin 501 (A.asked archive.old) (A.asked archive.new) }
+    ensures asked { IsAskedWithin 8 (A.asked archive.old) (A.asked archive.new) }
 {
     let Sending {
         mut portions,

@@ -30,7 +30,7 @@ pub(crate) fn front_text<A: Archive>(
         (λ R faults. TellsPage Html head_only (IsFront (overview_of overview.entry) R) faults
         text.items))
         (λ starved. OnlyAsks (A.state archive.old) (A.state archive.new)) }
-    ensures asked { IsAskedWithin 501 (A.asked archive.old) (A.asked archive.new) }
+    ensures asked { IsAskedWithin 8 (A.asked archive.old) (A.asked archive.new) }
 {
     let mut page = Vec::new(alloc);
     match put_front(alloc, archive, overview, &mut page) {
@@ -68,7 +68,7 @@ pub(crate) fn state_text<A: Archive>(
         (λ R faults. TellsPage Json head_only (IsStatus (overview_of overview.entry) R) faults
         text.items))
         (λ starved. OnlyAsks (A.state archive.old) (A.state archive.new)) }
-    ensures asked { IsAskedWithin 501 (A.asked archive.old) (A.asked archive.new) }
+    ensures asked { IsAskedWithin 8 (A.asked archive.old) (A.asked archive.new) }
 {
     match archive.vector() {
         Ok(vector) => state_page(alloc, overview, &vector, head_only),

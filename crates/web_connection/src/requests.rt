@@ -67,7 +67,7 @@ fn told_request<A: Archive>(
         request.takes_chunks faults told.text.items (sending_of told.rest)))
         (λ starved. OnlyAsks (A.state archive.old) (A.state archive.new)) }
     ensures let_in { IfOk result (λ told. told.rest ≢ Denied) }
-    ensures asked { IsAskedWithin 501 (A.asked archive.old) (A.asked archive.new) }
+    ensures asked { IsAskedWithin 8 (A.asked archive.old) (A.asked archive.new) }
 {
     let Request {
         page,
@@ -107,7 +107,7 @@ fn answer_request<A: Archive>(
     ensures denied { IfOk result
         (λ told. (told.rest ≡ Denied)
         ↔ (are_wrong overview.entry.settings.now request.credentials ≡ true)) }
-    ensures asked { IsAskedWithin 501 (A.asked archive.old) (A.asked archive.new) }
+    ensures asked { IsAskedWithin 8 (A.asked archive.old) (A.asked archive.new) }
 {
     match refusal_of(overview.settings, &request) {
         Some(why) => Ok(Told {
@@ -136,7 +136,7 @@ pub(crate) fn answer_first<A: Archive>(
     ensures denied { IfOk result (λ answer. MatchOption answer
         (¬ AreWrongIn overview.entry.settings.now came.now)
         (λ told. (told.rest ≡ Denied) ↔ AreWrongIn overview.entry.settings.now came.now)) }
-    ensures asked { IsAskedWithin 501 (A.asked archive.old) (A.asked archive.new) }
+    ensures asked { IsAskedWithin 8 (A.asked archive.old) (A.asked archive.new) }
 {
     match read_request(alloc, came) {
         Ok(None) => Ok(None),

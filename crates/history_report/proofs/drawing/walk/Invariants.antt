@@ -7,5 +7,5 @@ abbrev pub invariant-loop : goal.invariant-loop
 invariant-loop g l = record {
   stays : Stays (g.A.Archive.state l.fn.archive) (g.A.Archive.state l.archive);
   within : l.pages.within ≡ l.fn.pages.within;
-  asked : IsAskedWithin 16 (g.A.Archive.asked l.fn.archive) (g.A.Archive.asked l.archive);
+  asked : IsAskedWithin 8 (g.A.Archive.asked l.fn.archive) (g.A.Archive.asked l.archive);
 }

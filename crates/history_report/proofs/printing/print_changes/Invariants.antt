@@ -11,5 +11,5 @@ invariant-loop g l = record {
       (changes_left l.report.node l.pages)
       (g.W.Write.contents l.fn.output.inner) (g.W.Write.contents l.output.inner);
   faults : l.output.faults ≡ l.fn.output.faults;
-  asked : IsAskedWithin 16 (g.A.Archive.asked l.fn.archive) (g.A.Archive.asked l.archive);
+  asked : IsAskedWithin 8 (g.A.Archive.asked l.fn.archive) (g.A.Archive.asked l.archive);
 }
