@@ -513,11 +513,11 @@ int main(int argc, char **argv) {
             for (ll k = 0; k < n; k++)
                 page(p, from, to, 1000, &last);
             sqlite3_finalize(p);
-        } else if (!strcmp(f[0], "pagex")) { // the very statement of uahist, its eight columns
+        } else if (!strcmp(f[0], "pagex")) { // the very statement of uahist, its four columns
             sqlite3_stmt *p =
-                prep("SELECT node, time, pico, tick, origin, live, extra, value FROM currents2 WHERE node = "
-                     "?1 AND time >= ?2 AND (time > ?2 OR pico > ?3) AND time <= ?4 AND (time < ?4 OR pico "
-                     "<= ?5) AND live = 1 ORDER BY time, pico LIMIT ?6");
+                prep("SELECT time, pico, extra, value FROM currents2 WHERE node = ?1 AND time >= ?2 AND "
+                     "(time > ?2 OR pico > ?3) AND time <= ?4 AND (time < ?4 OR pico <= ?5) AND live = 1 "
+                     "ORDER BY time, pico LIMIT ?6");
             for (ll k = 0; k < n; k++) {
                 sqlite3_bind_blob(p, 1, T, 8, SQLITE_STATIC);
                 sqlite3_bind_int64(p, 2, FIRST + spaced * (N / 2));
@@ -527,9 +527,9 @@ int main(int argc, char **argv) {
                 sqlite3_bind_int(p, 6, 1001);
                 size_t o = 0;
                 while (sqlite3_step(p) == SQLITE_ROW) {
-                    ll t = sqlite3_column_int64(p, 1);
-                    const unsigned char *v = sqlite3_column_blob(p, 7);
-                    int l = sqlite3_column_bytes(p, 7);
+                    ll t = sqlite3_column_int64(p, 0);
+                    const unsigned char *v = sqlite3_column_blob(p, 3);
+                    int l = sqlite3_column_bytes(p, 3);
                     out[o] = v[0] | 4;
                     memcpy(out + o + 1, v + 1, l - 1);
                     o += l;

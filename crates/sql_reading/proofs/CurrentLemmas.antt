@@ -56,7 +56,7 @@ use Rattle.sql_tables.specs.Rows.{row_of, content_in, IsFilled, AreRecords}
 use Rattle.sql_reading.specs.Tables.{current_row, last_row, AreCurrents, AreLasts}
 use Rattle.sql_tables.proofs.KeptLemmas.{newer_is, not_above, is_above as is_above_number, same_origins}
 use Rattle.sql_tables.specs.Derived.{same, is_later, is_other, is_newer, last_of, vectors_of, vector_columns, flag, int_in, current_of, currents_of, current_columns, AreKept}
-use Rattle.sql_tables.specs.Currents.{is_live_after, is_live_before, current_order, AreNextCurrents, values_in, helds_in}
+use Rattle.sql_tables.specs.Currents.{is_live_after, is_live_before, current_order, AreNextCurrents, ShowValues, value_columns, values_in, helds_in}
 use Rattle.sql_reading.specs.Walking.{moment_at, IsStartPlace, stretch, values_at}
 use Rattle.sql_tables.proofs.QueryLemmas.{equals}
 use Rattle.sql_tables.proofs.RowLemmas.{each_record, content_is}
@@ -459,7 +459,7 @@ module _ (R : Content) (l : IsLawfulContent R) where
       (list_any (is_other (row_of r)) (map row_of R)) w.3 w.2 same_extra)
 
   -- what its row shows
-  row_shows : (r : Record) → Has R r → helds_in (row r) ≡ shown r ∷ []
+  row_shows : (r : Record) → Has R r → helds_in (value_columns (row r)) ≡ shown r ∷ []
   row_shows r h =
       ap (map made) (ap values_in (read_value r.value (each_record R l r h).0.value))
       ∙ ap₂ (λ t e. record { time = t; value = r.value; extra = e } ∷ []) (whole_again r.time)
@@ -654,7 +654,7 @@ module _ (R : Content) (l : IsLawfulContent R) where
         nothing t (Some x) e none = absurd (true≢false none)
 
     rows_show : (rs : List Record) → ((r : Record) → Has rs r → Has R r)
-        → flat_map helds_in (map row rs) ≡ map shown rs
+        → flat_map helds_in (map value_columns (map row rs)) ≡ map shown rs
     rows_show [] each = refl
     rows_show (r ∷ rs) each = rw (row_shows r (each r (inl refl)))
         (ap (λ hs. shown r ∷ hs) (rows_show rs (λ z h. each z (inr h))))
@@ -675,10 +675,12 @@ module _ (R : Content) (l : IsLawfulContent R) where
         → ((a b : Record) → row_cmp (row a) (row b) ≡ by_time d a b)
         → (limit : Option ℕ) (all rows : List Row) → IsPermutation (map row tops) all
         → IsPage pass row_cmp limit all rows
-        → flat_map helds_in rows ≡ limited limit (flat_map (values_at R node) stretch_here)
+        → flat_map helds_in (map value_columns rows)
+        ≡ limited limit (flat_map (values_at R node) stretch_here)
     shown_by pass row_cmp row_total tests orders limit all rows stand page =
-        ap (flat_map helds_in) (page_of row pass row_cmp row_total (shows d node place far)
-        (by_time d) (by_time_total d) limit tops all rows stand tests orders times_apart page)
+        ap (λ rs. flat_map helds_in (map value_columns rs)) (page_of row pass row_cmp row_total
+        (shows d node place far) (by_time d) (by_time_total d) limit tops all rows stand tests
+        orders times_apart page)
         ∙ (rows_show (limited limit inside) (λ r h.
         (has_inside r (from_some limit inside r h)).there)
         ∙ (limited_map limit inside ∙ ap (limited limit) shown_are))
@@ -754,7 +756,7 @@ module _ (R : Content) (l : IsLawfulContent R) where
   found_in : (d : Direction) (node : NodeId) (t q far : ℤ) (limit : Option ℕ) (all rows : List Row)
       → IsNodeId node → IsStartPlace d q → IsPermutation (map row tops) all
       → AreNextCurrents d (node_id.canon node) t q (ticks_of far) (pos (pico_of far)) limit all rows
-      → flat_map helds_in rows ≡ limited limit (flat_map (values_at R node)
+      → flat_map helds_in (map value_columns rows) ≡ limited limit (flat_map (values_at R node)
       (stretch d (moment_at t q) far (times R node)))
   found_in Forward node t q far limit all rows ok place stand page =
       shown_by node Forward (moment_at t q) far (is_live_after (node_id.canon node) t q
@@ -772,8 +774,8 @@ module _ (R : Content) (l : IsLawfulContent R) where
 pub currents_found : (d : Direction) (db : Trees) (node : NodeId) (bytes : List ℕ) (t q far : ℤ)
     (limit : Option ℕ) (rows : List Row) (items : List Held) → IsFilled db → AreKept db
     → IsNodeId node → bytes ≡ node_id.canon node → IsStartPlace d q
-    → AreNextCurrents d bytes t q (ticks_of far) (pos (pico_of far)) limit
-    (map current_columns (db 4)) rows → items ≡ flat_map helds_in rows
+    → ShowValues (AreNextCurrents d bytes t q (ticks_of far) (pos (pico_of far)) limit
+    (map current_columns (db 4))) rows → items ≡ flat_map helds_in rows
     → items ≡ limited limit (flat_map (values_at (content_in db) node)
     (stretch d (moment_at t q) far (times (content_in db) node)))
 currents_found d db node bytes t q far limit rows items (R, l, stand) kept ok is place page read =
@@ -781,12 +783,12 @@ currents_found d db node bytes t q far limit rows items (R, l, stand) kept ok is
     subst (λ xs. IsPermutation xs (map current_columns (db 4))) (rows_are R l)
     (IsPermutation-trans _ _ _
     (currents_permuted (map row_of R) (cells (db 1)) stand) kept.currents) in
-    let found = found_in R l d node t q far limit (map current_columns (db 4)) rows ok place all
-    (subst (λ b. AreNextCurrents d b t q (ticks_of far) (pos (pico_of far)) limit
-    (map current_columns (db 4)) rows) is page) in
+    let found = found_in R l d node t q far limit (map current_columns (db 4)) page.whole ok place
+    all (subst (λ b. AreNextCurrents d b t q (ticks_of far) (pos (pico_of far)) limit
+    (map current_columns (db 4)) page.whole) is page.are) in
     subst (λ S. items ≡ limited limit (flat_map (values_at S node)
     (stretch d (moment_at t q) far (times S node)))) (sym (content_is R db l stand))
-    (read ∙ found)
+    (read ∙ ap (flat_map helds_in) page.shown ∙ found)
 
 -- of so many, or of all, the first so many
 pub first_limited : {X : Type 0} (n : ℕ) (limit : Option ℕ) (items all : List X)

@@ -30,7 +30,7 @@ use Rattle.sql_tables.specs.Words.{cells, columns_of, IsPage, AreNextRows}
 use Rattle.sql_tables.specs.Derived.{is_later, current_of, currents_of, current_columns}
 use Rattle.sql_tables.specs.State.{shown_of, MayBeStopped, AreWhole, LeavesUnchanged}
 use Rattle.sql_tables.specs.Rows.{row_of, records_in, content_in, spelled, found, IsFilled, HasNoRecords}
-use Rattle.sql_tables.specs.Currents.{AreNextCurrents}
+use Rattle.sql_tables.specs.Currents.{AreNextCurrents, ShowValues, value_columns}
 use Rattle.sql_tables.proofs.RowLemmas.{each_record}
 use Rattle.sql_reading.specs.Readable.{IsReadable, HasUnreadable}
 use Rattle.sql_reading.specs.Walking.{stretch}
@@ -83,9 +83,9 @@ among_currents Forward node time pico far far_pico limit all rows page =
 among_currents Backward node time pico far far_pico limit all rows page =
     among_page _ _ limit all rows page
 
--- a row of currents2 that follows from a record's shows a value
+-- what is shown of a row of currents2 that follows from a record's shows a value
 readable : (R : Content) (rows : List Row) (r : Record) → IsLawfulContent R → Has R r
-    → IsReadable (current_of rows (row_of r))
+    → IsReadable (value_columns (current_of rows (row_of r)))
 readable R rows r l h = record {
   time = (ticks_of r.time, refl);
   pico = (pico_of r.time, refl, pico_within r.time);
@@ -97,21 +97,23 @@ readable R rows r l h = record {
 
 pub currents_read : (d : Direction) (db : Trees) (node : List ℕ) (time pico far far_pico : ℤ)
     (limit : Option ℕ) (rows : List Row) → AreWhole db
-    → AreNextCurrents d node time pico far far_pico limit (map current_columns (db 4)) rows
-    → HasUnreadable rows → ⊥
+    → ShowValues (AreNextCurrents d node time pico far far_pico limit
+    (map current_columns (db 4))) rows → HasUnreadable rows → ⊥
 currents_read d db node time pico far far_pico limit rows whole page (c, there, none) =
     let all = cells (db 1) in
+    let of = has_from_map value_columns page.whole c (subst (λ rs. Has rs c) page.shown there) in
     let top = λ (r : Row). not (list_any (is_later r) all) in
-    let held = among_currents d node time pico far far_pico limit (map current_columns (db 4)) rows
-    page c there in
-    let follows = has-permutation (map current_columns (db 4)) (currents_of all) c
+    let held = among_currents d node time pico far far_pico limit (map current_columns (db 4))
+    page.whole page.are of.0 of.1 in
+    let follows = has-permutation (map current_columns (db 4)) (currents_of all) of.0
     (IsPermutation-sym (currents_of all) (map current_columns (db 4)) whole.kept.currents) held in
-    let from = has_from_map (current_of all) (filter top all) c follows in
+    let from = has_from_map (current_of all) (filter top all) of.0 follows in
     let row = (has_from_filter top all from.0 from.1).0 in
     let R = whole.filled.0 in
     let r = has_from_map row_of R from.0 (has-permutation all (map row_of R) from.0
     (IsPermutation-sym (map row_of R) all whole.filled.2) row) in
-    none (subst IsReadable from.2 (subst (λ x. IsReadable (current_of all x)) r.2
+    none (subst IsReadable (ap value_columns from.2 ∙ of.2)
+    (subst (λ x. IsReadable (value_columns (current_of all x))) r.2
     (readable R all r.0 whole.filled.1 r.1)))
 
 -- what rows that aren't read are told as

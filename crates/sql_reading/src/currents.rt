@@ -12,7 +12,7 @@ ghost use Rattle.records.specs.Moments.{ticks_of, pico_of};
 ghost use Rattle.archive.specs.Reading.{times};
 ghost use Rattle.sql_tables.specs.Rows.{IsFilled};
 ghost use Rattle.sql_tables.specs.Derived.{AreKept, current_columns};
-ghost use Rattle.sql_tables.specs.Currents.{is_live_after, is_live_before, current_order, AreNextCurrents, values_in, helds_in};
+ghost use Rattle.sql_tables.specs.Currents.{is_live_after, is_live_before, current_order, AreNextCurrents, ShowValues, values_in, helds_in};
 ghost use Rattle.sql_tables.specs.State.{Idles, LeavesUnchanged};
 ghost use Rattle.sql_tables.specs.Words.{IsPage};
 ghost use Rattle.sql_reading.specs.Readable.{IsReadable, HasUnreadable};
@@ -37,7 +37,8 @@ struct Stretch {
     count: i64,
 }
 
-/// The first live values of a node, by time, after a place.
+/// The first live values of a node, by time, after a place: of each its moment, whether others stand there,
+/// and the value.
 fn currents_after<S: Alter>(
     conn: &mut Connection<S>,
     node: &[u8],
@@ -45,13 +46,13 @@ fn currents_after<S: Alter>(
 ) -> Result<Vec<Row>, StoreFault>
     requires { WhereClean S.Store conn.old Idles }
     ensures { LeavesUnchanged (state S.Store conn.old) (state S.Store conn.new) result
-        (λ rows. IsPage (is_live_after node.now along.now.near.ticks along.now.near.pico
+        (λ rows. ShowValues (IsPage (is_live_after node.now along.now.near.ticks along.now.near.pico
         along.now.far.ticks along.now.far.pico) current_order (as_count (value.Int along.now.count))
-        (map current_columns (tables_of S.Store conn.old 4)) rows.items) }
+        (map current_columns (tables_of S.Store conn.old 4))) rows.items) }
 {
     select(
         conn,
-        "SELECT node, time, pico, tick, origin, live, extra, value FROM currents2 WHERE node = ?1 AND time >= ?2 AND (time > ?2 OR pico > ?3) AND time <= ?4 AND (time < ?4 OR pico <= ?5) AND live = 1 ORDER BY time, pico LIMIT ?6",
+        "SELECT time, pico, extra, value FROM currents2 WHERE node = ?1 AND time >= ?2 AND (time > ?2 OR pico > ?3) AND time <= ?4 AND (time < ?4 OR pico <= ?5) AND live = 1 ORDER BY time, pico LIMIT ?6",
         params![
             node,
             &along.near.ticks,
@@ -63,7 +64,7 @@ fn currents_after<S: Alter>(
     )
 }
 
-/// The last live values of a node, by time, before a place: the last one first.
+/// The same of the last live values before a place: the last one first.
 fn currents_before<S: Alter>(
     conn: &mut Connection<S>,
     node: &[u8],
@@ -71,14 +72,14 @@ fn currents_before<S: Alter>(
 ) -> Result<Vec<Row>, StoreFault>
     requires { WhereClean S.Store conn.old Idles }
     ensures { LeavesUnchanged (state S.Store conn.old) (state S.Store conn.new) result
-        (λ rows. IsPage (is_live_before node.now along.now.near.ticks along.now.near.pico
-        along.now.far.ticks along.now.far.pico) (λ a b. current_order b a)
+        (λ rows. ShowValues (IsPage (is_live_before node.now along.now.near.ticks
+        along.now.near.pico along.now.far.ticks along.now.far.pico) (λ a b. current_order b a)
         (as_count (value.Int along.now.count))
-        (map current_columns (tables_of S.Store conn.old 4)) rows.items) }
+        (map current_columns (tables_of S.Store conn.old 4))) rows.items) }
 {
     select(
         conn,
-        "SELECT node, time, pico, tick, origin, live, extra, value FROM currents2 WHERE node = ?1 AND time <= ?2 AND (time < ?2 OR pico < ?3) AND time >= ?4 AND (time > ?4 OR pico >= ?5) AND live = 1 ORDER BY time DESC, pico DESC LIMIT ?6",
+        "SELECT time, pico, extra, value FROM currents2 WHERE node = ?1 AND time <= ?2 AND (time < ?2 OR pico < ?3) AND time >= ?4 AND (time > ?4 OR pico >= ?5) AND live = 1 ORDER BY time DESC, pico DESC LIMIT ?6",
         params![
             node,
             &along.near.ticks,
@@ -99,9 +100,10 @@ fn currents_next<S: Alter>(
 ) -> Result<Vec<Row>, StoreFault>
     requires { WhereClean S.Store conn.old Idles }
     ensures { LeavesUnchanged (state S.Store conn.old) (state S.Store conn.new) result
-        (λ rows. AreNextCurrents direction node.now along.now.near.ticks along.now.near.pico
-        along.now.far.ticks along.now.far.pico (as_count (value.Int along.now.count))
-        (map current_columns (tables_of S.Store conn.old 4)) rows.items) }
+        (λ rows. ShowValues (AreNextCurrents direction node.now along.now.near.ticks
+        along.now.near.pico along.now.far.ticks along.now.far.pico
+        (as_count (value.Int along.now.count))
+        (map current_columns (tables_of S.Store conn.old 4))) rows.items) }
 {
     match direction {
         Direction::Forward => currents_after(conn, node, along),
@@ -113,11 +115,11 @@ fn currents_next<S: Alter>(
 #[tactic(auto, using(crate::proofs::ReadableLemmas::no_bytes, crate::proofs::ReadableLemmas::no_value_by))]
 fn value_at(alloc: Global, row: &Row) -> Result<DataValue, RecordFault>
     ensures found { IfOk result
-        (λ v. values_in (data_value.read (bytes (column row.now 7))) ≡ v ∷ []) }
+        (λ v. values_in (data_value.read (bytes (column row.now 3))) ≡ v ∷ []) }
     ensures unread { IfErr result (λ fault. (fault ≡ RecordFault.OutOfMemory)
         ⊎ (IsReadable row.now → ⊥)) }
 {
-    let mut cursor = Cursor::new(bytes_at(row, 7)?);
+    let mut cursor = Cursor::new(bytes_at(row, 3)?);
     Ok(read_data_value(alloc, &mut cursor)?)
 }
 
@@ -128,9 +130,9 @@ fn held_in(alloc: Global, row: &Row) -> Result<Held, RecordFault>
     ensures unread { IfErr result (λ fault. (fault ≡ RecordFault.OutOfMemory)
         ⊎ (IsReadable row.now → ⊥)) }
 {
-    let ticks = int_at(row, 1)?;
-    let pico = short_at(row, 2)?;
-    let extra = int_at(row, 6)? != 0;
+    let ticks = int_at(row, 0)?;
+    let pico = short_at(row, 1)?;
+    let extra = int_at(row, 2)? != 0;
     let Some(time) = Moment::new(ticks, pico) else {
         return Err(RecordFault::BadField);
     };

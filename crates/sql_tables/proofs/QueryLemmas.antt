@@ -15,12 +15,13 @@ use Rattle.sqlite_sql.specs.Ops.{binary, is_true, from_truth, is_null}
 use Rattle.sqlite_sql.specs.Term.{Term, lit, col, op2, holds}
 use Rattle.sqlite_sql.specs.declared.ops.BinaryOp.TheVariants.{Compare, Or}
 use Rattle.sqlite_sql.specs.declared.ops.CompareOp.TheVariants.{Eq, Gt, Ge, Lt, Le}
-use Rattle.sqlite_sql.specs.Query.{Query, inner, end, Output, output, output_cmp, key_cmp, page, as_count, IsAnswer}
+use Rattle.sqlite_sql.specs.Query.{Query, inner, end, Output, output, output_cmp, key_cmp, page, limited, as_count, IsAnswer}
 use Rattle.sqlite_sql.specs.Program.{overlay}
 use Rattle.sqlite_trees.specs.Tree.{Trees}
-use Rattle.sqlite_trees.proofs.ListLemmas.{filter-map}
+use Rattle.sqlite_trees.proofs.ListLemmas.{filter-map, pull_back}
 use Rattle.sqlite_keyed.proofs.ListLemmas.{filter_all, all_of}
 use Rattle.sqlite_exec.proofs.RowsLemmas.{IsSorted-map}
+use Rattle.sqlite_exec.proofs.RunLemmas.{limited-map}
 use Rattle.sqlite_exec.proofs.PartitionLemmas.{IsSorted-from_map}
 use Rattle.sqlite_schema.specs.declared.command.Command.TheVariants.{Select}
 use Rattle.sqlite_schema.specs.declared.schema.Schema.{Schema}
@@ -41,7 +42,7 @@ use Rattle.sql_tables.specs.State.{AreAt, HasMeta, shown_of}
 use Rattle.sql_tables.specs.Rows.{meta_columns, meta_cells}
 use Rattle.sql_tables.specs.Derived.{current_columns, vector_columns}
 use Rattle.sql_tables.specs.Keeping.{is_vector_of}
-use Rattle.sql_tables.specs.Currents.{is_live_after, is_live_before, current_order}
+use Rattle.sql_tables.specs.Currents.{is_live_after, is_live_before, current_order, value_columns, ShowValues}
 use Rattle.sql_tables.proofs.Texts.{lives_after_text, lives_before_text, at_text, since_text, after_text, before_text, all_text, whose_text, named_text, last_text}
 
 -- a query on one table
@@ -70,11 +71,6 @@ picked f g p (x ∷ xs) = go (p x) (picked f g p xs)
     go true more = ap (λ l. f (g x) ∷ l) more
     go false more = more
 
-all_made : {A B : Type 0} (P : B → Type 0) (f : A → B) → ((x : A) → P (f x)) → (xs : List A)
-    → AllByRecursion P (map f xs)
-all_made P f each [] = tt
-all_made P f each (x ∷ xs) = (each x, all_made P f each xs)
-
 pub repaired : {A : Type 0} (f : A → A) (xs : List A) → AllByRecursion (λ x. f x ≡ x) xs
     → map f xs ≡ xs
 repaired f [] all = refl
@@ -85,54 +81,76 @@ filter_alike : {A : Type 0} (p q : A → Bool) → ((x : A) → p x ≡ q x) →
 filter_alike p q same [] = refl
 filter_alike p q same (x ∷ xs) = rw (same x, filter_alike p q same xs)
 
+itself : (xs : List Row) → map (λ c. c) xs ≡ xs
+itself [] = refl
+itself (x ∷ xs) = ap (λ l. x ∷ l) (itself xs)
+
+sorted_alike : (f g : Row → Row → Ordering) → ((a b : Row) → f a b ≡ g a b) → (xs : List Row)
+    → IsSorted f xs → IsSorted g xs
+sorted_alike f g same xs h k d p q = sym (ap is_lt (same _ _)) ∙ h k d p q
+
+module _ (table : ℕ) (tests project : List Term) (order : List (Term × Key)) (limit : Term)
+    (params : Row) (full narrow : Row → Row) (pass : Row → Bool) (key : Row → Row)
+    (shows : (r : Row) → output (simple table tests project order limit) (params ∷ r ∷ [])
+    ≡ (key (full r), narrow (full r)))
+    (passes : (r : Row) → list_all (holds (params ∷ r ∷ [])) tests ≡ pass (full r)) where
+  abbrev q : Query
+  q = simple table tests project order limit
+
+  -- what a query on one table answers: the rows that pass, in order, and of those the page, of each
+  -- of which some columns are shown
+  pub answered_in_part : (db : Trees) (rows : List Row) → IsAnswer q (overlay db []) params rows
+      → (all : List Row) × IsPermutation (filter pass (map full (overlay db [] table))) all
+      × IsSorted (λ a b. key_cmp 0 (map (λ k. k.1) order) (key a) (key b)) all
+      × (rows ≡ page q params (map narrow all))
+  answered_in_part db rows a =
+      let es = overlay db [] table in
+      let keeps = λ (r : Row). list_all (holds (params ∷ r ∷ [])) tests in
+      let made = λ (r : Row). output q (params ∷ r ∷ []) in
+      let front = λ (o : Output). o.1 in
+      let by_key = λ (x y : Row). key_cmp 0 (map (λ k. k.1) order) (key x) (key y) in
+      let kept : a.kept ≡ map made (filter keeps es) =
+      a.distinct ∙ ap (map (output q)) a.grouped
+      ∙ picked (output q) (λ r. params ∷ r ∷ []) keeps es in
+      let back = pull_back made a.kept a.ordered a.same (filter keeps es) kept in
+      let sorted = sorted_alike (λ x y. output_cmp q (made x) (made y))
+      (λ x y. by_key (full x) (full y))
+      (λ x y. ap₂ (output_cmp q) (shows x) (shows y)) back.0
+      (IsSorted-from_map (output_cmp q) made back.0
+      (subst (IsSorted (output_cmp q)) back.2 a.sorted)) in
+      let passed : filter pass (map full es) ≡ map full (filter keeps es) =
+      filter-map pass full es
+      ∙ ap (map full) (sym (filter_alike keeps (λ r. pass (full r)) passes es)) in (
+        map full back.0,
+        subst (λ xs. IsPermutation xs (map full back.0)) (sym passed)
+            (IsPermutation-map full (filter keeps es) back.0 back.1),
+        IsSorted-map by_key full back.0 sorted,
+        a.shown ∙ ap (page q params) (ap (map front) back.2 ∙ seconds back.0),
+      )
+    where
+      seconds : (rs : List Row) → map (λ (o : Output). o.1)
+          (map (λ r. output (simple table tests project order limit) (params ∷ r ∷ [])) rs)
+          ≡ map narrow (map full rs)
+      seconds [] = refl
+      seconds (r ∷ rs) = ap₂ ◌∷◌ (ap (λ (o : Output). o.1) (shows r)) (seconds rs)
+
 module _ (table : ℕ) (tests project : List Term) (order : List (Term × Key)) (limit : Term)
     (params : Row) (shown : Row → Row) (pass : Row → Bool) (key : Row → Row)
     (shows : (r : Row) → output (simple table tests project order limit) (params ∷ r ∷ [])
     ≡ (key (shown r), shown r))
     (passes : (r : Row) → list_all (holds (params ∷ r ∷ [])) tests ≡ pass (shown r)) where
-  abbrev q : Query
-  q = simple table tests project order limit
+  abbrev whole : Query
+  whole = simple table tests project order limit
 
-  -- what a query on one table answers: the rows that pass, in order, and of those the page
-  pub answered : (db : Trees) (rows : List Row) → IsAnswer q (overlay db []) params rows
+  -- the same of a query that shows each column
+  pub answered : (db : Trees) (rows : List Row) → IsAnswer whole (overlay db []) params rows
       → (all : List Row) × IsPermutation (filter pass (map shown (overlay db [] table))) all
       × IsSorted (λ a b. key_cmp 0 (map (λ k. k.1) order) (key a) (key b)) all
-      × (rows ≡ page q params all)
+      × (rows ≡ page whole params all)
   answered db rows a =
-      let es = overlay db [] table in
-      let keeps = λ (r : Row). list_all (holds (params ∷ r ∷ [])) tests in
-      let pair : Output → Output = λ o. (key o.1, o.1) in
-      let made = λ (r : Row). output q (params ∷ r ∷ []) in
-      let kept : a.kept ≡ map made (filter keeps es) =
-      a.distinct ∙ ap (map (output q)) a.grouped
-      ∙ picked (output q) (λ r. params ∷ r ∷ []) keeps es in
-      let paired : AllByRecursion (λ o. pair o ≡ o) a.kept =
-      subst (AllByRecursion (λ o. pair o ≡ o)) (sym kept)
-      (all_made (λ o. pair o ≡ o) made (λ r. subst (λ o. pair o ≡ o) (sym (shows r)) refl)
-      (filter keeps es)) in
-      let whole = repaired pair a.ordered (recursion_from_All (λ o. pair o ≡ o) a.ordered
-      (All-permutation (λ o. pair o ≡ o) a.kept a.ordered a.same
-      (All-from_recursion (λ o. pair o ≡ o) a.kept paired))) in
-      let sorted = IsSorted-from_map (output_cmp q) pair a.ordered
-      (subst (IsSorted (output_cmp q)) (sym whole) a.sorted) in
-      let front = λ (o : Output). o.1 in
-      let rows_kept : map front a.kept ≡ filter pass (map shown es) =
-      ap (map front) kept ∙ seconds (filter keeps es)
-      ∙ ap (map shown) (filter_alike keeps (λ r. pass (shown r)) passes es)
-      ∙ sym (filter-map pass shown es) in (
-        map front a.ordered,
-        subst (λ xs. IsPermutation xs (map front a.ordered)) rows_kept
-            (IsPermutation-map front a.kept a.ordered a.same),
-        IsSorted-map (λ x y. key_cmp 0 (map (λ k. k.1) order) (key x) (key y)) front a.ordered
-            sorted,
-        a.shown,
-      )
-    where
-      seconds : (rs : List Row) → map (λ (o : Output). o.1)
-          (map (λ r. output (simple table tests project order limit) (params ∷ r ∷ [])) rs)
-          ≡ map shown rs
-      seconds [] = refl
-      seconds (r ∷ rs) = ap₂ ◌∷◌ (ap (λ (o : Output). o.1) (shows r)) (seconds rs)
+      let all = answered_in_part table tests project order limit params shown (λ c. c) pass key
+      shows passes db rows a in
+      (all.0, all.1, all.2, all.3 ∙ ap (page whole params) (itself all.0))
 
 abbrev pub eq : Term → Term → Term
 eq a b = op2 (Compare Eq Binary) a b
@@ -180,10 +198,6 @@ equals (Int n) w some = rw some (truly _)
 equals (Real x) w some = rw some (truly _)
 equals (Text t) w some = rw some (truly _)
 equals (Blob b) w some = rw some (truly _)
-
-sorted_alike : (f g : Row → Row → Ordering) → ((a b : Row) → f a b ≡ g a b) → (xs : List Row)
-    → IsSorted f xs → IsSorted g xs
-sorted_alike f g same xs h k d p q = sym (ap is_lt (same _ _)) ∙ h k d p q
 
 both_true : (a b : Bool) → (a && (b && true)) ≡ (a && b)
 both_true true true = refl
@@ -565,12 +579,11 @@ finds_before old new node time pico count rows has h =
 
 -- ---- the next live values of a node
 
-abbrev each_current : List Term
-each_current = col 1 1 ∷ col 1 2 ∷ col 1 3 ∷ col 1 4 ∷ col 1 5 ∷ col 1 6 ∷ col 1 7 ∷ col 1 8 ∷ []
+abbrev value_terms : List Term
+value_terms = col 1 2 ∷ col 1 3 ∷ col 1 7 ∷ col 1 8 ∷ []
 
-abbrev current_names : List (List ℕ)
-current_names = codes "node" ∷ codes "time" ∷ codes "pico" ∷ codes "tick" ∷ codes "origin"
-    ∷ codes "live" ∷ codes "extra" ∷ codes "value" ∷ []
+abbrev value_names : List (List ℕ)
+value_names = codes "time" ∷ codes "pico" ∷ codes "extra" ∷ codes "value" ∷ []
 
 abbrev live_test : Term
 live_test = eq (col 1 6) (lit (Int (pos 1)))
@@ -603,8 +616,8 @@ lives_after_is : (command_of (understood archive_schema lives_after_text)
     ≡ Select (record {
       lets = [];
       body =
-          simple 4 lives_after_tests each_current up_time (col 0 5);
-    }) current_names)
+          simple 4 lives_after_tests value_terms up_time (col 0 5);
+    }) value_names)
     × (reads_listing archive_schema lives_after_text ≡ false)
 unfolding understood everything
 lives_after_is = (refl, refl)
@@ -617,8 +630,8 @@ lives_before_is : (command_of (understood archive_schema lives_before_text)
     ≡ Select (record {
       lets = [];
       body =
-          simple 4 lives_before_tests each_current down_time (col 0 5);
-    }) current_names)
+          simple 4 lives_before_tests value_terms down_time (col 0 5);
+    }) value_names)
     × (reads_listing archive_schema lives_before_text ≡ false)
 unfolding understood everything
 lives_before_is = (refl, refl)
@@ -638,14 +651,14 @@ pub finds_lives_after : (old new : State) (node : List ℕ) (time pico far far_p
     (rows : List Row) → old.now.schema ≡ archive_schema
     → Shown lives_after_text (Blob node ∷ Int time ∷ Int pico ∷ Int far ∷ Int far_pico ∷ Int count
     ∷ []) old new rows
-    → IsPage (is_live_after node time pico far far_pico) current_order (as_count (Int count))
-    (map current_columns (old.now.trees 4)) rows
+    → ShowValues (IsPage (is_live_after node time pico far far_pico) current_order
+    (as_count (Int count)) (map current_columns (old.now.trees 4))) rows
 finds_lives_after old new node time pico far far_pico count rows has h =
     let params = Blob node ∷ Int time ∷ Int pico ∷ Int far ∷ Int far_pico ∷ Int count ∷ [] in
     let got = reads_as lives_after_text params old new archive_schema has _ lives_after_is.0
     lives_after_plain lives_after_is.1 rows h in
-    let all = answered 4 lives_after_tests each_current up_time (col 0 5) params current_columns
-    (is_live_after node time pico far far_pico) by_time (λ r. refl)
+    let all = answered_in_part 4 lives_after_tests value_terms up_time (col 0 5) params
+    current_columns value_columns (is_live_after node time pico far far_pico) by_time (λ r. refl)
     (λ r. rw (
       equals (column r 1) (Blob node) refl,
       equals (column r 6) (Int (pos 1)) refl,
@@ -653,27 +666,31 @@ finds_lives_after old new node time pico far far_pico count rows has h =
     ) refl) old.now.trees rows
     (got.answer Null) in
     record {
-      ordered = all.0;
-      same = all.1;
-      sorted = sorted_alike (λ a b.
-          key_cmp 0 (map (λ (k : Term × Key). k.1) up_time) (by_time a) (by_time b)) current_order
-          (λ a b. last_of_two (value_cmp (column a 1) (column b 1))
-          (value_cmp (column a 2) (column b 2))) all.0 all.2;
-      front = all.3;
+      whole = limited (as_count (Int count)) all.0;
+      are = record {
+        ordered = all.0;
+        same = all.1;
+        sorted = sorted_alike (λ a b.
+            key_cmp 0 (map (λ (k : Term × Key). k.1) up_time) (by_time a) (by_time b)) current_order
+            (λ a b. last_of_two (value_cmp (column a 1) (column b 1))
+            (value_cmp (column a 2) (column b 2))) all.0 all.2;
+        front = refl;
+      };
+      shown = all.3 ∙ limited-map value_columns (as_count (Int count)) all.0;
     }
 
 pub finds_lives_before : (old new : State) (node : List ℕ) (time pico far far_pico count : ℤ)
     (rows : List Row) → old.now.schema ≡ archive_schema
     → Shown lives_before_text (Blob node ∷ Int time ∷ Int pico ∷ Int far ∷ Int far_pico ∷ Int count
     ∷ []) old new rows
-    → IsPage (is_live_before node time pico far far_pico) (λ a b. current_order b a)
-    (as_count (Int count)) (map current_columns (old.now.trees 4)) rows
+    → ShowValues (IsPage (is_live_before node time pico far far_pico)
+    (λ a b. current_order b a) (as_count (Int count)) (map current_columns (old.now.trees 4))) rows
 finds_lives_before old new node time pico far far_pico count rows has h =
     let params = Blob node ∷ Int time ∷ Int pico ∷ Int far ∷ Int far_pico ∷ Int count ∷ [] in
     let got = reads_as lives_before_text params old new archive_schema has _ lives_before_is.0
     lives_before_plain lives_before_is.1 rows h in
-    let all = answered 4 lives_before_tests each_current down_time (col 0 5) params current_columns
-    (is_live_before node time pico far far_pico) by_time (λ r. refl)
+    let all = answered_in_part 4 lives_before_tests value_terms down_time (col 0 5) params
+    current_columns value_columns (is_live_before node time pico far far_pico) by_time (λ r. refl)
     (λ r. rw (
       equals (column r 1) (Blob node) refl,
       equals (column r 6) (Int (pos 1)) refl,
@@ -681,12 +698,16 @@ finds_lives_before old new node time pico far far_pico count rows has h =
     ) refl) old.now.trees rows
     (got.answer Null) in
     record {
-      ordered = all.0;
-      same = all.1;
-      sorted = sorted_alike (λ a b.
-          key_cmp 0 (map (λ (k : Term × Key). k.1) down_time) (by_time a) (by_time b))
-          (λ a b. current_order b a) (λ a b.
-          last_of_two (value_cmp (column b 1) (column a 1)) (value_cmp (column b 2) (column a 2)))
-          all.0 all.2;
-      front = all.3;
+      whole = limited (as_count (Int count)) all.0;
+      are = record {
+        ordered = all.0;
+        same = all.1;
+        sorted = sorted_alike (λ a b.
+            key_cmp 0 (map (λ (k : Term × Key). k.1) down_time) (by_time a) (by_time b))
+            (λ a b. current_order b a) (λ a b.
+            last_of_two (value_cmp (column b 1) (column a 1)) (value_cmp (column b 2) (column a 2)))
+            all.0 all.2;
+        front = refl;
+      };
+      shown = all.3 ∙ limited-map value_columns (as_count (Int count)) all.0;
     }

@@ -127,11 +127,11 @@ vectors_held_text = codes "SELECT origin FROM vectors ORDER BY origin"
 
 abbrev pub lives_after_text : List ℕ
 lives_after_text =
-    codes "SELECT node, time, pico, tick, origin, live, extra, value FROM currents2 WHERE node = ?1 AND time >= ?2 AND (time > ?2 OR pico > ?3) AND time <= ?4 AND (time < ?4 OR pico <= ?5) AND live = 1 ORDER BY time, pico LIMIT ?6"
+    codes "SELECT time, pico, extra, value FROM currents2 WHERE node = ?1 AND time >= ?2 AND (time > ?2 OR pico > ?3) AND time <= ?4 AND (time < ?4 OR pico <= ?5) AND live = 1 ORDER BY time, pico LIMIT ?6"
 
 abbrev pub lives_before_text : List ℕ
 lives_before_text =
-    codes "SELECT node, time, pico, tick, origin, live, extra, value FROM currents2 WHERE node = ?1 AND time <= ?2 AND (time < ?2 OR pico < ?3) AND time >= ?4 AND (time > ?4 OR pico >= ?5) AND live = 1 ORDER BY time DESC, pico DESC LIMIT ?6"
+    codes "SELECT time, pico, extra, value FROM currents2 WHERE node = ?1 AND time <= ?2 AND (time < ?2 OR pico < ?3) AND time >= ?4 AND (time > ?4 OR pico >= ?5) AND live = 1 ORDER BY time DESC, pico DESC LIMIT ?6"
 
 abbrev pub records1_text : List ℕ
 records1_text = codes

@@ -1,5 +1,5 @@
 -- What currents2 shows of a node: its live values.
-use Rattle.std.specs.Prelude.{ℕ, ℤ, pos, Bool, not, ◌&&◌, List, [], ◌∷◌, map, Option, Result, Ok, Err}
+use Rattle.std.specs.Prelude.{◌≡◌, ℕ, ℤ, pos, Bool, not, ◌&&◌, List, [], ◌∷◌, map, Option, Result, Ok, Err}
 use Rattle.std.specs.declared.cmp.Ordering.{Ordering}
 use Rattle.std.specs.Ordering.{int_eq, is_eq, ordering_then}
 use Rattle.sqlite_value.specs.declared.value.Value.TheVariants.{Int, Blob as Bytes}
@@ -75,18 +75,28 @@ AreNextCurrents Backward node time pico far far_pico =
 
 -- ---- what a row shows
 
+-- of a row of currents2: its time, its picoseconds, whether others stand there, and its value
+abbrev pub value_columns : Row → Row
+value_columns c = column c 1 ∷ column c 2 ∷ column c 6 ∷ column c 7 ∷ []
+
+-- the rows show these columns of rows of currents2 that are so
+pub record ShowValues (AreSo : List Row → Type 0) (rows : List Row) : Type 0 where
+  pub whole : List Row
+  pub are : AreSo whole
+  pub shown : rows ≡ map value_columns whole
+
 abbrev pub values_in : Result (DataValue × List ℕ) VariantFault → List DataValue
 values_in (Ok v) = v.0 ∷ []
 values_in (Err e) = []
 
--- the live value that a row of currents2 stands for, if there is one
+-- the live value that these columns of a row of currents2 stand for, if there is one
 abbrev pub helds_in : Row → List Held
 helds_in c =
     map
     (λ v.
     record {
-      time = moment (int_in (column c 1)) (number_in (column c 2));
+      time = moment (int_in (column c 0)) (number_in (column c 1));
       value = v;
-      extra = not (int_eq (int_in (column c 6)) (pos 0));
+      extra = not (int_eq (int_in (column c 2)) (pos 0));
     })
-    (values_in (data_value.read (bytes (column c 7))))
+    (values_in (data_value.read (bytes (column c 3))))

@@ -6,7 +6,7 @@ use Rattle.sqlite_value.specs.declared.value.Value.TheVariants.{Int}
 use Rattle.sqlite_sql.specs.Query.{as_count}
 use Rattle.records.specs.Moments.{ticks_of, pico_of}
 use Rattle.sql_tables.specs.Derived.{current_columns}
-use Rattle.sql_tables.specs.Currents.{AreNextCurrents, helds_in}
+use Rattle.sql_tables.specs.Currents.{AreNextCurrents, ShowValues, helds_in}
 use Rattle.sql_reading.proofs.CurrentLemmas.{currents_found, first_limited}
 use Rattle.archive.specs.Fault.{of_record}
 use Rattle.sql_reading.specs.Readable.{HasUnreadable}
@@ -27,9 +27,9 @@ returns-in_err-found g c =
     rw told (unread_told (state g.S.Store c.args.conn.now)
     (state g.S.Store c.currents_next.new.conn) c.in_ok-rows.rows _ c.in_err-found.field-0.0
     (HasUnreadable rows) _ e unread (λ clean none whole.
-    let page : AreNextCurrents d c.args.reading.now.bytes.now s.ticks s.pico
+    let page : ShowValues (AreNextCurrents d c.args.reading.now.bytes.now s.ticks s.pico
     (ticks_of c.args.span.far)
-    (pos (pico_of c.args.span.far)) limit (map current_columns (db 4)) rows =
+    (pos (pico_of c.args.span.far)) limit (map current_columns (db 4))) rows =
     rw (
       c.stretch_of-along.ensures.near.0,
       c.stretch_of-along.ensures.near.1,
@@ -52,9 +52,9 @@ returns g c =
       answer = λ clean.
           let before : HasCleanDisk (state g.S.Store c.args.conn.now) =
           omega (arith, e.crash.clean, clean) in
-          let page : AreNextCurrents d c.args.reading.now.bytes.now s.ticks s.pico
+          let page : ShowValues (AreNextCurrents d c.args.reading.now.bytes.now s.ticks s.pico
           (ticks_of c.args.span.far)
-          (pos (pico_of c.args.span.far)) limit (map current_columns (db 4)) rows =
+          (pos (pico_of c.args.span.far)) limit (map current_columns (db 4))) rows =
           rw (
             c.stretch_of-along.ensures.near.0,
             c.stretch_of-along.ensures.near.1,
