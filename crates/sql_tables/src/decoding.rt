@@ -154,29 +154,38 @@ fn put_tail(out: &mut Vec<u8>, row: &Row) -> Result<(), RecordFault>
     push_bytes(out, bytes_at(row, 8)?)
 }
 
-/// The bytes that a row spells.
-fn spelling(alloc: Global, row: &Row) -> Result<Vec<u8>, RecordFault>
-    ensures spelled { IfOk result (λ b. b.items ≡ spelled row.now) }
+/// Puts the bytes that a row spells in place of those that stand there.
+fn spell(out: &mut Vec<u8>, row: &Row) -> Result<(), RecordFault>
+    ensures spelled { IfOk result (λ _. out.new.items ≡ spelled row.now) }
     ensures unread { IfErr result (λ fault. (fault ≡ RecordFault.OutOfMemory)
         ⊎ IsNoRecords row.now) }
 {
-    let mut out = Vec::new(alloc);
-    put_head(&mut out, row)?;
-    put_tail(&mut out, row)?;
-    Ok(out)
+    out.clear();
+    put_head(out, row)?;
+    put_tail(out, row)
+}
+
+/// The record that a row of nine columns spells, which is spelled into a buffer.
+#[tactic(auto, using(crate::proofs::UnreadLemmas::unread_by))]
+fn decode_by(alloc: Global, buffer: &mut Vec<u8>, row: &Row) -> Result<Record, RecordFault>
+    ensures found { IfOk result (λ r. records_in row.now ≡ r ∷ []) }
+    ensures lawful { IfOk result IsRecord }
+    ensures unread { IfErr result (λ fault. (fault ≡ RecordFault.OutOfMemory)
+        ⊎ IsNoRecords row.now) }
+{
+    spell(buffer, row)?;
+    read_record(alloc, buffer)
 }
 
 /// The record that a row of nine columns spells. `OutOfMemory` for want of memory; a row that is no record's is another fault
 /// of its first field that can't be read.
-#[tactic(auto, using(crate::proofs::UnreadLemmas::unread_by))]
 pub fn decode(alloc: Global, row: &Row) -> Result<Record, RecordFault>
     ensures found { IfOk result (λ r. records_in row.now ≡ r ∷ []) }
     ensures lawful { IfOk result IsRecord }
     ensures unread { IfErr result (λ fault. (fault ≡ RecordFault.OutOfMemory)
         ⊎ IsNoRecords row.now) }
 {
-    let bytes = spelling(alloc, row)?;
-    read_record(alloc, &bytes)
+    decode_by(alloc, &mut Vec::new(alloc), row)
 }
 
 /// The records that rows spell, in their order, or the fault of the first that spells none; `OutOfMemory` for want of memory.
@@ -186,8 +195,9 @@ pub fn decode_all(alloc: Global, rows: &[Row]) -> Result<Vec<Record>, RecordFaul
         ⊎ HasNoRecords rows.now) }
 {
     let mut all = Vec::new(alloc);
+    let mut buffer = Vec::new(alloc);
     for row in rows {
-        let one = decode(alloc, row)?;
+        let one = decode_by(alloc, &mut buffer, row)?;
         match all.push(one) {
             Ok(()) => {}
             Err(_) => return Err(RecordFault::OutOfMemory),

@@ -6,7 +6,7 @@ use Rattle.records.specs.declared.fault.RecordFault.{RecordFault}
 use Rattle.records.specs.declared.fault.RecordFault.TheVariants as fault
 use Rattle.sql_tables.specs.Rows.{spelled, IsNoRecords}
 use Rattle.sql_tables.proofs.UnreadLemmas.{unread_by}
-use Rattle.sql_tables.proofs.decoding.decode.Goals as goal
+use Rattle.sql_tables.proofs.decoding.decode_by.Goals as goal
 
 unread : (row : Row) (bytes : List ℕ) (r : Result Record RecordFault) → bytes ≡ spelled row
     → GivesUnless fault.OutOfMemory r (record_at bytes)
@@ -18,4 +18,4 @@ unread row bytes (Err e) is reads =
 pub returns-clause-unread : goal.returns-clause-unread
 returns-clause-unread c =
     unread c.args.row.now c.deref.result.now c.read_record.result
-    (c.deref.ensures.value ∙ c.in_ok-bytes.ensures.spelled) c.read_record.ensures.reads
+    (c.deref.ensures.value ∙ c.in_ok-spell.ensures.spelled) c.read_record.ensures.reads
