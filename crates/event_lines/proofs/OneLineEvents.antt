@@ -7,7 +7,7 @@ use Rattle.ua_binary.specs.declared.codes.Status.{Status}
 use Rattle.ua_session.specs.declared.audit.UpdateAudit.{UpdateAudit}
 use Rattle.ua_session.specs.declared.audit.UpdateKind.{UpdateKind}
 use Rattle.ua_session.specs.declared.audit.UpdateKind.TheVariants.{Insert, Replace, Update, DeleteRange, DeleteAtTime, Other}
-use Rattle.event_lines.specs.Lines.{from_text, amount_text, asked_text, moved_text, exchanged_text, archived_text, doors_text, browsers_text, records_text, start_text, connected_text, login_text, denial_text, update_text, end_text, call_text}
+use Rattle.event_lines.specs.Lines.{from_text, amount_text, asked_text, moved_text, exchanged_text, archived_text, doors_text, browsers_text, records_text, start_text, connected_text, login_text, denial_text, update_text, broken_text, end_text, call_text}
 use Rattle.event_lines.specs.OneLine.{IsOneLine, IsToldOnOneLine}
 use Rattle.event_lines.specs.declared.lines.Moved.{Moved}
 use Rattle.event_lines.proofs.OneLineLemmas.{said, onto, ◌&◌, number}
@@ -110,6 +110,9 @@ pub denied : (from : Option SocketAddr) → IsToldOnOneLine (denial_text from)
 denied from =
     told (denial_text from)
     (from_is from & said (codes " was refused as a browser: no such user or password") refl)
+
+pub broken : IsToldOnOneLine broken_text
+broken = told broken_text (said (codes "store broken") refl)
 
 pub ended : (from : Option SocketAddr) → (milliseconds answered : ℕ) → (reason : List ℕ)
     → (moved : Option Moved) → IsOneLine reason

@@ -106,6 +106,10 @@ update_text from user update =
 abbrev pub denial_text : Option SocketAddr → List ℕ
 denial_text from = from_text from ++ codes " was refused as a browser: no such user or password"
 
+-- the store broke, and is served on
+abbrev pub broken_text : List ℕ
+broken_text = codes "store broken"
+
 -- a connection ended, which was there for so many milliseconds, and was answered so often; what was
 -- learned and sent, where it was a peer's
 abbrev pub end_text : Option SocketAddr → (milliseconds answered : ℕ) → (reason : List ℕ)

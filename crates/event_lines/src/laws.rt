@@ -4,7 +4,7 @@ ghost use Rattle.std.specs.Prelude.{ℕ, List, Option, ◌++◌, IfSome};
 ghost use Rattle.std.specs.declared.net.socket_addr.SocketAddr.{SocketAddr};
 ghost use Rattle.ua_binary.specs.declared.codes.Status.{Status};
 ghost use Rattle.ua_session.specs.declared.audit.UpdateAudit.{UpdateAudit};
-ghost use Rattle.event_lines.specs.Lines.{archived_text, doors_text, browsers_text, start_text, connected_text, login_text, denial_text, update_text, end_text, call_text};
+ghost use Rattle.event_lines.specs.Lines.{archived_text, doors_text, browsers_text, start_text, connected_text, login_text, denial_text, update_text, broken_text, end_text, call_text};
 ghost use Rattle.event_lines.specs.OneLine.{IsOneLine, IsToldOnOneLine};
 ghost use Rattle.event_lines.specs.declared.lines.Moved.{Moved};
 
@@ -23,6 +23,7 @@ pub fn a_line_is_one_line()
     ensures update { (from : Option SocketAddr) (user : List ℕ) (update : UpdateAudit)
         → IsOneLine (archived_text update.node) → IsToldOnOneLine (update_text from user update) }
     ensures denial { (from : Option SocketAddr) → IsToldOnOneLine (denial_text from) }
+    ensures broken { IsToldOnOneLine broken_text }
     ensures end { (from : Option SocketAddr) (milliseconds answered : ℕ) (reason : List ℕ)
         (moved : Option Moved) → IsOneLine reason
         → IsToldOnOneLine (end_text from milliseconds answered reason moved) }

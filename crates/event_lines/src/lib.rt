@@ -12,6 +12,6 @@ mod parts;
 
 pub use laws::a_line_is_one_line;
 pub use lines::{
-    Ending, Moved, Start, call_line, connected_line, denial_line, end_line, login_line, start_line,
-    update_line,
+    Ending, Moved, Start, broken_line, call_line, connected_line, denial_line, end_line,
+    login_line, start_line, update_line,
 };

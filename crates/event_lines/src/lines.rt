@@ -4,7 +4,7 @@ ghost use Rattle.std.specs.Prelude.{◌≡◌, ◌++◌, ◌∷◌, codes, optio
 ghost use Rattle.std.specs.Fmt.{decimal};
 ghost use Rattle.history_text.specs.Statuses.{status_text};
 ghost use Rattle.event_lines.specs.Names.{quoted_name};
-ghost use Rattle.event_lines.specs.Lines.{IsEventLine, from_text, amount_text, archived_text, asked_text, exchanged_text, doors_text, browsers_text, records_text, start_text, connected_text, login_text, denial_text, update_text, end_text, call_text};
+ghost use Rattle.event_lines.specs.Lines.{IsEventLine, from_text, amount_text, archived_text, asked_text, exchanged_text, doors_text, browsers_text, records_text, start_text, connected_text, login_text, denial_text, update_text, broken_text, end_text, call_text};
 
 use crate::parts::{
     line_at, put_amount, put_asked, put_exchanged, put_from, put_moved, put_name, put_node,
@@ -348,6 +348,15 @@ pub fn denial_line(alloc: Global, at: i64, from: Option<SocketAddr>) -> Result<V
 {
     let mut line = line_at(alloc, at)?;
     put_denial(alloc, &mut line, from)?;
+    Ok(line)
+}
+
+/// The line of a store that broke: `TIME store broken`. The one error is want of memory.
+pub fn broken_line(alloc: Global, at: i64) -> Result<Vec<u8>, AllocError>
+    ensures { IfOk result (λ line. IsEventLine at broken_text line.items) }
+{
+    let mut line = line_at(alloc, at)?;
+    line.extend_from_slice(b"store broken")?;
     Ok(line)
 }
 

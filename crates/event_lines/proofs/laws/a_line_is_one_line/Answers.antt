@@ -1,4 +1,4 @@
-use Rattle.event_lines.proofs.OneLineEvents.{started, connected, login, denied, updated, ended, called}
+use Rattle.event_lines.proofs.OneLineEvents.{started, connected, login, denied, updated, broken, ended, called}
 use Rattle.event_lines.proofs.laws.a_line_is_one_line.Goals as goal
 
 pub returns-clause-start : goal.returns-clause-start
@@ -15,6 +15,9 @@ returns-clause-update c = updated
 
 pub returns-clause-denial : goal.returns-clause-denial
 returns-clause-denial c = denied
+
+pub returns-clause-broken : goal.returns-clause-broken
+returns-clause-broken c = broken
 
 pub returns-clause-end : goal.returns-clause-end
 returns-clause-end c = ended
