@@ -9,6 +9,8 @@ pub mod Listening
 pub mod Host
 pub mod Logging
 pub mod Starting
+pub mod Watching
+pub mod WatchedMoves
 pub mod Network
 pub mod Reopening
 pub mod Serving

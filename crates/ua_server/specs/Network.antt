@@ -1,24 +1,19 @@
 -- Connections over a network, many at once.
 use Rattle.std.specs.Prelude.{◌≡◌, ℕ, ◌*◌, ◌^◌, ◌-◌, Option, None, Some}
-use Rattle.archive.specs.Store.{Store}
 use Rattle.ua_settings.specs.Settings.{SettingsValues}
 use Rattle.counted_io.specs.declared.fault.ServeFault.{ServeFault}
 use Rattle.counted_io.specs.declared.fault.ServeFault.TheVariants.{Read, Write, OutOfMemory}
 use Rattle.counted_io.specs.Tally.{Tally, HasCounted}
 use Rattle.multiplex.specs.declared.limits.Limits.{Limits}
-use Rattle.multiplex.specs.Behavior.{Behavior}
 use Rattle.multiplex.specs.Turns.{Loop}
 use Rattle.conversation.specs.declared.other_end.OtherEnd.{OtherEnd}
 use Rattle.conversation.specs.declared.world.World.{World}
 use Rattle.conversation.specs.OtherEnds.{ConversationEnding}
-use Rattle.conversation.specs.Conversing.{behavior_over}
 use Rattle.ua_server.specs.declared.log.ErrorLog.{ErrorLog}
 use Rattle.ua_server.specs.declared.program.ProgramFault.{ProgramFault}
 use Rattle.ua_server.specs.declared.program.ProgramFault.TheVariants.{Address, DoorAddress, DoorNetwork, PeerAddress, WebAddress, StoreBroken, Connection}
 use Rattle.ua_server.specs.declared.program.ProgramFault.TheVariants as program
 use Rattle.ua_server.specs.Host.{KnownMachine}
-use Rattle.ua_server.specs.Telling.{Known, Readings}
-use Rattle.ua_server.specs.Logging.{logs_to}
 
 -- this was done with a connection, and its failed calls were counted: of each kind 1 where the
 -- connection ended by that fault, and else 0
@@ -55,12 +50,6 @@ limits_of settings count = record {
 abbrev pub refusals_kept : (limit : Option ℕ) → ℕ
 refusals_kept None = 0
 refusals_kept (Some most) = 1000
-
--- what is said on connections over an archive, and told of them on standard error
-abbrev pub conversations : {A C E : Type 0} → (A → Store) → Readings C → Known E
-    → Behavior OtherEnd (World A C (ErrorLog E C)) ConversationEnding
-conversations held gave told =
-    behavior_over held gave (logs_to told gave)
 
 -- the loop that serves connections over an archive of a machine
 abbrev pub ServingLoop : KnownMachine → (C E : Type 0) → Type 0

@@ -3,20 +3,23 @@ use Rattle.std.specs.Prelude.{◌≡◌, ℕ, ◌-◌, map, Option, Some, option
 use Rattle.archive.specs.declared.fault.StoreFault.{StoreFault}
 use Rattle.multiplex.specs.declared.limits.Limits.{Limits}
 use Rattle.multiplex.specs.Serving.{AreAllFree, HasServed}
+use Rattle.conversation.specs.declared.world.World.{World}
 use Rattle.conversation.specs.Closing.{TellsTurn}
 use Rattle.conversation.specs.Logins.{no_refusals}
 use Rattle.ua_settings.specs.Settings.{SettingsValues}
 use Rattle.web_page.specs.Calls.{uncalled}
+use Rattle.ua_server.specs.declared.log.ErrorLog.{ErrorLog}
 use Rattle.ua_server.specs.declared.program.ProgramFault.{ProgramFault}
 use Rattle.ua_server.specs.declared.program.ProgramFault.TheVariants.{Store, StoreBroken}
 use Rattle.ua_server.specs.declared.reopening.StoreFile.{StoreFile}
 use Rattle.ua_server.specs.Host.{KnownMachine}
 use Rattle.ua_server.specs.Listening.{IsFrom, networks_at}
 use Rattle.ua_server.specs.Logging.{logs_to}
-use Rattle.ua_server.specs.Network.{Serving, ServingLoop, IsAround, conversations, limits_of, refusals_kept}
+use Rattle.ua_server.specs.Network.{Serving, ServingLoop, IsAround, limits_of, refusals_kept}
 use Rattle.ua_server.specs.Reopening.{Stage, Reopens, file_anew}
 use Rattle.ua_server.specs.Starting.{LogsStart, CountsRecords}
 use Rattle.ua_server.specs.Telling.{Known, Readings, fresh_log}
+use Rattle.ua_server.specs.Watching.{TellsBreak, conversations}
 
 -- what is left of a server's limits once so many connections were accepted
 abbrev pub limits_behind : Limits → (accepted : ℕ) → Limits
@@ -25,7 +28,8 @@ limits_behind limits accepted =
 
 -- connections were served, each in its turn, to the end of each, or till the store was broken and
 -- the settings said that nobody is served then; so many were accepted; and then the longest turn,
--- as the loop measured it, was told where the settings want it told
+-- as the loop measured it, was told where the settings want it told, and that the store broke where
+-- that is news
 pub record ServesRun {C E : Type 0} (known : KnownMachine) (gave : Readings C) (told : Known E)
     (limits : Limits) (old new : ServingLoop known C E) (accepted : ℕ) (broken : Bool)
     : Type 0 where
@@ -34,7 +38,9 @@ pub record ServesRun {C E : Type 0} (known : KnownMachine) (gave : Readings C) (
   pub longest : ℕ
   pub served : HasServed known.effects known.input known.output (conversations known.held gave told)
       limits old last accepted done broken
-  pub tells : TellsTurn (logs_to told gave) last.world longest new.world
+  pub turned : World known.Archive C (ErrorLog E C)
+  pub tells : TellsTurn (logs_to told gave) last.world longest turned
+  pub breaks : TellsBreak known.held gave told turned new.world
   pub others : new ≡ record last { world = new.world }
 
 -- the result of the last run

@@ -176,6 +176,7 @@ fresh_log alloc events clock errors = record {
   events = events;
   clock = clock;
   recent = none_recent;
+  is_break_told = false;
 }
 
 -- it was told by its lines that a connection ended by this fault

@@ -11,7 +11,8 @@ use crate::program::{numbered, tell};
 use conversation::{Door, Ended, Parting};
 use counted_io::ServeFault;
 use event_lines::{
-    Ending, Moved, call_line, connected_line, denial_line, end_line, login_line, update_line,
+    Ending, Moved, broken_line, call_line, connected_line, denial_line, end_line, login_line,
+    update_line,
 };
 use history_text::status_text;
 use itoa::Buffer;
@@ -214,7 +215,7 @@ fn called_line(
 
 impl<E: Write, C: Clock> ErrorLog<E, C> {
     ghost use Rattle.std.specs.Prelude.{◌≡◌, ◌⊎◌, ℤ, List, ℕ, IfOk, true, false, None, Some};
-    ghost use Rattle.event_lines.specs.Lines.{IsEventLine, connected_text, login_text, denial_text, update_text, call_text};
+    ghost use Rattle.event_lines.specs.Lines.{IsEventLine, connected_text, login_text, denial_text, update_text, broken_text, call_text};
     ghost use Rattle.conversation.specs.Doors.{door_of_listener};
     ghost use Rattle.ua_server.specs.Telling.{LogsLine, told_line};
     ghost use Rattle.ua_server.specs.Logging.{IsToldAs, behind_left_out, starved_text, LogsTimed, LogsCounted, LogsLimited, LogsUpdates, LogsActivation, LogsAudited, LogsEnd, is_second_full, with_left_out, door_text, address_of, parting_text, call_reason, moved_of};
@@ -367,6 +368,17 @@ impl<E: Write, C: Clock> ErrorLog<E, C> {
         }
         let line = denial_line(self.alloc, at, address_of(stay));
         self.tell_rare(at, line);
+    }
+
+    /// Tells that the store broke.
+    pub(crate) fn log_break(&mut self)
+        ensures { LogsTimed E.contents C.gave broken_text
+            (record self.old { is_break_told = true }) self.new }
+    {
+        self.is_break_told = true;
+        let at = self.clock.now();
+        let line = broken_line(self.alloc, at);
+        self.tell_line(0, line);
     }
 
     /// Tells why a connection ended.

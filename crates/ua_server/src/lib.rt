@@ -22,6 +22,7 @@ mod reopening;
 mod running;
 mod single;
 mod starting;
+mod watched;
 
 pub use command_line::{
     Asked, HistoryWords, ImportWords, Line, LineFault, PerformWord, SyncWords, read_line,

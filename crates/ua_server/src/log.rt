@@ -45,6 +45,8 @@ pub(crate) struct ErrorLog<E, C> {
     pub clock: C,
     /// How many were told of late of what anybody may bring about.
     pub recent: Recent,
+    /// Whether it was told that the store broke.
+    pub is_break_told: bool,
 }
 
 impl<E, C> ErrorLog<E, C> {
@@ -65,6 +67,7 @@ impl<E, C> ErrorLog<E, C> {
             events,
             clock,
             recent: Recent::none(),
+            is_break_told: false,
         }
     }
 

@@ -10,8 +10,9 @@ use crate::host::Host;
 use crate::log::ErrorLog;
 use crate::program::ProgramFault;
 use crate::reopening::{StoreFile, reopen};
+use crate::watched::{Watched, tell_break};
 use archive::Archive;
-use conversation::{Conversation, Ended, World, tell_turn};
+use conversation::{Ended, World, tell_turn};
 use counted_io::ServeFault;
 use multiplex::{Limits, ServeReport, Slot, Source, serve};
 use std::io::Write;
@@ -19,7 +20,7 @@ use ua_connection::Clock;
 
 /// A slot of a connection that a machine's source gives.
 pub(crate) type Place<H, C, E> = Slot<
-    Conversation<<H as Host>::Archive, C, ErrorLog<E, C>>,
+    Watched<<H as Host>::Archive, C, E>,
     <<H as Host>::Source as Source>::Reader,
     <<H as Host>::Source as Source>::Writer,
     Result<Ended, ServeFault>,
@@ -60,7 +61,7 @@ fn run_result(broken: bool) -> Result<(), ProgramFault>
 }
 
 /// Serves connections till all have ended, or the store is broken and nobody is served then; and tells how long the longest
-/// turn took, where the settings want it told.
+/// turn took, where the settings want it told, and that the store broke, where that is to be told and wasn't yet.
 fn serve_run<H: Host, C: Clock, E: Write>(
     source: &mut H::Source,
     world: &mut World<H::Archive, C, ErrorLog<E, C>>,
@@ -75,10 +76,9 @@ fn serve_run<H: Host, C: Clock, E: Write>(
         result.accepted result.is_over }
 {
     let alloc = world.server.alloc;
-    let report = serve::<H::Source, Conversation<H::Archive, C, ErrorLog<E, C>>>(
-        alloc, source, world, slots, limits,
-    );
+    let report = serve::<H::Source, Watched<H::Archive, C, E>>(alloc, source, world, slots, limits);
     tell_turn(world, report.longest_turn);
+    tell_break(world);
     report
 }
 

@@ -11,7 +11,9 @@ returns g c first =
         done = c.serve-report.result.is_done;
         longest = c.serve-report.result.longest_turn;
         served = served;
+        turned = c.tell_turn.new.world;
         tells = c.tell_turn.ensures;
+        breaks = c.tell_break.ensures;
         others = refl;
       },
     )
