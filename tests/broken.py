@@ -7,7 +7,8 @@ With the key the client is told 80040000, the program ends with `store broken` a
 connections are closed, the turn in which it broke is told with `slow`, and once the disk is well a new start has each insert that was answered Good, and at most the one that
 broke it. With `"reopen"` a sync that fails once is told, the same connections go on in their sessions, also that of another
 client, and `--connections` counts on; a second one ends the program by `store broken`, and a disk that stays ill, as it is opened
-anew, by that or by `store refused`. Without the key it goes on, and answers 80040000 to each insert, till it is started again.
+anew, by that or by `store refused`. Without the key it goes on, and answers 80040000 to each insert, till it is started again;
+with events one line tells once that the store broke.
 Needs gcc. A line a round.
 """
 import os, re, socket, struct, subprocess, sys, tempfile, time
@@ -61,7 +62,7 @@ class Connection:
             return True
 
 
-def started(key, slow=None, once=False, connections=None):
+def started(key, slow=None, once=False, connections=None, events=False):
     port = running.free_port()
     running.write_settings(settings, "settings.toml", 1, port, store)
     text = open(settings).read()
@@ -69,6 +70,8 @@ def started(key, slow=None, once=False, connections=None):
     if slow:
         text = open(settings).read()
         open(settings, "w").write(text.replace("[server]\n", "[server]\nslow = 100\n", 1))
+    if events:
+        open(settings, "a").write("\n[log]\nevents = true\n")
     environment = dict(os.environ, LD_PRELOAD=library, UNSYNCED=ill, **({"UNSYNCED_MS": str(slow)} if slow else {}), **({"UNSYNCED_ONCE": "1"} if once else {}))
     words = [program, "serve", "--settings", settings] + (["--connections", str(connections)] if connections else [])
     server = subprocess.Popen(words, env=environment, stderr=subprocess.PIPE, text=True)
@@ -174,7 +177,7 @@ def main():
     held = dumped()
     for k, case in enumerate((opened_anew, counted_on, refused_anew)):
         held = case(held, 100 * rounds + 10 * (k + 1))
-    server, port = started(None)
+    server, port = started(None, events=True)
     writer = Connection(port)
     assert INSERTED in writer.insert(90)
     open(ill, "w").close()
@@ -184,9 +187,12 @@ def main():
     assert all(UNAVAILABLE in answer for answer in answers) and not running.is_over(server)
     server.kill()
     server.wait()
+    told = [re.sub(r"^uahist: \S+Z ", "", line) for line in server.stderr.read().splitlines()]
+    refused = [k for k, line in enumerate(told) if line.endswith(": 80040000")]
+    assert len(refused) == len(answers) and told.count("store broken") == 1 and told[refused[0] + 1] == "store broken", told
     found = dumped()
     assert held + 1 <= found <= held + 2, (held, found)
-    print(f"without the key it goes on, and answers 80040000 to each of {len(answers)} inserts, also once the disk is well; started again it has {found - held} records more")
+    print(f"without the key it goes on, and answers 80040000 to each of {len(answers)} inserts, also once the disk is well, and one line tells that the store broke; started again it has {found - held} records more")
 
 
 if __name__ == "__main__":
