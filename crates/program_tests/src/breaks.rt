@@ -22,7 +22,7 @@ const PEER: Option<Client<'static>> = Some(Client {
 static PEERS: [Option<Client<'static>>; 2] = [PEER, PEER];
 
 /// The settings of this name.
-static FILES: [(&str, &str); 4] = [
+static FILES: [(&str, &str); 6] = [
     (
         "goes on",
         "[archive]\nid = '00000000000000000000000000000000'\nreplica = 1\nstore = 'own.db'\n[server]\nlisten = '127.0.0.1:4840'\nurl = ''\napplication = ''\nnamespace = ''\nanonymous = true\n",
@@ -34,6 +34,14 @@ static FILES: [(&str, &str); 4] = [
     (
         "opens anew",
         "[archive]\nid = '00000000000000000000000000000000'\nreplica = 1\nstore = 'own.db'\nbroken = 'reopen'\n[server]\nlisten = '127.0.0.1:4840'\nurl = ''\napplication = ''\nnamespace = ''\nanonymous = true\n",
+    ),
+    (
+        "tells",
+        "[archive]\nid = '00000000000000000000000000000000'\nreplica = 1\nstore = 'own.db'\n[server]\nlisten = '127.0.0.1:4840'\nurl = ''\napplication = ''\nnamespace = ''\nanonymous = true\n[log]\nevents = true\n",
+    ),
+    (
+        "tells and stops",
+        "[archive]\nid = '00000000000000000000000000000000'\nreplica = 1\nstore = 'own.db'\nbroken = 'stop'\n[server]\nlisten = '127.0.0.1:4840'\nurl = ''\napplication = ''\nnamespace = ''\nanonymous = true\n[log]\nevents = true\n",
     ),
     (
         "in memory",
@@ -53,12 +61,33 @@ struct Row {
     closed: &'static [(bool, bool)],
 }
 
-static ROWS: [Row; 6] = [
+static ROWS: [Row; 9] = [
     Row {
         settings: "goes on",
         openings: &[Some(1)],
         said: "",
         status: 0,
+        closed: &[(true, false)],
+    },
+    Row {
+        settings: "tells",
+        openings: &[Some(1)],
+        said: "uahist: 1970-01-01T00:00:00.0000000Z started: version 0.1.0, archive 00000000-0000-0000-0000-000000000000, replica 1; clients and peers at 127.0.0.1:4840\nuahist: 1970-01-01T00:00:00.0000000Z store broken\nuahist: 1970-01-01T00:00:00.0000000Z somebody connected to clients and peers\nuahist: 1970-01-01T00:00:00.0000000Z somebody connected to clients and peers\nuahist: 1970-01-01T00:00:00.0000000Z somebody ended after 0 ms and 1 answer: exchange ended (6)\nuahist: 1970-01-01T00:00:00.0000000Z somebody ended after 0 ms and 1 answer: exchange ended (6)\n",
+        status: 0,
+        closed: &[(true, false)],
+    },
+    Row {
+        settings: "tells",
+        openings: &[Some(2)],
+        said: "uahist: 1970-01-01T00:00:00.0000000Z started: version 0.1.0, archive 00000000-0000-0000-0000-000000000000, replica 1; clients and peers at 127.0.0.1:4840; 0 records\nuahist: 1970-01-01T00:00:00.0000000Z somebody connected to clients and peers\nuahist: 1970-01-01T00:00:00.0000000Z somebody connected to clients and peers\nuahist: 1970-01-01T00:00:00.0000000Z store broken\nuahist: 1970-01-01T00:00:00.0000000Z somebody ended after 0 ms and 1 answer: exchange ended (6)\nuahist: 1970-01-01T00:00:00.0000000Z somebody ended after 0 ms and 1 answer: exchange ended (6)\n",
+        status: 0,
+        closed: &[(true, false)],
+    },
+    Row {
+        settings: "tells and stops",
+        openings: &[Some(2)],
+        said: "uahist: 1970-01-01T00:00:00.0000000Z started: version 0.1.0, archive 00000000-0000-0000-0000-000000000000, replica 1; clients and peers at 127.0.0.1:4840; 0 records\nuahist: 1970-01-01T00:00:00.0000000Z somebody connected to clients and peers\nuahist: 1970-01-01T00:00:00.0000000Z somebody connected to clients and peers\nuahist: store broken\n",
+        status: 3,
         closed: &[(true, false)],
     },
     Row {
