@@ -33,26 +33,27 @@ left-out {E} {C} contents gave event old new clock at gives spent is =
     (at, gives, rw spent refl)
 
 -- it was written, since it needn't be counted
-pub told-rarely : {E C : Type 0} (contents : Known E) (gave : Readings C) (event : List ℕ)
+pub told-counted : {E C : Type 0} (contents : Known E) (gave : Readings C) (event : List ℕ)
     (old new : ErrorLog E C) (clock : C) (at : ℤ) → gave old.clock (at ∷ []) clock
     → is_second_full old.recent at ≡ false
     → LogsCounted contents event at (record old { clock = clock }) new
     → LogsLimited contents gave event old new
-told-rarely {E} {C} contents gave event old new clock at gives spent rare =
-    let same : clock ≡ new.clock = ap (λ (n : ErrorLog E C). n.clock) (sym rare.2) in (
+told-counted {E} {C} contents gave event old new clock at gives spent logs =
+    let same : clock ≡ new.clock = ap (λ (n : ErrorLog E C). n.clock) (sym logs.2) in (
       at,
       subst (λ (c : C). gave old.clock (at ∷ []) c) same gives,
-      rw spent (subst (λ (c : C). LogsCounted contents event at (record old { clock = c }) new) same rare),
+      rw spent (subst (λ (c : C). LogsCounted contents event at (record old { clock = c }) new) same
+          logs),
     )
 
 -- it was written as what anybody may bring about
-pub rare : {E C : Type 0} (contents : Known E) (event : List ℕ) (old middle new : ErrorLog E C)
+pub counted : {E C : Type 0} (contents : Known E) (event : List ℕ) (old middle new : ErrorLog E C)
     (recent : Recent) (at : ℤ)
     → (text : List ℕ) × IsToldAs old.recent.left_out event at text
     × LogsLine contents old.errors middle.errors (told_line text)
     → middle ≡ record old { errors = middle.errors } → new ≡ record middle { recent = recent }
     → recent ≡ with_told middle.recent at → LogsCounted contents event at old new
-rare {E} {C} contents event old middle new recent at (text, told, line) same is counts =
+counted {E} {C} contents event old middle new recent at (text, told, line) same is counts =
     subst (λ (n : ErrorLog E C). LogsCounted contents event at old n)
     (sym (is ∙ ap (λ (r : Recent). let m : ErrorLog E C = record middle { recent = r } in m) counts
     ∙ ap (λ (m : ErrorLog E C). let n : ErrorLog E C =
@@ -66,8 +67,12 @@ pub one-more : {E C : Type 0} (contents : Known E) (gave : Readings C)
     → LogsUpdates contents gave from user updates old between
     → LogsTimed contents gave (update_text from user update) between new
     → LogsUpdates contents gave from user (updates ++ update ∷ []) old new
-one-more {E} {C} contents gave from user [] update old between new some one =
-    (new, subst (λ (b : ErrorLog E C). LogsTimed contents gave (update_text from user update) b new) some one, refl)
+one-more {E} {C} contents gave from user [] update old between new some one = (
+  new,
+  subst (λ (b : ErrorLog E C). LogsTimed contents gave (update_text from user update) b new)
+      some one,
+  refl,
+)
 one-more contents gave from user (first ∷ updates) update old between new (behind, told, some) one =
     (behind, told, one-more contents gave from user updates update behind between new some one)
 

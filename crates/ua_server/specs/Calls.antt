@@ -48,7 +48,7 @@ HasDialog old new unread left before after ending =
     (synced : Result Synced SyncFault) × Syncs old new unread left before after synced
     × (ending ≡ result_map_both (λ moved. moved) dialog_fault synced)
 
--- nothing clashed, and a dialog was had behind it; held tells what an archive holds
+-- nothing clashed, and a dialog was had after it; held tells what an archive holds
 pub record AgreesFirst {A : Type 0} (extent : Extent) (held : A → Store) (old new : A)
     (unread left before after : Option (List ℕ)) (ending : Result Synced CallFault) : Type 0 where
   pub middle : A
@@ -95,7 +95,7 @@ abbrev pub row_front : (place : List ℕ) → Record → List ℕ
 row_front place r =
     place ++ (codes "," ++ (decimal r.origin ++ (codes "," ++ (decimal r.number ++ codes ","))))
 
--- a row of the table, and behind that what the record is
+-- a row of the table, and after that what the record is
 abbrev pub IsClashRow : (place : List ℕ) → Record → List ℕ → Type 0
 IsClashRow place r row =
     (fields : List (List ℕ)) × AreChangeFields r.node (entry_of r) fields

@@ -28,7 +28,7 @@ TellsArchive settings old new before after result =
     (told : Result (Unit {0}) CheckFault) × PrintsStore settings.space old new before after told
     × (result ≡ result_map_both (λ done. done) check_fault told)
 
--- behind the settings: where this is asked for, what the archive holds was told; else nothing
+-- after the settings: where this is asked for, what the archive holds was told; else nothing
 abbrev pub TellsBehind : {A : Type 0} → (A → Store) → SettingsValues → (store : Bool)
     → (first last : A) → (before after : Option (List ℕ)) → Result (Unit {0}) ProgramFault → Type 0
 TellsBehind held settings store first last before after result =
@@ -37,7 +37,7 @@ TellsBehind held settings store first last before after result =
       | false ↦ (result ≡ Ok tt) × (last ≡ first) × (after ≡ before)
     ]
 
--- what settings say was told, and then what is behind them; or a first part of the settings
+-- what settings say was told, and then what is after them; or a first part of the settings
 abbrev pub TellsCheck : {A : Type 0} → (A → Store) → SettingsValues → (store : Bool)
     → (first last : A) → (before after : Option (List ℕ)) → Result (Unit {0}) ProgramFault → Type 0
 TellsCheck held settings store first last before after result =

@@ -27,7 +27,7 @@ AnswersText settings old new text used out ending =
 abbrev pub IsUntouched : Store → Store → Environment → Type 0
 IsUntouched old new used = Transitions old new [] (λ marks R S. S ≡ R) × (used.readings ≡ [])
 
--- The digits of what was written are appended; behind a fault nothing is. Where memory is wanting,
+-- The digits of what was written are appended; after a fault nothing is. Where memory is wanting,
 -- nothing was done, or the client or peer was served.
 abbrev pub AnswersHex : SettingsValues → Store → Store → List ℕ → Environment → List ℕ → List ℕ
     → Result Served HexFault → Type 0

@@ -10,7 +10,7 @@ use Rattle.multiplex.specs.Effects.{Effects}
 use Rattle.multiplex.specs.Input.{Input}
 use Rattle.multiplex.specs.Output.{Output}
 
--- what a machine does in a call, from its state before to that behind
+-- what a machine does in a call, from its state before to that after
 pub record Machine (H A L R W I : Type 0) : Type 1 where
   -- the text of the file at a path; None where it can't be read
   pub reads : H → List ℕ → Option (List ℕ) → H → Type 0

@@ -117,7 +117,7 @@ abbrev pub HasCallees : SettingsValues → Type 0
 HasCallees settings = (callees : List Callee) × AreCallees settings.peers callees
 
 -- the fault tells the first text of the settings that is to spell an address or a network and
--- spells none: where clients come to before where peers do, from where these are taken behind it,
+-- spells none: where clients come to before where peers do, from where these are taken after it,
 -- then the peers that are called, and then where browsers come to
 abbrev pub HasNoAddress : SettingsValues → ProgramFault → Type 0
 HasNoAddress settings fault = elim fault [

@@ -79,7 +79,7 @@ left_out_text n =
 abbrev pub behind_left_out : (left_out : ℕ) → List ℕ → List ℕ
 behind_left_out left_out line = left_out_text left_out ++ line
 
--- this is told of an event at this time, behind so many that weren't told
+-- this is told of an event at this time, after so many that weren't told
 abbrev pub IsToldAs : (left_out : ℕ) → (event : List ℕ) → (at : ℤ) → List ℕ → Type 0
 IsToldAs left_out event at text =
     ((line : List ℕ) × IsEventLine at event line × (text ≡ behind_left_out left_out line))
@@ -170,7 +170,7 @@ LogsTimed contents gave event old new =
     × (new ≡ record old { errors = new.errors; clock = new.clock })
     × LogsLine contents old.errors new.errors (told_line text)
 
--- a line was written of an event that anybody may bring about, at this time, behind how many such
+-- a line was written of an event that anybody may bring about, at this time, after how many such
 -- weren't told
 abbrev pub LogsCounted : {E C : Type 0} → Known E → (event : List ℕ) → (at : ℤ)
     → (old new : ErrorLog E C) → Type 0

@@ -24,7 +24,7 @@ ReadsFile machine settings path (Ok text) old new = HasRead machine settings pat
 ReadsFile machine settings path (Err starved) old new = new ≡ old
 
 -- what the password file of this path says; None where it can't be read; Err where memory was
--- wanting, before it was read or behind
+-- wanting, before it was read or after
 abbrev pub ReadsPassword : {H A L R W I E : Type 0} → Machine H A L R W I → (settings path : List ℕ)
     → Result (Option PasswordLine) E → (old new : H) → Type 0
 ReadsPassword machine settings path (Ok (Some line)) old new =

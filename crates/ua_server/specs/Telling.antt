@@ -119,7 +119,7 @@ number_told (NumberTwice number) = Some number
 number_told (Server fault) = server_number fault
 number_told fault = None
 
--- words, and a number in brackets behind them
+-- words, and a number in brackets after them
 abbrev pub numbered : List ℕ → ℕ → List ℕ
 numbered words n = words ++ codes " (" ++ decimal n ++ codes ")"
 
@@ -223,7 +223,7 @@ abbrev pub outcome_text : Option SyncFault → List ℕ
 outcome_text fault =
     elim fault [ None ↦ codes "works again" | Some fault ↦ fault_text (sync_fault fault) ]
 
--- the rest of a line behind a peer's address
+-- the rest of a line after a peer's address
 abbrev pub behind_peer : List ℕ → List ℕ
 behind_peer text = codes ": " ++ (text ++ 10 ∷ [])
 
@@ -242,7 +242,7 @@ KeepsLast old new callee fault =
     (callee < 64 → new ≡ slice_set old callee fault) × (64 ≤ callee → new ≡ old)
 
 -- how a call of a peer ended: as the last one, and nothing is told; or otherwise, which is told and
--- kept; of the peers behind the 64th it is told each time
+-- kept; of the peers after the 64th it is told each time
 abbrev pub LogsCall : {E C : Type 0} → Known E → ErrorLog E C → (callee : ℕ) → (address : List ℕ)
     → Result (Unit {0}) SyncFault → ErrorLog E C → Type 0
 LogsCall contents old callee address outcome new = let fault = result_err outcome in

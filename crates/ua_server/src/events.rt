@@ -72,7 +72,7 @@ fn behind_left_out(alloc: Global, left_out: u64, line: &[u8]) -> Result<Vec<u8>,
     Ok(out)
 }
 
-/// Puts words, and a number in brackets behind them.
+/// Puts words, and a number in brackets after them.
 fn put_numbered(out: &mut Vec<u8>, words: &str, number: u64) -> Result<(), AllocError>
     requires { length words.now ≤ 40 }
     ensures { OnOk result (out.new.items ≡ out.old.items ++ numbered words.now number) }
@@ -220,7 +220,7 @@ impl<E: Write, C: Clock> ErrorLog<E, C> {
     ghost use Rattle.ua_server.specs.Telling.{LogsLine, told_line};
     ghost use Rattle.ua_server.specs.Logging.{IsToldAs, behind_left_out, starved_text, LogsTimed, LogsCounted, LogsLimited, LogsUpdates, LogsActivation, LogsAudited, LogsEnd, is_second_full, with_left_out, door_text, address_of, parting_text, call_reason, moved_of};
 
-    /// Writes a line behind how many weren't told, or that memory for it is wanting.
+    /// Writes a line after how many weren't told, or that memory for it is wanting.
     fn tell_behind(&mut self, left_out: u64, line: &[u8])
         ensures told { (text : List ℕ)
             × ((text ≡ behind_left_out left_out line.now) ⊎ (text ≡ starved_text))
@@ -237,7 +237,7 @@ impl<E: Write, C: Clock> ErrorLog<E, C> {
         }
     }
 
-    /// Writes the line of an event, behind how many weren't told, or that memory for it is wanting.
+    /// Writes the line of an event, after how many weren't told, or that memory for it is wanting.
     pub(crate) fn tell_line(&mut self, left_out: u64, line: Result<Vec<u8>, AllocError>)
         ensures told { (event : List ℕ) → (at : ℤ)
             → IfOk line (λ line. IsEventLine at event line.items)
@@ -267,7 +267,7 @@ impl<E: Write, C: Clock> ErrorLog<E, C> {
     }
 
     /// Writes the line of an event that anybody may bring about.
-    fn tell_rare(&mut self, at: i64, line: Result<Vec<u8>, AllocError>)
+    fn tell_counted(&mut self, at: i64, line: Result<Vec<u8>, AllocError>)
         ensures { (event : List ℕ) → IfOk line (λ line. IsEventLine at event line.items)
             → LogsCounted E.contents event at self.old self.new }
     {
@@ -286,7 +286,7 @@ impl<E: Write, C: Clock> ErrorLog<E, C> {
         }
         let door = door_text(Door::of_listener(origin.listener));
         let line = connected_line(self.alloc, at, origin.address, door);
-        self.tell_rare(at, line);
+        self.tell_counted(at, line);
     }
 
     /// Tells that somebody was let in by this name.
@@ -308,7 +308,7 @@ impl<E: Write, C: Clock> ErrorLog<E, C> {
             return;
         }
         let line = login_line(self.alloc, at, from, name, Some(status));
-        self.tell_rare(at, line);
+        self.tell_counted(at, line);
     }
 
     /// Tells that somebody was let in by this name, or refused.
@@ -367,7 +367,7 @@ impl<E: Write, C: Clock> ErrorLog<E, C> {
             return;
         }
         let line = denial_line(self.alloc, at, address_of(stay));
-        self.tell_rare(at, line);
+        self.tell_counted(at, line);
     }
 
     /// Tells that the store broke.
@@ -395,7 +395,7 @@ impl<E: Write, C: Clock> ErrorLog<E, C> {
             return;
         }
         let line = parting_line(self.alloc, at, parting);
-        self.tell_rare(at, line);
+        self.tell_counted(at, line);
     }
 
     /// Tells how a call of a peer ended, and what it moved.

@@ -283,7 +283,7 @@ fn tell_call<W: Write>(
     }
 }
 
-/// Writes an address, and then a text behind it, and ends the line.
+/// Writes an address, and then a text after it, and ends the line.
 fn tell_peer<W: Write>(
     address: &str,
     text: &[u8],
@@ -304,7 +304,7 @@ fn tell_peer<W: Write>(
     }
 }
 
-/// Writes a text behind an address, and ends the line.
+/// Writes a text after an address, and ends the line.
 fn tell_text<W: Write>(text: &[u8], errors: &mut Counted<W>) -> Result<(), ServeFault>
     ensures ok { OnOk result
         (Appends (W.contents errors.old.inner) (W.contents errors.new.inner)

@@ -409,7 +409,7 @@ fn print_synced<W: Write>(
         .map_err(|_| ProgramFault::Connection(ServeFault::Write))
 }
 
-/// Prints the line of a call that came to its end. Of another one its fault is told, and behind two records of one number these
+/// Prints the line of a call that came to its end. Of another one its fault is told, and after two records of one number these
 /// are printed.
 fn report_call<W: Write>(
     alloc: Global,
@@ -823,7 +823,7 @@ fn tell_text<W: Write>(fault: &ProgramFault, errors: &mut Counted<W>) -> Result<
 /// The most bytes of words that have a number, and of such a number.
 const MOST_WORDS: usize = 40;
 
-/// Words, and a number in brackets behind them.
+/// Words, and a number in brackets after them.
 pub(crate) fn numbered(words: &str, number: u64) -> InlineText<100>
     requires { length words.now ≤ 40 }
     ensures { inline_text result ≡ numbered words.now number }

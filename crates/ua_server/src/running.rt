@@ -48,7 +48,7 @@ fn limits_behind(limits: Limits, accepted: u64) -> Limits
     }
 }
 
-/// What comes of a run behind which no more is done.
+/// What comes of a run after which no more is done.
 fn run_result(broken: bool) -> Result<(), ProgramFault>
     ensures same { result ≡ run_result broken }
     ensures fault { IfErr result IsServingFault }

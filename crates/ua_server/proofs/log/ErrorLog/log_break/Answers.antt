@@ -12,4 +12,5 @@ returns g c =
     timed g.E.Write.contents g.C.Clock.gave broken_text
     (record c.args.self.now { is_break_told = true }) c.tell_line.new.self
     c.now-at.new.self c.tell_line.new.self.errors at c.now-at.ensures c.tell_line.ensures.same
-    (c.tell_line.ensures.told broken_text at (rw (to_z-of_z w64 at fits) at c.broken_line-line.ensures))
+    (c.tell_line.ensures.told broken_text at (rw
+    (to_z-of_z w64 at fits) at c.broken_line-line.ensures))

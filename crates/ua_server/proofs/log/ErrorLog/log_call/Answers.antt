@@ -10,7 +10,8 @@ pub returns : goal.returns
 returns g c =
     let at = c.now-at.result in
     let fits : FitsSigned w64 at = omega (arith, ints, c.now-at.type_inv) in
-    let event = (call_text c.args.address.now (call_reason c.args.outcome) (moved_of c.args.moved)) in
+    let event = (call_text c.args.address.now (call_reason c.args.outcome) (moved_of c.args.moved))
+    in
     timed g.E.Write.contents g.C.Clock.gave event c.args.self.now c.tell_line.new.self
     c.now-at.new.self c.tell_line.new.self.errors at c.now-at.ensures c.tell_line.ensures.same
     (c.tell_line.ensures.told event at (rw (to_z-of_z w64 at fits) at c.called_line-line.ensures))

@@ -5,7 +5,7 @@ use Rattle.std.proofs.lemmas.Int.{ints, to_z-of_z}
 use Rattle.std.specs.declared.net.socket_addr.SocketAddr.{SocketAddr}
 use Rattle.event_lines.specs.Lines.{IsEventLine, denial_text}
 use Rattle.ua_server.specs.Logging.{LogsCounted, is_second_full, address_of}
-use Rattle.ua_server.proofs.Logged.{told-rarely}
+use Rattle.ua_server.proofs.Logged.{told-counted}
 use Rattle.ua_server.proofs.log.ErrorLog.log_denied.Goals as goal
 
 pub returns : goal.returns
@@ -21,8 +21,9 @@ returns g c =
     let event = denial_text (address_of c.args.stay) in
     let spent : is_second_full c.args.self.now.recent at ≡ false =
     sym (rw same at c.leaves_out.ensures.told) ∙ c.if-leaves_out.false in
-    told-rarely contents g.C.Clock.gave event c.args.self.now c.tell_rare.new.self c.now-at.new.self
+    told-counted contents g.C.Clock.gave event c.args.self.now c.tell_counted.new.self
+    c.now-at.new.self
     at c.now-at.ensures spent
-    (subst (λ s. LogsCounted contents event at s c.tell_rare.new.self)
+    (subst (λ s. LogsCounted contents event at s c.tell_counted.new.self)
     (c.leaves_out.ensures.same c.if-leaves_out.false)
-    ((rw same at c.tell_rare.ensures) event made))
+    ((rw same at c.tell_counted.ensures) event made))

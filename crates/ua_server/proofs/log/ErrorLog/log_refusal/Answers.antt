@@ -3,7 +3,7 @@ use Rattle.std.specs.Int.RustNames.{FitsSigned}
 use Rattle.std.proofs.lemmas.Int.{ints, to_z-of_z}
 use Rattle.event_lines.specs.Lines.{login_text}
 use Rattle.ua_server.specs.Logging.{LogsCounted, is_second_full}
-use Rattle.ua_server.proofs.Logged.{told-rarely}
+use Rattle.ua_server.proofs.Logged.{told-counted}
 use Rattle.ua_server.proofs.log.ErrorLog.log_refusal.Goals as goal
 
 pub returns : goal.returns
@@ -15,8 +15,9 @@ returns g c =
     let event = login_text c.args.from c.args.name.now (Some c.args.status) in
     let spent : is_second_full c.args.self.now.recent at ≡ false =
     sym (rw same at c.leaves_out.ensures.told) ∙ c.if-leaves_out.false in
-    told-rarely contents g.C.Clock.gave event c.args.self.now c.tell_rare.new.self c.now-at.new.self
+    told-counted contents g.C.Clock.gave event c.args.self.now c.tell_counted.new.self
+    c.now-at.new.self
     at c.now-at.ensures spent
-    (subst (λ s. LogsCounted contents event at s c.tell_rare.new.self)
+    (subst (λ s. LogsCounted contents event at s c.tell_counted.new.self)
     (c.leaves_out.ensures.same c.if-leaves_out.false)
-    ((rw same at c.tell_rare.ensures) event (rw same at c.login_line-line.ensures)))
+    ((rw same at c.tell_counted.ensures) event (rw same at c.login_line-line.ensures)))
