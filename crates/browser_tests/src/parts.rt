@@ -377,8 +377,8 @@ fn pages_of_values_lead_on(rt: HostRuntime) -> Result<(), Fail> {
 
 #[test]
 fn pages_of_modifications_lead_on(rt: HostRuntime) -> Result<(), Fail> {
-    let asked = Asked::Pages(true, &[498, 498, 3]);
-    assert!(rt; holds_of(rt.alloc(), 999, 3, asked));
+    let asked = Asked::Pages(true, &[498, 205]);
+    assert!(rt; holds_of(rt.alloc(), 703, 3, asked));
     Ok(())
 }
 

@@ -57,14 +57,14 @@ static ANSWERED: [Row; 10] = [
         "GET /history.csv?node=ns%3D1%3Bs%3Dn HTTP/1.1\r\nHost: a\r\n\r\n",
         "HTTP/1.1 200 OK\r\nContent-Type: text/csv; charset=utf-8\r\nTransfer-Encoding: chunked\r\nConnection: close\r\n",
         ",40,Good\n\r\n0\r\n\r\n",
-        4,
+        6,
     ),
     (
         true,
         "GET /history.csv?node=ns%3D1%3Bs%3Dn HTTP/1.0\r\n\r\n",
         "HTTP/1.1 200 OK\r\nContent-Type: text/csv; charset=utf-8\r\nConnection: close\r\n",
         "\nns=1;s=n,2026-03-01T12:00:40.0000000Z,40,Good\n",
-        4,
+        6,
     ),
     (
         true,
@@ -354,13 +354,13 @@ static NAMELESS: [Row; 5] = [
     ),
 ];
 
-/// A history as CSV, which has four steps that go on.
+/// A history as CSV, which has six steps that go on.
 static STEPS: [Row; 1] = [(
     true,
     CHUNKED,
     "HTTP/1.1 200 OK\r\nContent-Type: text/csv; charset=utf-8\r\nTransfer-Encoding: chunked\r\nConnection: close\r\n",
     ",40,Good\n\r\n0\r\n\r\n",
-    4,
+    6,
 )];
 
 /// What the answer to who isn't let in begins by.
