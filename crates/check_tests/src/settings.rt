@@ -110,7 +110,7 @@ static ROWS: [(&str, &str); 7] = [
          0 peers are called; peers come to the clients' address\n\
          browsers come to 127.0.0.1:80, 8 at a time\n\
          what happens is told on standard error, a line each\n\
-         behind 1 refused login from one address within a minute its next ones are answered a second later each\n\
+         after 1 refused login from one address within a minute its next ones are answered a second later each\n\
          warning: the store's path is relative: from another folder it makes a new, empty archive\n",
     ),
 ];
