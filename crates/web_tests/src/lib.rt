@@ -1,4 +1,4 @@
-//! Tests: requests of browsers, their answers and the first page, in rows.
+//! Tests: what settings say, told to people; requests of browsers, their answers and the first page: in rows.
 #![tactic(auto)]
 
 #[cfg(test)]
@@ -11,3 +11,7 @@ mod limits;
 mod refusals;
 #[cfg(test)]
 mod requests;
+#[cfg(test)]
+mod settings;
+#[cfg(test)]
+mod stores;

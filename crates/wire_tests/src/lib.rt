@@ -1,4 +1,4 @@
-//! Tests: bytes, values, chunks, channels, structures, sessions, settings and address spaces in rows.
+//! Tests: bytes, values, chunks, channels, structures, sessions, settings and address spaces, and what a client writes and reads: in rows.
 #![tactic(auto)]
 
 #[cfg(test)]
@@ -7,6 +7,8 @@ mod binary;
 mod channels;
 #[cfg(test)]
 mod greetings;
+#[cfg(test)]
+mod requests;
 #[cfg(test)]
 mod sessions;
 #[cfg(test)]

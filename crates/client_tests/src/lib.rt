@@ -1,5 +1,0 @@
-//! Tests: what a client writes and reads.
-#![tactic(auto)]
-
-#[cfg(test)]
-mod requests;
