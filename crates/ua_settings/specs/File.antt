@@ -86,7 +86,9 @@ log_keys = optional (codes "events") Truth ∷ []
 
 -- those of a table of a peer
 abbrev pub peer_keys : List Rule
-peer_keys = required (codes "address") Text ∷ required (codes "every") (UpTo 86400) ∷ []
+peer_keys =
+    required (codes "address") Text ∷ required (codes "every") (UpTo 86400)
+    ∷ optional (codes "check") Truth ∷ []
 
 -- the keys of each kind of table, and what each holds
 abbrev pub rules : Section → List Rule

@@ -105,12 +105,13 @@ users_in lines server users =
       named = map (user_in lines) users;
     }
 
--- a peer that a table gives
+-- a peer that a table gives; numbers that were given twice are looked for only where it says so
 abbrev pub peer_in : Members → PeerCall
 peer_in peer =
     record {
       address = text_at (codes "address") peer;
       every = number_at (codes "every") peer;
+      checks = truth_at (codes "check") peer;
     }
 
 -- the texts of an array

@@ -187,7 +187,11 @@ static VARIABLE: [Key; 5] = [
     key!("folder", FolderId, optional),
 ];
 
-static PEER: [Key; 2] = [key!("address", Text), key!("every", up to 86400)];
+static PEER: [Key; 3] = [
+    key!("address", Text),
+    key!("every", up to 86400),
+    key!("check", Truth, optional),
+];
 
 static DOOR: [Key; 4] = [
     key!("listen", Text),

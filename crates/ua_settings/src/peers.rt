@@ -14,6 +14,8 @@ pub struct PeerCall {
     pub address: Text,
     /// How many seconds lie between the beginnings of two calls, 1 to 86,400.
     pub every: u32,
+    /// Whether each call looks for numbers that were given to two records.
+    pub checks: bool,
 }
 
 /// The peers that a server calls by itself.
@@ -44,15 +46,19 @@ impl Peers {
     }
 
     /// Adds a peer. The one error is `OutOfMemory`, which changes nothing.
-    pub fn add(&mut self, address: &str, every: u32) -> Result<(), SettingsFault>
+    pub fn add(&mut self, address: &str, every: u32, checks: bool) -> Result<(), SettingsFault>
         ensures ok { OnOk result
             (self.new
-            ≡ self.old ++ record { address = address.now; every = every } ∷ []) }
+            ≡ self.old ++ record { address = address.now; every = every; checks = checks } ∷ []) }
         ensures err { IfErr result
             (λ fault. (fault ≡ SettingsFault.OutOfMemory) × (self.new ≡ self.old)) }
     {
         let address = Text::from_str(self.alloc, address)?;
-        self.calls.push(PeerCall { address, every })?;
+        self.calls.push(PeerCall {
+            address,
+            every,
+            checks,
+        })?;
         Ok(())
     }
 

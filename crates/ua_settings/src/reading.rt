@@ -109,7 +109,8 @@ fn read_peers(alloc: Global, tables: &[&Table]) -> Result<Peers, SettingsFault>
     let mut peers = Peers::new(alloc);
     for table in tables {
         let every = number_or(table, "every", 86_400, 0);
-        match peers.add(text(table, "address"), every) {
+        let checks = truth(table, "check");
+        match peers.add(text(table, "address"), every, checks) {
             Ok(()) => {}
             Err(_) => return Err(SettingsFault::OutOfMemory),
         }

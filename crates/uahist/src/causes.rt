@@ -16,7 +16,7 @@ const NO_COMMAND: &str = "want a command, and after --perform insert, replace or
 pub(crate) const BROKEN: &str = "a read or a write of its disk failed";
 
 /// What keys of the settings hold, for those whose value may be wrong.
-static WANTED: [(&str, &str); 23] = [
+static WANTED: [(&str, &str); 24] = [
     (
         "[archive] id",
         "want a UUID, as 3f2c8a10-5b1e-4c7d-9a60-2d8f4b6e7c90",
@@ -57,6 +57,7 @@ static WANTED: [(&str, &str); 23] = [
     ("replicas", "want an array of whole numbers from 1 to 64"),
     ("ahead", "want a whole number of seconds from 1 to 31536000"),
     ("every", "want a whole number of seconds from 1 to 86400"),
+    ("check", "want true or false"),
     ("events", "want true or false"),
 ];
 
@@ -79,7 +80,7 @@ static KEYS: [(&str, &str); 9] = [
         "[[variable]] ",
         "there is no such key: want id, name, type, array or folder",
     ),
-    ("[[peer]] ", "there is no such key: want address or every"),
+    ("[[peer]] ", "there is no such key: want address, every or check"),
     (
         "[door] ",
         "there is no such key: want listen, from, replicas or ahead",
@@ -224,6 +225,7 @@ fn of_exchange(number: u32) -> Option<&'static str> {
         8 => Some("the peer speaks an older format of exchanges: compare the versions"),
         9 => Some("a record is ahead of a clock: compare the clocks, and [door] ahead"),
         10 => Some("a record is of a replica that a [door] doesn't take: compare its replicas"),
+        11 => Some("a number was given to two records: an old copy of a store was put back, or two machines have one number"),
         _ => Some("the number is the peer's own"),
     }
 }
