@@ -340,3 +340,4 @@ module _ (a b c : Store) (s : DialogState) (rs : List Record) (n : ℕ) (within 
   ahead_met exchange.PeerFormat merges = absurd merges.tells
   ahead_met exchange.AheadOfClock merges = absurd merges.tells
   ahead_met exchange.NotAdmitted merges = absurd merges.tells
+  ahead_met exchange.GivenTwice merges = absurd merges.tells

@@ -154,6 +154,7 @@ module _ (a b c : Store) (v : List ℕ) (w : ℕ
     carry_fails exchange.PeerFormat turn answers e none = absurd answers.only
     carry_fails exchange.AheadOfClock turn answers e none = absurd answers.only
     carry_fails exchange.NotAdmitted turn answers e none = absurd answers.only
+    carry_fails exchange.GivenTwice turn answers e none = absurd answers.only
 
     -- memory was wanting for what is sent, or a store that isn't honest gave what can't be
     pub carry_starves : (batch : Batch) (fault : ExchangeFault) (turn : Content → Turn)
@@ -658,6 +659,7 @@ merge_ended a b [] exchange.TooLong merges broken = absurd merges.tells
 merge_ended a b [] exchange.PeerFormat merges broken = absurd merges.tells
 merge_ended a b [] exchange.AheadOfClock merges broken = absurd merges.tells
 merge_ended a b [] exchange.NotAdmitted merges broken = absurd merges.tells
+merge_ended a b [] exchange.GivenTwice merges broken = absurd merges.tells
 
 meets_refusal : (S : Content) (r : Record) (cause : LearnFault) → IsRefusal cause → Meets S r cause
     → answer_to (finding S r) ≡ Err cause
@@ -748,6 +750,7 @@ learn_stops a b rs state exchange.TooLong merges = absurd merges.tells
 learn_stops a b rs state exchange.PeerFormat merges = absurd merges.tells
 learn_stops a b rs state exchange.AheadOfClock merges = absurd merges.tells
 learn_stops a b rs state exchange.NotAdmitted merges = absurd merges.tells
+learn_stops a b rs state exchange.GivenTwice merges = absurd merges.tells
 
 -- the initiator pulls: a batch of no record is answered by what the peer lacks, and others are
 -- learned

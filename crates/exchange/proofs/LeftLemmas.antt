@@ -137,6 +137,8 @@ learning_left p state R rs = learnt_content p state (merged rs R) (refusal 0 R r
         (refused_one rs 0 R exchange.AheadOfClock is).2 in cc)
     go (Some exchange.NotAdmitted) is = absurd (let x =
         (refused_one rs 0 R exchange.NotAdmitted is).2 in cc)
+    go (Some exchange.GivenTwice) is = absurd (let x =
+        (refused_one rs 0 R exchange.GivenTwice is).2 in cc)
 
 ended_kept : (R : Content) (n : ℕ) → (ended_by R n).content ≡ R
 ended_kept R zero = refl

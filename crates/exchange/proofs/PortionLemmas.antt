@@ -329,6 +329,7 @@ asks_for_then a b d x (Err exchange.TooLong) P Q S p q go = absurd q
 asks_for_then a b d x (Err exchange.PeerFormat) P Q S p q go = absurd q
 asks_for_then a b d x (Err exchange.AheadOfClock) P Q S p q go = absurd q
 asks_for_then a b d x (Err exchange.NotAdmitted) P Q S p q go = absurd q
+asks_for_then a b d x (Err exchange.GivenTwice) P Q S p q go = absurd q
 
 -- a fault is the same, whatever was asked for
 pub asks_for_failed : {A B : Type 0} (a b : Store) (fault : ExchangeFault) (P : A → Type 0)
@@ -343,3 +344,4 @@ asks_for_failed a b exchange.TooLong P Q p = absurd p
 asks_for_failed a b exchange.PeerFormat P Q p = absurd p
 asks_for_failed a b exchange.AheadOfClock P Q p = absurd p
 asks_for_failed a b exchange.NotAdmitted P Q p = absurd p
+asks_for_failed a b exchange.GivenTwice P Q p = absurd p

@@ -351,6 +351,9 @@ module _ (a c : Store) (before counted after : DialogState) (kind : FrameKind)
     takes body (Err exchange.NotAdmitted) answered gives answers concludes =
         takes_it body answered (subst (λ r. AnswersTo a c before.state r out mid answered)
         (sym (gives (λ e. cc))) answers) concludes
+    takes body (Err exchange.GivenTwice) answered gives answers concludes =
+        takes_it body answered (subst (λ r. AnswersTo a c before.state r out mid answered)
+        (sym (gives (λ e. cc))) answers) concludes
     takes body (Err exchange.TooLong) answered gives answers concludes =
         takes_it body answered (subst (λ r. AnswersTo a c before.state r out mid answered)
         (sym (gives (λ e. cc))) answers) concludes

@@ -86,6 +86,7 @@ of_meeting exchange.TooLong is = absurd is
 of_meeting exchange.PeerFormat is = absurd is
 of_meeting exchange.AheadOfClock is = absurd is
 of_meeting exchange.NotAdmitted is = absurd is
+of_meeting exchange.GivenTwice is = absurd is
 
 of_answer : (f : ExchangeFault) → IsOfAnswer f → IsOfOutside f
 of_answer exchange.OutOfMemory is = tt
@@ -98,6 +99,7 @@ of_answer exchange.TooLong is = absurd is
 of_answer exchange.PeerFormat is = absurd is
 of_answer exchange.AheadOfClock is = absurd is
 of_answer exchange.NotAdmitted is = absurd is
+of_answer exchange.GivenTwice is = absurd is
 
 not_long : (f : ExchangeFault) → IsOfOutside f → f ≡ exchange.TooLong → ⊥
 not_long f is e = subst IsOfOutside e is

@@ -331,7 +331,7 @@ fn batches_fit_a_frame(rt: HostRuntime) -> Result<(), Fail> {
     Ok(())
 }
 
-static FAULTS: [ExchangeFault; 10] = [
+static FAULTS: [ExchangeFault; 11] = [
     ExchangeFault::Frame,
     ExchangeFault::WrongArchive,
     ExchangeFault::Learn {
@@ -345,6 +345,7 @@ static FAULTS: [ExchangeFault; 10] = [
     ExchangeFault::PeerFormat,
     ExchangeFault::AheadOfClock,
     ExchangeFault::NotAdmitted,
+    ExchangeFault::GivenTwice,
 ];
 
 #[test]

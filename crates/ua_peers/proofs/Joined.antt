@@ -132,6 +132,7 @@ numbered exchange.TooLong = (6, omega arith, refl)
 numbered exchange.PeerFormat = (7, omega arith, refl)
 numbered exchange.AheadOfClock = (8, omega arith, refl)
 numbered exchange.NotAdmitted = (9, omega arith, refl)
+numbered exchange.GivenTwice = (10, omega arith, refl)
 
 failing_said : (R : Content) (fault : ExchangeFault) (result : Result State ExchangeFault)
     (said : List ℕ) → Writes (failing R fault) result [] said → IsFaulty result said
