@@ -1,4 +1,5 @@
 pub mod Raising
+pub mod BeginningLemmas
 pub mod Names
 pub mod Hearing
 pub mod Outcomes

@@ -48,6 +48,17 @@ alone_failed a b exchange.TooLong P result p is = absurd p
 alone_failed a b exchange.PeerFormat P result p is = absurd p
 alone_failed a b exchange.AheadOfClock P result p is = absurd p
 alone_failed a b exchange.NotAdmitted P result p is = absurd p
+alone_failed a b exchange.GivenTwice P result p is = absurd p
+
+-- whatever came of it
+pub asked_for : {A : Type 0} (a b : Store) (result : Result A ExchangeFault) (P : A → Type 0)
+    → AsksFor a b result P
+    → (asked : Result (Unit {0}) StoreFault) × Asks a b asked (λ _. ⊤)
+asked_for a b (Ok x) P p =
+    (Ok tt, record { answer = λ h. tt; stays = p.stays; leaves = p.leaves })
+asked_for a b (Err fault) P p =
+    let failed = alone_failed {B = Unit {0}} a b fault P (Err (sync.Exchange fault)) p refl in
+    (failed.0, failed.1)
 
 -- behind an answer it met no fault
 pub alone_ok : {B : Type 0} (b d : Store) (x : B) → AsksAlone b d (Ok x)

@@ -1,3 +1,4 @@
+pub mod Beginning
 pub mod Clashes
 pub mod Comparing
 pub mod Truth

@@ -31,7 +31,7 @@ use ua_peers::SyncFault;
 const PIECE: usize = 65536;
 
 /// One more than the greatest number of a replica.
-const BEHIND_REPLICAS: u8 = 65;
+pub(crate) const BEHIND_REPLICAS: u8 = 65;
 
 /// How many questions are asked at most, behind the first: of last records some of each replica come once, and then none.
 fn most_questions(extent: Extent) -> u64 {
@@ -203,7 +203,7 @@ fn next_carried<R: Read>(
 }
 
 /// Who asks.
-fn party_of<A: Archive>(archive: &A) -> Party
+pub(crate) fn party_of<A: Archive>(archive: &A) -> Party
     ensures { result ≡ party_of (A.state archive.now) }
 {
     Party {
