@@ -1,6 +1,6 @@
 -- An archive that was asked how many records of its own it holds: for `answer_frame`, `answer_peer`
 -- and what only grows.
-use Rattle.std.proofs.Common.{◌≡◌, ◌∙◌, ℕ, Bool, true, false, List, [], Option, Result, Ok, sym, ap, subst, inl, inr}
+use Rattle.std.proofs.Common.{◌≡◌, ◌∙◌, ℕ, Bool, true, false, List, [], Option, None, Result, Ok, sym, ap, subst, inl, inr}
 use Rattle.std.proofs.Math.Bool.{or-false}
 use Rattle.records.specs.Contents.{Content}
 use Rattle.archive.specs.declared.fault.StoreFault.{StoreFault}
@@ -12,7 +12,11 @@ use Rattle.exchange.proofs.HandleLemmas.{unbroken_before}
 use Rattle.counted_io.specs.declared.fault.ServeFault.{ServeFault}
 use Rattle.ua_peers.specs.declared.peers.PeerEnded.{PeerEnded}
 use Rattle.ua_peers.specs.Peers.{side_of, after_all, AreAnswered, IsLeftBy, Talks, TalksOnce}
+use Rattle.exchange.specs.declared.fault.ExchangeFault.{ExchangeFault}
+use Rattle.peer_check.specs.declared.comparing.Clash.{Clash}
+use Rattle.peer_check.proofs.Outcomes.{asked_for}
 use Rattle.conversation.specs.Admitting.{AsksOwn}
+use Rattle.conversation.specs.Comparing.{ComparesFirst}
 
 -- what is held stays, and each fault of the store is counted
 pub record Leaves (a b : Store) : Type 0 where
@@ -37,6 +41,46 @@ own_answered state true v w held asked = (asked.stays, asked.leaves.passes)
 own_answered state false v w held same =
     subst (λ u. KeepsContent (state v) (state u) × CountsFaults (state v) (state u) [])
     (sym same.0) (stays-none (state v), passes-none (state v))
+
+-- the same where records of a call's first frame may have been compared
+pub compared_leaves : {A : Type 0} (state : A → Store) (compares : Bool) (waiting : List ℕ)
+    (v w : A) (found : Result (Option Clash) ExchangeFault)
+    → ComparesFirst state compares waiting v w found → Leaves (state v) (state w)
+compared_leaves state true waiting v w found (inl asks) =
+    let asked = asked_for (state v) (state w) found _ asks in
+    record { faults = _; stays = asked.1.stays; passes = asked.1.leaves.passes }
+compared_leaves state true waiting v w found (inr same) =
+    subst (λ u. Leaves (state v) (state u)) (sym same.0)
+    (record { faults = []; stays = stays-none (state v); passes = passes-none (state v) })
+compared_leaves state false waiting v w found same =
+    subst (λ u. Leaves (state v) (state u)) (sym same.0)
+    (record { faults = []; stays = stays-none (state v); passes = passes-none (state v) })
+
+pub none_found : {A : Type 0} (state : A → Store) (compares : Bool) (waiting : List ℕ) (v w : A)
+    → ComparesFirst state compares waiting v w (Ok None)
+    → KeepsContent (state v) (state w) × CountsFaults (state v) (state w) []
+none_found state true waiting v w (inl asked) = (asked.stays, asked.leaves.passes)
+none_found state true waiting v w (inr same) =
+    subst (λ u. KeepsContent (state v) (state u) × CountsFaults (state v) (state u) [])
+    (sym same.0) (stays-none (state v), passes-none (state v))
+none_found state false waiting v w same =
+    subst (λ u. KeepsContent (state v) (state u) × CountsFaults (state v) (state u) [])
+    (sym same.0) (stays-none (state v), passes-none (state v))
+
+-- what is held stays through both
+pub leaves_behind : (a b c : Store) → KeepsContent a b → CountsFaults a b [] → Leaves b c
+    → Leaves a c
+leaves_behind a b c stays passes later = record {
+  faults = later.faults;
+  stays = record {
+    content = λ honest used. later.stays.content honest used
+        ∙ stays.content (later.passes.honest honest)
+        (unbroken_before b c _ later.passes used);
+    crash = λ honest left found.
+        stays.crash (later.passes.honest honest) left (later.stays.crash honest left found);
+  };
+  passes = passes-then a b c [] later.faults passes later.passes;
+}
 
 -- the archive stands for the same party
 pub same_party : (a b : Store) (faults : List StoreFault) → CountsFaults a b faults

@@ -3,3 +3,4 @@ pub mod Asked
 pub mod ClientsDoor
 pub mod Framing
 pub mod Spelled
+pub mod Compared

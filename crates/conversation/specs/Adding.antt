@@ -1,5 +1,5 @@
 -- Lemmas: what answers do are moves of the world, and moves add up.
-use Rattle.std.proofs.Common.{◌≡◌, ◌∙◌, ℕ, ℤ, Bool, true, false, List, [], Option, None, Some, Result, Ok, Err, inl, inr, refl, sym, subst}
+use Rattle.std.proofs.Common.{◌≡◌, ◌∙◌, ℕ, ℤ, Bool, true, false, List, [], Option, None, Some, Result, Ok, Err, inl, inr, refl, sym, ap, subst}
 use Rattle.archive.specs.Store.{Store}
 use Rattle.multiplex.specs.Behavior.{MovesAddUp}
 use Rattle.multiplex.specs.declared.handler.SlotEnd.{SlotEnd}
@@ -16,19 +16,26 @@ use Rattle.ua_peers.specs.declared.calling.Synced.{Synced}
 use Rattle.ua_settings.specs.declared.peers.PeerCall.{PeerCall}
 use Rattle.conversation.specs.OtherEnds.{ConversationEnding, moved_by, none_moved}
 use Rattle.conversation.specs.Events.{LogEvent, Telling, Logs}
-use Rattle.conversation.specs.Answering.{AnswersFirst}
+use Rattle.conversation.specs.Answering.{AnswersFirst, MeetsPeer}
+use Rattle.conversation.specs.Comparing.{FindsNone}
 use Rattle.conversation.specs.Closing.{TellsCallOf, TellsEnd, TellsEndOf, TellsTurn, TellsTurnOf, with_connection, without_connection, with_now, call_outcome, is_slow}
-use Rattle.conversation.specs.Starting.{AsksPeer, BeginsBy, StartsCall}
+use Rattle.conversation.specs.declared.other_end.PeerDialog.{PeerDialog}
+use Rattle.conversation.specs.Starting.{GreetsPeer, AsksPeer, BeginsBy, StartsCall}
 use Rattle.conversation.specs.Moves.{OnlyGrows, Moves}
 use Rattle.conversation.specs.Conversing.{behavior_over}
-use Rattle.conversation.specs.Growing.{transitions_grow, talks_grow, greets_grow, own_grows, ahead_grows, grows_none, grows_more}
+use Rattle.conversation.specs.Growing.{transitions_grow, talks_grow, greets_grow, greets_before_grow, own_grows, compared_grows, ahead_grows, grows_none, grows_more}
 
 -- a frame that asks
-ask_grows : (a b : Store) (made : List ℕ) (result : Result (Unit {0}) ExchangeFault)
-    → AsksPeer a b made result → OnlyGrows a b
-ask_grows a b made result (inl greets) = greets_grow a b [] made result greets
-ask_grows a b made result (inr (frame, greets, none, starved)) =
-    greets_grow a b [] frame (Ok tt) greets
+greeting_grows : (checks : Bool) (a b : Store) (made : List ℕ)
+    (result : Result (Unit {0}) ExchangeFault) → GreetsPeer checks a b made result → OnlyGrows a b
+greeting_grows true a b made result greets = greets_before_grow a b [] made result greets
+greeting_grows false a b made result greets = greets_grow a b [] made result greets
+
+ask_grows : (checks : Bool) (a b : Store) (made : List ℕ) (result : Result (Unit {0}) ExchangeFault)
+    → AsksPeer checks a b made result → OnlyGrows a b
+ask_grows checks a b made result (inl greets) = greeting_grows checks a b made result greets
+ask_grows checks a b made result (inr (frame, greets, none, starved)) =
+    greeting_grows checks a b frame (Ok tt) greets
 
 module _ {A C L : Type 0} (state : A → Store) where
   -- none
@@ -43,6 +50,31 @@ module _ {A C L : Type 0} (state : A → Store) where
   more_moves : (u v w : World A C L) → Moves state u v → Moves state v w → Moves state u w
   more_moves u v w first later = (later.0 ∙ first.0, grows_more _ _ _ first.1 later.1)
 
+  -- an answer to a peer's frame
+  meet_moves : (gave : C → List ℤ → C → Type 0) (v w : World A C L) (peer : PeerDialog)
+      (new : OtherEnd) (made : List ℕ) (ending : Option ConversationEnding)
+      → MeetsPeer state gave v peer made ending w new → Moves state v w
+  meet_moves gave v w peer new made ending (inl a) = (
+    a.stays.settings,
+    grows_more _ _ _ (own_grows state _ _ a.between _ a.takes.asks)
+        (talks_grow _ _ _ _ _ _ _ _ a.once.talks),
+  )
+  meet_moves gave v w peer new made ending (inr (inl a)) = (
+    a.stays.settings,
+    grows_more _ _ _ (own_grows state _ _ a.between _ a.takes.asks)
+        (ahead_grows _ _ _ _ _ _ a.learns),
+  )
+  meet_moves gave v w peer new made ending (inr (inr a)) =
+      (a.stays.settings, own_grows state _ _ _ a.asked a.asks)
+
+  -- a call that found no number that was given twice
+  compared_moves : (party : Party) (v w : World A C L) (peer : PeerDialog)
+      → FindsNone state party peer v w → Moves state v w
+  compared_moves party v w peer none = (
+    ap (λ (u : World A C L). u.server.settings) none.0,
+    compared_grows state _ _ _ _ (Ok None) none.1,
+  )
+
   -- an answer
   answer_moves : (gave : C → List ℤ → C → Type 0) (told : Telling L) (stay : Stay)
       (v w : World A C L) (old new : OtherEnd) (made : List ℕ) (ending : Option ConversationEnding)
@@ -54,18 +86,13 @@ module _ {A C L : Type 0} (state : A → Store) where
       (a.settings, transitions_grow _ _ _ _ a.advances)
   answer_moves gave told stay v w (Browser web) new made ending a =
       (a.settings, transitions_grow _ _ _ _ a.answers.1.1)
-  answer_moves gave told stay v w (Peer peer) new made ending (inl a) = (
-    a.stays.settings,
-    grows_more _ _ _ (own_grows state _ _ a.between _ a.takes.asks)
-        (talks_grow _ _ _ _ _ _ _ _ a.once.talks),
+  answer_moves gave told stay v w (Peer peer) new made ending (inl (between, none, meets)) =
+      more_moves v between w (compared_moves stay.party v between peer none)
+      (meet_moves gave between w peer new made ending meets)
+  answer_moves gave told stay v w (Peer peer) new made ending (inr ends) = (
+    ap (λ (u : World A C L). u.server.settings) ends.same,
+    compared_grows state _ _ _ _ ends.found ends.compares,
   )
-  answer_moves gave told stay v w (Peer peer) new made ending (inr (inl a)) = (
-    a.stays.settings,
-    grows_more _ _ _ (own_grows state _ _ a.between _ a.takes.asks)
-        (ahead_grows _ _ _ _ _ _ a.learns),
-  )
-  answer_moves gave told stay v w (Peer peer) new made ending (inr (inr a)) =
-      (a.stays.settings, own_grows state _ _ _ a.asked a.asks)
 
   -- what is told
   log_moves : (told : Telling L) (event : LogEvent) (v w : World A C L) → Logs told event v w
@@ -96,7 +123,7 @@ module _ {A C L : Type 0} (state : A → Store) where
       (v w : World A C L) (made : List ℕ) (other : Option OtherEnd)
       → StartsCall state gave told callee v made other w → Moves state v w
   start_moves gave told callee v w made other s =
-      more_moves v s.between w (s.settings, ask_grows _ _ made s.result s.asks)
+      more_moves v s.between w (s.settings, ask_grows _ _ _ made s.result s.asks)
       (begin_moves gave told callee s.between w other s.result s.begins)
 
   -- how a connection ended

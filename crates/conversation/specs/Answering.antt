@@ -4,7 +4,8 @@ use Rattle.std.specs.Option.{option_map}
 use Rattle.std.specs.Result.{result_map_both}
 use Rattle.archive.specs.Store.{Store}
 use Rattle.exchange.specs.Ahead.{first_records, LearnsAhead}
-use Rattle.exchange.specs.Dialogs.{DialogState, party_of}
+use Rattle.exchange.specs.Dialogs.{DialogState, party_of, TellsFault}
+use Rattle.exchange.specs.declared.message.State.{State}
 use Rattle.exchange.specs.Frames.{frame_header}
 use Rattle.archive.specs.declared.fault.StoreFault.{StoreFault}
 use Rattle.exchange.specs.declared.fault.ExchangeFault.{ExchangeFault}
@@ -13,7 +14,8 @@ use Rattle.counted_io.specs.declared.fault.ServeFault.TheVariants.{OutOfMemory}
 use Rattle.ua_connection.specs.Environments.{Environment}
 use Rattle.ua_connection.specs.Client.{Ending as ClientEnding}
 use Rattle.ua_connection.specs.Turns.{ConnectionState, Advances, NeedsBytes}
-use Rattle.ua_peers.specs.Peers.{TalksOnce}
+use Rattle.peer_check.specs.declared.comparing.Clash.{Clash}
+use Rattle.ua_peers.specs.Peers.{TalksOnce, ended_as, is_silent}
 use Rattle.ua_peers.specs.declared.peers.PeerEnded.{PeerEnded}
 use Rattle.conversation.specs.declared.ended.Ended.TheVariants as ended
 use Rattle.conversation.specs.declared.other_end.PeerDialog.{PeerDialog}
@@ -21,6 +23,8 @@ use Rattle.conversation.specs.declared.other_end.OtherEnd.{OtherEnd}
 use Rattle.conversation.specs.declared.other_end.OtherEnd.TheVariants.{Client, Peer, Browser, Stranger, Over}
 use Rattle.conversation.specs.declared.world.World.{World}
 use Rattle.conversation.specs.Admitting.{IsTimed, is_own_asked, AsksOwn, restoring_with, restoring_behind, restoring_unless, own_bound, IsAdmitted, Refuses, TellsAhead}
+use Rattle.conversation.specs.Comparing.{compares_first, ComparesFirst, comparing_fault, LogsClash, FindsNone}
+use Rattle.multiplex.specs.declared.stay.Party.{Party}
 use Rattle.multiplex.specs.declared.stay.Stay.{Stay}
 use Rattle.conversation.specs.Events.{Telling, Denied, audited_by, LogsAudit}
 use Rattle.conversation.specs.Logins.{after_audit, after_step, is_denied, unheld}
@@ -185,6 +189,39 @@ MeetsPeer state gave v peer made ending w next =
     ⊎ (LearnsFromPeer state gave v peer made ending w next
     ⊎ RefusesPeer state gave v peer made ending w next)
 
+-- comparing the first frame of a call ended it, since a number was given to two records, or by a
+-- fault: the peer is told, or memory for that was wanting, the log is told of the two records, and
+-- what is held stays
+pub record EndsByComparing {A C L : Type 0} (state : A → Store) (told : Telling L) (party : Party)
+    (v : World A C L) (peer : PeerDialog) (made : List ℕ) (ending : Option ConversationEnding)
+    (w : World A C L) (next : OtherEnd) : Type 0 where
+  pub found : Result (Option Clash) ExchangeFault
+  pub fault : ExchangeFault
+  pub result : Result State ExchangeFault
+  pub said : List ℕ
+  pub compares : ComparesFirst state (compares_first v.server.settings party peer)
+      peer.frames.waiting v.server.replica.archive w.server.replica.archive found
+  pub why : comparing_fault found ≡ Some fault
+  pub log : LogsClash told party found v.log w.log
+  pub tells : TellsFault fault result [] said
+  pub written : Tells said (ended_as None (is_silent said) result) made ending
+  pub same : w ≡ record v {
+    server = record v.server { replica = w.server.replica };
+    log = w.log;
+    logins = unheld v.logins;
+  }
+  pub leaves : next ≡ unless_over ending (Peer peer)
+
+-- no number was found that was given twice, where such are looked for, and what stood first was met
+-- over the world behind that; or comparing ended the call
+abbrev pub MeetsCompared : {A C L : Type 0} → (A → Store) → (C → List ℤ → C → Type 0) → Telling L
+    → Party → World A C L → PeerDialog → (made : List ℕ) → Option ConversationEnding
+    → World A C L → OtherEnd → Type 0
+MeetsCompared {A} {C} {L} state gave told party v peer made ending w next =
+    ((between : World A C L) × FindsNone state party peer v between
+    × MeetsPeer state gave between peer made ending w next)
+    ⊎ EndsByComparing state told party v peer made ending w next
+
 -- how a browser's connection ended by a step, as that of any connection
 abbrev pub web_ending : Result WebStep AllocError → Option ConversationEnding
 web_ending step = elim step [
@@ -245,7 +282,7 @@ abbrev pub AnswersFirst : {A C L : Type 0} → (A → Store) → (C → List ℤ
     → OtherEnd → Type 0
 AnswersFirst state gave told stay v other made ending w new = elim other [
   | Client link ↦ AnswersClient state gave told stay v link made ending w new
-  | Peer peer ↦ MeetsPeer state gave v peer made ending w new
+  | Peer peer ↦ MeetsCompared state gave told stay.party v peer made ending w new
   | Browser web ↦ AnswersBrowser state gave told stay v web made ending w new
   | Stranger ↦ TurnsAway v made ending w new
   | same ↦ (made ≡ []) × (ending ≡ None) × (w ≡ v) × (new ≡ same)

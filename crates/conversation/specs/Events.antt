@@ -4,6 +4,7 @@ use Rattle.multiplex.specs.declared.stay.Origin.{Origin}
 use Rattle.multiplex.specs.declared.stay.Stay.{Stay}
 use Rattle.ua_session.specs.Sessions.{SessionsState}
 use Rattle.ua_session.specs.declared.audit.AuditEvent.{AuditEvent}
+use Rattle.peer_check.specs.declared.comparing.Clash.{Clash}
 use Rattle.ua_peers.specs.declared.calling.SyncFault.{SyncFault}
 use Rattle.ua_peers.specs.declared.calling.Synced.{Synced}
 use Rattle.conversation.specs.declared.log.Parting.{Parting}
@@ -24,6 +25,8 @@ pub data LogEvent : Type 0 where
   -- a call of the peer of this number in the settings and of this address ended so, and so many
   -- records were moved
   CallEnded : (callee : ℕ) → (address : List ℕ) → Result (Unit {0}) SyncFault → Synced → LogEvent
+  -- a call of the peer of this number in the settings found a number that was given to two records
+  ClashFound : (callee : ℕ) → Clash → LogEvent
   -- the longest turn of a connection so far took so many milliseconds
   TurnTook : (longest : ℕ) → LogEvent
 

@@ -21,7 +21,11 @@ use Rattle.exchange.proofs.LeftLemmas.{answered_left}
 use Rattle.counted_io.specs.declared.fault.ServeFault.{ServeFault}
 use Rattle.ua_peers.specs.declared.peers.PeerEnded.{PeerEnded}
 use Rattle.ua_peers.specs.Peers.{Taken, Side, side_of, side_after, after_all, IsLeftBy, Talks}
+use Rattle.peer_check.specs.Beginning.{GreetsBefore}
+use Rattle.peer_check.specs.declared.comparing.Clash.{Clash}
+use Rattle.peer_check.proofs.Outcomes.{asked_for}
 use Rattle.conversation.specs.Admitting.{AsksOwn}
+use Rattle.conversation.specs.Comparing.{ComparesFirst}
 use Rattle.conversation.specs.Moves.{OnlyGrows}
 
 -- the same content in other words
@@ -86,6 +90,17 @@ greets_grow a b out written result greets = record {
       (S, left-stays a b _ S greets.stays greets.passes honest left, λ r h. h);
 }
 
+-- one that asks for the last record of each replica too
+pub greets_before_grow : (a b : Store) (out written : List ℕ)
+    (result : Result (Unit {0}) ExchangeFault) → GreetsBefore a b out written result
+    → OnlyGrows a b
+greets_before_grow a b out written result greets = record {
+  faults = _;
+  passes = greets.passes;
+  grows = λ honest S left.
+      (S, left-stays a b _ S greets.stays greets.passes honest left, λ r h. h);
+}
+
 -- what is asked of an archive
 asks_grow : {X : Type 0} (a b : Store) (result : Result X StoreFault) (P : X → Type 0)
     → Asks a b result P → OnlyGrows a b
@@ -102,6 +117,18 @@ pub own_grows : {A : Type 0} (state : A → Store) (asks : Bool) (v w : A)
     → OnlyGrows (state v) (state w)
 own_grows state true v w result asked = asks_grow (state v) (state w) result _ asked
 own_grows state false v w result same =
+    subst (λ u. OnlyGrows (state v) (state u)) (sym same.0) (grows_none (state v))
+
+-- whether a number was given twice
+pub compared_grows : {A : Type 0} (state : A → Store) (compares : Bool) (waiting : List ℕ) (v w : A)
+    (found : Result (Option Clash) ExchangeFault)
+    → ComparesFirst state compares waiting v w found → OnlyGrows (state v) (state w)
+compared_grows state true waiting v w found (inl asks) =
+    let asked = asked_for (state v) (state w) found _ asks in
+    asks_grow (state v) (state w) asked.0 _ asked.1
+compared_grows state true waiting v w found (inr same) =
+    subst (λ u. OnlyGrows (state v) (state u)) (sym same.0) (grows_none (state v))
+compared_grows state false waiting v w found same =
     subst (λ u. OnlyGrows (state v) (state u)) (sym same.0) (grows_none (state v))
 
 -- what may be left of some first records

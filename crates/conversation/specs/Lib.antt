@@ -7,6 +7,7 @@ pub mod Receiving
 pub mod Admitting
 pub mod Answering
 pub mod Closing
+pub mod Comparing
 pub mod Starting
 pub mod Moves
 pub mod Conversing

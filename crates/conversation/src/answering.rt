@@ -14,7 +14,7 @@ ghost use Rattle.exchange.specs.declared.message.State.{State as Standing};
 ghost use Rattle.ua_peers.specs.Peers.{ended_as, is_silent};
 ghost use Rattle.conversation.specs.Admitting.{is_own_asked, AsksOwn, restoring_with, restoring_behind, own_bound, IsAdmitted, Refuses};
 ghost use Rattle.conversation.specs.OtherEnds.{unless_over, is_established, IsUsable};
-ghost use Rattle.conversation.specs.Answering.{IsIncomplete, client_ending, peer_ending, web_ending, AnswersClient, MeetsFrame, MeetsPeer, AnswersBrowser, LogsDenial, AnswersFirst};
+ghost use Rattle.conversation.specs.Answering.{IsIncomplete, client_ending, peer_ending, web_ending, AnswersClient, MeetsFrame, MeetsPeer, MeetsCompared, Tells, AnswersBrowser, LogsDenial, AnswersFirst};
 ghost use Rattle.conversation.specs.Events.{audited_by, LogsAudit};
 ghost use Rattle.std.specs.Option.{option_copied};
 ghost use Rattle.ua_session.specs.Sessions.{SessionsState};
@@ -25,6 +25,7 @@ ghost use Rattle.web_connection.specs.declared.step.WebStep.TheVariants.{NeedsIn
 use crate::admitting::{
     admission_at, ask_own, own_bound, restoring_unless, restoring_with, time_at,
 };
+use crate::comparing::judge_call;
 use crate::ended::Ended;
 use crate::log::Log;
 use crate::logins::is_denied;
@@ -298,6 +299,53 @@ fn answer_peer<A: Archive, C: Clock, L>(
     }
 }
 
+/// Tells a peer why a call of it ends; or memory for that is wanting.
+fn refuse_call(
+    alloc: Global,
+    fault: ExchangeFault,
+    out: &mut Vec<u8>,
+) -> Progress<Result<Ended, ServeFault>>
+    ensures tells { (said : List ℕ) × (made : List ℕ) × (told : Result Standing Fault)
+        × (out.new.items ≡ out.old.items ++ made) × TellsFault fault told [] said
+        × Tells said (ended_as None (is_silent said) told) made (end_in result) }
+    ensures whole { result ≡ Lacks → ⊥ }
+    ensures over { end_in result ≡ None → ⊥ }
+{
+    let mut said = Vec::new(alloc);
+    let progress = refuse_frame(alloc, fault, &mut said);
+    if append(said, out) {
+        progress
+    } else {
+        Progress::Ended(Err(ServeFault::OutOfMemory))
+    }
+}
+
+/// Answers the frame that stands first in a peer's dialog, if it is whole. Where that is the first one of a call that looks for
+/// numbers that were given twice, its records are compared before with those that are held: two of one number are told, and end
+/// the call before anything of the frame is learned.
+fn answer_compared<A: Archive, C: Clock, L: Log>(
+    stay: Stay,
+    world: &mut World<A, C, L>,
+    peer: &mut PeerDialog,
+    out: &mut Vec<u8>,
+) -> Progress<Result<Ended, ServeFault>>
+    requires { IsUsable (Peer peer.old) }
+    ensures answers { (made : List ℕ) × (out.new.items ≡ out.old.items ++ made)
+        × MeetsCompared A.state C.gave L.told stay.party world.old peer.old made (end_in result)
+        world.new (unless_over (end_in result) (Peer peer.new)) }
+    ensures sound { end_in result ≡ None → IsUsable (Peer peer.new) }
+    ensures lacks { result ≡ Lacks
+        → (out.new.items ≡ out.old.items) × (frame_header peer.new.frames.waiting ≡ Ok None) }
+{
+    match judge_call(world, stay.party, peer) {
+        None => answer_peer(world, peer, out),
+        Some(fault) => {
+            world.logins.release();
+            refuse_call(world.server.alloc, fault, out)
+        }
+    }
+}
+
 /// What a step of a browser's connection is to it.
 fn web_progress(step: Result<WebStep, AllocError>) -> Progress<Result<Ended, ServeFault>>
     ensures ends { end_in result ≡ web_ending step }
@@ -383,7 +431,7 @@ pub(crate) fn answer_first<A: Archive, C: Clock, L: Log>(
             leave_at_end(other, progress)
         }
         OtherEnd::Peer(peer) => {
-            let progress = answer_peer(world, peer, out);
+            let progress = answer_compared(stay, world, peer, out);
             leave_at_end(other, progress)
         }
         OtherEnd::Browser(web) => {

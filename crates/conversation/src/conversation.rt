@@ -84,7 +84,7 @@ impl<A: Archive, C: Clock, L: Log> Handler for Conversation<A, C, L> {
         world: &mut World<A, C, L>,
         out: &mut Vec<u8>,
     ) -> Option<Self> {
-        match start_call(alloc, world, out) {
+        match start_call(alloc, callee, world, out) {
             Ok(dialog) => Some(Conversation {
                 other: OtherEnd::Peer(PeerDialog {
                     dialog,

@@ -5,6 +5,7 @@ mod admitting;
 mod answering;
 mod calling;
 mod closing;
+mod comparing;
 mod conversation;
 mod door;
 mod ended;

@@ -1,10 +1,11 @@
 //! What is told of connections.
 
-ghost use Rattle.conversation.specs.Events.{Telling, Connected, Audited, Denied, Parted, AcceptFailed, CallEnded, TurnTook};
+ghost use Rattle.conversation.specs.Events.{Telling, Connected, Audited, Denied, Parted, AcceptFailed, CallEnded, ClashFound, TurnTook};
 
 use crate::ended::Ended;
 use counted_io::ServeFault;
 use multiplex::{Origin, SlotEnd, Stay};
+use peer_check::Clash;
 use ua_peers::{SyncFault, Synced};
 use ua_session::AuditEvent;
 
@@ -55,6 +56,11 @@ pub trait Log {
         moved: Synced,
     )
         ensures { told self.old (CallEnded callee address.now outcome moved) self.new };
+
+    /// Tells that a call of the peer of this number in the settings found two records of one number: one that is held, and one that
+    /// the peer holds. Its end is told after it.
+    fn tell_clash(&mut self, callee: usize, clash: &Clash)
+        ensures { told self.old (ClashFound callee clash.now) self.new };
 
     /// Tells that the longest turn of a connection so far took so many milliseconds.
     fn tell_turn(&mut self, longest: u64)
