@@ -7,6 +7,7 @@ use multiplex::{
     Arrival, Call, NonBlockingRead, NonBlockingWrite, Origin, ReadAttempt, Source, Stay,
     WriteAttempt,
 };
+use peer_check::Clash;
 use std::alloc::Global;
 use std::io::{Read, Write};
 use ua_server::{Log, SyncFault, Synced};
@@ -193,6 +194,8 @@ impl Log for Faults {
         _outcome: Result<(), SyncFault>,
         _moved: Synced,
     ) {}
+
+    fn tell_clash(&mut self, _callee: usize, _clash: &Clash) {}
 
     fn tell_turn(&mut self, _longest: u64) {}
 }

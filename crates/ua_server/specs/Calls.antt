@@ -35,7 +35,8 @@ compared_before asked =
     if asked.verify then Some All else if asked.check then Some Last else None
 
 -- so much of what both hold was compared over a connection, and this was found
-pub record Compares (extent : Extent) (old new : Store) (unread left before after : Option (List ℕ))
+pub record HasCompared (extent : Extent) (old new : Store)
+    (unread left before after : Option (List ℕ))
     (found : Result (Option Clash) SyncFault) : Type 0 where
   pub alone : AsksAlone old new found
   pub says : AsksOnly (party_of old) before after
@@ -54,16 +55,16 @@ pub record AgreesFirst {A : Type 0} (extent : Extent) (held : A → Store) (old 
   pub middle : A
   pub rest : Option (List ℕ)
   pub between : Option (List ℕ)
-  pub agrees : Compares extent (held old) (held middle) unread rest before between (Ok None)
+  pub agrees : HasCompared extent (held old) (held middle) unread rest before between (Ok None)
   pub dialog : HasDialog (held middle) (held new) rest left between after ending
 
 -- a clash was found, or comparing met a fault, and no record moved
 abbrev pub EndsCompared : Extent → (old new : Store) → (unread left before after : Option (List ℕ))
     → Result Synced CallFault → Type 0
 EndsCompared extent old new unread left before after ending =
-    ((clash : Clash) × Compares extent old new unread left before after (Ok (Some clash))
+    ((clash : Clash) × HasCompared extent old new unread left before after (Ok (Some clash))
     × (ending ≡ Err (call.Clash clash)))
-    ⊎ ((fault : SyncFault) × Compares extent old new unread left before after (Err fault)
+    ⊎ ((fault : SyncFault) × HasCompared extent old new unread left before after (Err fault)
     × (ending ≡ Err (dialog_fault fault)))
 
 -- a peer was called to exchange records with it; where that is asked for, so much of what both hold

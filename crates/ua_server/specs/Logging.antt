@@ -1,5 +1,5 @@
 -- What is told on standard error of what comes about on connections.
-use Rattle.std.specs.Prelude.{◌≡◌, ◌⊎◌, ℕ, ◌-◌, ◌==◌, ℤ, pos, ◌+ℤ◌, int_le, int_lt, nat_le, ◌&&◌, Bool, true, false, List, [], ◌∷◌, ◌++◌, Option, None, Some, Result, Ok, Err, codes, if◌then◌else◌}
+use Rattle.std.specs.Prelude.{◌≡◌, ◌≢◌, ◌⊎◌, slice_get, ℕ, ◌-◌, ◌==◌, ℤ, pos, ◌+ℤ◌, int_le, int_lt, nat_le, ◌&&◌, Bool, true, false, List, [], ◌∷◌, ◌++◌, Option, None, Some, Result, Ok, Err, codes, if◌then◌else◌}
 use Rattle.std.specs.Fmt.{decimal}
 use Rattle.std.specs.declared.net.socket_addr.SocketAddr.{SocketAddr}
 use Rattle.ua_binary.specs.declared.codes.Status.{Status}
@@ -14,10 +14,13 @@ use Rattle.ua_session.specs.declared.audit.AuditEvent.{AuditEvent}
 use Rattle.ua_session.specs.declared.audit.AuditEvent.TheVariants.{Activation, Update}
 use Rattle.ua_session.specs.declared.audit.UpdateAudit.{UpdateAudit}
 use Rattle.ua_peers.specs.declared.calling.Synced.{Synced}
+use Rattle.peer_check.specs.declared.comparing.Clash.{Clash}
 use Rattle.ua_peers.specs.declared.calling.SyncFault.{SyncFault}
+use Rattle.ua_peers.specs.declared.calling.SyncFault.TheVariants.{Exchange}
 use Rattle.ua_peers.specs.declared.peers.PeerEnded.{PeerEnded}
 use Rattle.ua_peers.specs.declared.peers.PeerEnded.TheVariants as peer
 use Rattle.exchange.specs.Fault.{exchange_number}
+use Rattle.exchange.specs.declared.fault.ExchangeFault.TheVariants.{GivenTwice}
 use Rattle.ua_connection.specs.declared.outcome.Served.{Served}
 use Rattle.ua_connection.specs.declared.outcome.Served.TheVariants as client
 use Rattle.history_text.specs.Statuses.{status_text}
@@ -30,8 +33,9 @@ use Rattle.conversation.specs.declared.ended.Ended.TheVariants as ended
 use Rattle.conversation.specs.declared.log.Parting.{Parting}
 use Rattle.conversation.specs.Closing.{connection_fault}
 use Rattle.conversation.specs.Doors.{door_of_listener}
-use Rattle.conversation.specs.Events.{LogEvent, Telling, Connected, Audited, Denied, Parted, AcceptFailed, CallEnded, TurnTook}
+use Rattle.conversation.specs.Events.{LogEvent, Telling, Connected, Audited, Denied, Parted, AcceptFailed, CallEnded, ClashFound, TurnTook}
 use Rattle.conversation.specs.OtherEnds.{ConversationEnding}
+use Rattle.ua_server.specs.Calls.{PrintsClash}
 use Rattle.ua_server.specs.declared.log.ErrorLog.{ErrorLog}
 use Rattle.ua_server.specs.declared.recent.Recent.{Recent}
 use Rattle.ua_server.specs.Telling.{Known, Readings, LogsLine, LogsFault, LogsFailed, LogsCall, LogsTurn, told_line, numbered, fault_text, sync_fault}
@@ -252,6 +256,16 @@ LogsCalled {E} {C} contents gave callee address outcome moved old new =
     × LogsWhere between new
     (LogsTimed contents gave (call_text address (call_reason outcome) (moved_of moved)) between new)
 
+-- two records of one number that a call found were told by their table, as far as that could be
+-- written; not where the last call of that peer ended by such too
+abbrev pub LogsTable : {E C : Type 0} → Known E → (callee : ℕ) → Clash → (old new : ErrorLog E C)
+    → Type 0
+LogsTable contents callee clash old new =
+    let last : Option SyncFault = Some (Exchange GivenTwice) in
+    ((slice_get old.calls callee ≡ Some last) × (new ≡ old))
+    ⊎ ((slice_get old.calls callee ≢ Some last) × (new ≡ record old { errors = new.errors })
+    × PrintsClash clash (contents old.errors.inner) (contents new.errors.inner))
+
 -- what is told on standard error of what comes about on connections
 abbrev pub logs_to : {E C : Type 0} → Known E → Readings C → Telling (ErrorLog E C)
 logs_to contents gave old event new = elim event [
@@ -265,5 +279,6 @@ logs_to contents gave old event new = elim event [
   | AcceptFailed now ↦ LogsFailed contents old now new
   | CallEnded callee address outcome moved ↦
       LogsCalled contents gave callee address outcome moved old new
+  | ClashFound callee clash ↦ LogsTable contents callee clash old new
   | TurnTook longest ↦ LogsTurn contents old longest new
 ]

@@ -6,12 +6,15 @@ ghost use Rattle.std.specs.Io.KnownBytes.{Appends};
 ghost use Rattle.counted_io.specs.Bytes.{counted, AppendsPart};
 ghost use Rattle.ua_server.specs.Telling.{failed_line, failed_text, turn_text, fault_text, sync_fault, outcome_text, behind_peer, behind_name, call_lines};
 
+use crate::calls::print_clash;
 use crate::program::{ProgramFault, numbered, report, tell};
 use crate::recent::Recent;
 use conversation::{Log, Parting, connection_fault};
 use counted_io::{Counted, ServeFault};
+use exchange::ExchangeFault;
 use itoa::Buffer;
 use multiplex::{Origin, Stay};
+use peer_check::Clash;
 use std::alloc::Global;
 use std::fmt::InlineText;
 use std::io::Write;
@@ -121,6 +124,21 @@ impl<E: Write, C: Clock> ErrorLog<E, C> {
     }
 }
 
+impl<E: Write, C: Clock> ErrorLog<E, C> {
+    ghost use Rattle.ua_server.specs.Logging.{LogsTable};
+
+    /// Writes a table of two records of one number, where the last call of the peer didn't end by such.
+    fn log_clash(&mut self, callee: usize, clash: &Clash)
+        ensures { LogsTable E.contents callee clash.now self.old self.new }
+    {
+        let twice = Some(SyncFault::Exchange(ExchangeFault::GivenTwice));
+        if self.is_told(callee, twice) {
+            return;
+        }
+        print_clash(self.alloc, clash, &mut self.errors);
+    }
+}
+
 impl<E: Write, C: Clock> Log for ErrorLog<E, C> {
     ghost use Rattle.ua_server.specs.Logging.{logs_to};
 
@@ -179,6 +197,11 @@ impl<E: Write, C: Clock> Log for ErrorLog<E, C> {
         if self.events {
             self.log_call(address, outcome, moved);
         }
+    }
+
+    /// Tells the two records of one number that a call found by a table of CSV, where the last call of that peer didn't end so.
+    fn tell_clash(&mut self, callee: usize, clash: &Clash) {
+        self.log_clash(callee, clash);
     }
 
     /// Tells by a line how long the longest turn so far took, where it took longer than the one that was told last.

@@ -80,7 +80,10 @@ static KEYS: [(&str, &str); 9] = [
         "[[variable]] ",
         "there is no such key: want id, name, type, array or folder",
     ),
-    ("[[peer]] ", "there is no such key: want address, every or check"),
+    (
+        "[[peer]] ",
+        "there is no such key: want address, every or check",
+    ),
     (
         "[door] ",
         "there is no such key: want listen, from, replicas or ahead",
@@ -225,7 +228,9 @@ fn of_exchange(number: u32) -> Option<&'static str> {
         8 => Some("the peer speaks an older format of exchanges: compare the versions"),
         9 => Some("a record is ahead of a clock: compare the clocks, and [door] ahead"),
         10 => Some("a record is of a replica that a [door] doesn't take: compare its replicas"),
-        11 => Some("a number was given to two records: an old copy of a store was put back, or two machines have one number"),
+        11 => Some(
+            "a number was given to two records: an old copy of a store was put back, or two machines have one number",
+        ),
         _ => Some("the number is the peer's own"),
     }
 }

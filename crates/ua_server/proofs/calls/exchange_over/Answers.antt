@@ -1,6 +1,6 @@
 use Rattle.std.proofs.Common.{Option, Ok, inl, sym, ap, ◌∙◌, subst}
 use Rattle.peer_check.specs.declared.comparing.Extent.{Extent}
-use Rattle.ua_server.specs.Calls.{Exchanges, Compares, HasDialog}
+use Rattle.ua_server.specs.Calls.{Exchanges, HasCompared, HasDialog}
 use Rattle.ua_server.proofs.calls.exchange_over.Goals as goal
 use Rattle.ua_server.proofs.calls.exchange_over.Goals.{in-Some+in-Ok-None, in_default}
 
@@ -17,7 +17,7 @@ returns-clause-exchanges g c =
     elim c.match-compared.branch [
       | in-Some+in-Ok-None w ↦
           let none = w.in-Ok-None.is ∙ ap Ok w.in-Ok-None.field-0-is in
-          let found : Compares w.in-Some.extent (held old) (held w.compare.new.replica.archive)
+          let found : HasCompared w.in-Some.extent (held old) (held w.compare.new.replica.archive)
           (unread c.args.reader.now.inner) (unread w.compare.new.reader.inner)
           (told c.args.writer.now.inner) (told w.compare.new.writer.inner) w.compare.result =
           record {
