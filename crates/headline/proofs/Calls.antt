@@ -1,9 +1,10 @@
 -- When a call is done each end holds all that the other held.
-use Rattle.std.proofs.Common.{◌≡◌, ℕ, zero, suc, List, [], ◌∷◌, Option, Some, None, Result, Ok, Err, refl, sym, ap, ◌∙◌, subst, arith, inl, inr}
+use Rattle.std.proofs.Common.{◌≡◌, ◌≤◌, ℕ, zero, suc, List, [], ◌∷◌, Option, Some, None, Result, Ok, Err, refl, sym, ap, ◌∙◌, subst, arith, inl, inr}
 use Rattle.std.specs.Prelude.{nat_lt}
 use Rattle.std.specs.Option.{option_map_or}
 use Rattle.std.proofs.lemmas.Bool.{cases_Bool, ltb-true, ltb-false}
 use Rattle.std.proofs.lemmas.Option.{none-some, same_Some}
+use Rattle.stamp.specs.Limits.{IsReplica}
 use Rattle.stamp.specs.Numbers.{number_of}
 use Rattle.records.specs.Contents.{Content, AreCompatible, IsWithin, numbers_of, vec, merged}
 use Rattle.records.specs.declared.record.Record.{Record}
@@ -27,7 +28,7 @@ use Rattle.exchange.proofs.TitleLemmas.{batch_is}
 use Rattle.ua_peers.specs.Peers.{Taken, Side, turn_of, side_after, AreAnswered, message_to}
 use Rattle.ua_peers.proofs.Joined.{numbered}
 use Rattle.headline.specs.Executions.{Execution, IsExecution}
-use Rattle.headline.specs.Calls.{WasHeld, CallState, Round, GoesBy, call_begun}
+use Rattle.headline.specs.Calls.{WasHeld, CallState, Round, GoesBy, AskForAll, call_begun}
 use Rattle.headline.proofs.Times.{lawful_was, together}
 
 -- a call that stands so
@@ -48,16 +49,25 @@ module _ (e : Execution) (past : IsExecution e) (p q : Party) where
       (subst (AreCompatible one.0.content) other.2
       (together e one.0 other.0 past one.1 other.1).compatible)
 
-  -- what a vector of R lacks of S is none: all of S is in R
-  all_within : (R S : Content) → WasHeld e R → WasHeld e S → IsBatchFor S (vec R) []
+  -- what numbers lack of S is none, and none of them is above R's: all of S is in R
+  all_within : (R S : Content) (v : ℕ → ℕ) → WasHeld e R → WasHeld e S
+      → ((replica : ℕ) → IsReplica replica → v replica ≤ vec R replica) → IsBatchFor S v []
       → IsWithin S R
-  all_within R S one other is r h = elim (cases_Bool (nat_lt (vec R r.origin) r.number)) [
+  all_within R S v one other within is r h = elim (cases_Bool (nat_lt (v r.origin) r.number)) [
     | inl lacks ↦
-        let some = some_fits S (vec R) [] r (lawful_held S other) is h (ltb-true _ _ lacks) in
+        let some = some_fits S v [] r (lawful_held S other) is h (ltb-true _ _ lacks) in
         absurd (omega (arith, some))
-    | inr covers ↦ reached R S (lawful_held R one).closed (lawful_held S other).closed
-        (agree_held R S one other) r h (ltb-false _ _ covers)
+    | inr covers ↦
+        let least = within r.origin ((lawful_held S other).records r h).origin in
+        let le = ltb-false _ _ covers in
+        reached R S (lawful_held R one).closed (lawful_held S other).closed
+        (agree_held R S one other) r h (omega (arith, least, le))
   ]
+
+  -- a replica's own numbers ask for all that it lacks
+  own_asks : (R : Content) → WasHeld e R → AskForAll R (numbers_of R)
+  own_asks R held replica is =
+      let same = numbers_are R (lawful_held R held) replica in omega (arith, same)
 
   batch_by : (R S : Content) → WasHeld e R → WasHeld e S
       → IsBatchFor S (vec R) (batch_of S (number_of (numbers_of R)))
@@ -104,7 +114,10 @@ module _ (e : Execution) (past : IsExecution e) (p q : Party) where
   pushing_then n later here there state after one other [] is goes rest done =
       let end = alone n (stands (Some (Ends 0)) state here there) after rest
       (end_alone state here there) in
-      subst (Both here) (sym end) (λ r h. h, all_within there here other one is)
+      subst (Both here) (sym end) (
+        λ r h. h,
+        all_within there here (vec there) other one (λ replica some. omega arith) is,
+      )
   pushing_then n later here there state after one other (r ∷ rs) is goes rest done =
       let same : Pushing ≡ state = cc in
       later here there (r ∷ rs) after (subst (λ (x : State).
@@ -175,9 +188,13 @@ module _ (e : Execution) (past : IsExecution e) (p q : Party) where
 
   -- ---- the caller pulls
 
+  -- the question for what these numbers lack
+  abbrev asking_by : List ℕ → Message
+  asking_by v = Asks (record { id = p.id; sender = p.own; vector = v })
+
   abbrev Pulled : ℕ → Type 0
-  Pulled n = (A B : Content) (after : CallState) → WasHeld e A
-      → GoesBy e p q n (call_begun p A B) after → after.state ≡ Done → Both B after
+  Pulled n = (v : List ℕ) (A B : Content) (after : CallState) → WasHeld e A → AskForAll A v
+      → GoesBy e p q n (call_begun p v A B) after → after.state ≡ Done → Both B after
 
   -- it learned all, and asks again; or it failed
   learns_then : (n : ℕ) → Pulled n → (there M : Content) (state : State) (after : CallState)
@@ -187,50 +204,51 @@ module _ (e : Execution) (past : IsExecution e) (p q : Party) where
       (learnt p Pulling M refused).content there) after → after.state ≡ Done → Both there after
   learns_then n later there M state after None goes held rest done =
       let same : Pulling ≡ state = cc in
-      later M there after held (subst (λ (x : State).
+      later (numbers_of M) M there after held (own_asks M held) (subst (λ (x : State).
       GoesBy e p q n (stands (Some (Asks (title_by p M))) x M there) after) (sym same) rest) done
   learns_then n later there M state after (Some f) goes held rest done = absurd cc
 
   -- what it lacked came, or nothing, and then it pushes
-  batch_then : (n : ℕ) → Pulled n → (A here there : Content) (state : State) (after : CallState)
+  batch_then : (n : ℕ) → Pulled n → (v : List ℕ) (A here there : Content) (state : State)
+      (after : CallState) → AskForAll A v
       → IsWithin A here → WasHeld e A → WasHeld e here → WasHeld e there → (batch : List Record)
-      → IsBatchFor there (vec A) batch
+      → IsBatchFor there (number_of v) batch
       → (turned p Pulling here (Carries (title_by q there) batch)).result ≡ Ok state
       → WasHeld e (turned p Pulling here (Carries (title_by q there) batch)).content
       → GoesBy e p q n
       (stands (turned p Pulling here (Carries (title_by q there) batch)).reply state
       (turned p Pulling here (Carries (title_by q there) batch)).content there) after
       → after.state ≡ Done → Both there after
-  batch_then n later A here there state after grown first one other [] is goes held rest done =
+  batch_then n later v A here there state after asks grown first one other [] is goes held rest
+      done =
       let both = pushing_then n (pushes n) here there state after one other
       (batch_of here (number_of (numbers_of there))) (batch_by there here other one) goes rest done
       in (
-        within_then there A after.here (all_within A there first other is)
+        within_then there A after.here (all_within A there (number_of v) first other asks is)
             (within_then A here after.here grown both.0),
         both.1,
       )
-  batch_then n later A here there state after grown first one other (r ∷ rs) is goes held rest
-      done =
+  batch_then n later v A here there state after asks grown first one other (r ∷ rs) is goes held
+      rest done =
       learns_then n later there (merged (r ∷ rs) here) state after (refusal 0 here (r ∷ rs)) goes
       held rest done
 
   pulls : (n : ℕ) → Pulled n
-  pulls zero A B after held is done =
+  pulls zero v A B after held asks is done =
       let never : Pulling ≡ Done = ap (λ (x : CallState). x.state) (sym is) ∙ done in absurd cc
-  pulls (suc n) A B after held (round, rest) done =
-      asked_so (pulls n) round.asked (same_Some (Asks (title_by p A)) round.asked round.said)
-      round.told rest
+  pulls (suc n) v A B after held asks (round, rest) done =
+      asked_so (pulls n) round.asked (same_Some (asking_by v) round.asked round.said) round.told
+      rest
     where
       answered_so : Pulled n → (m : Message)
-          → Carries (title_by q round.there) (batch_of round.there (number_of (numbers_of A))) ≡ m
+          → Carries (title_by q round.there) (batch_of round.there (number_of v)) ≡ m
           → (turned p Pulling round.here m).result ≡ Ok round.state
           → WasHeld e (turned p Pulling round.here m).content
           → Follows n Pulling round.state round.here round.there after m → Both B after
       answered_so later m is goes behind rest =
-          let both = batch_then n later A round.here round.there round.state after
-          round.grown.0 held round.held.0 round.held.1
-          (batch_of round.there (number_of (numbers_of A)))
-          (batch_by A round.there held round.held.1)
+          let both = batch_then n later v A round.here round.there round.state after asks
+          round.grown.0 held round.held.0 round.held.1 (batch_of round.there (number_of v))
+          (batch_is round.there (number_of v) (lawful_held round.there round.held.1))
           (subst (λ (x : Message). (turned p Pulling round.here x).result ≡ Ok round.state)
           (sym is) goes)
           (subst (λ (x : Message). WasHeld e (turned p Pulling round.here x).content) (sym is)
@@ -238,7 +256,7 @@ module _ (e : Execution) (past : IsExecution e) (p q : Party) where
           (subst (Follows n Pulling round.state round.here round.there after) (sym is) rest) done in
           (within_then B round.there after.here round.grown.1 both.0, both.1)
 
-      asked_so : Pulled n → (m : Message) → Asks (title_by p A) ≡ m
+      asked_so : Pulled n → (m : Message) → asking_by v ≡ m
           → (turned q Serving round.there m).reply ≡ Some round.answer
           → Follows n Pulling round.state round.here (turned q Serving round.there m).content after
           round.answer → Both B after
@@ -249,10 +267,12 @@ module _ (e : Execution) (past : IsExecution e) (p q : Party) where
           (subst (λ (x : Message). Follows n Pulling round.state round.here
           (turned q Serving round.there x).content after round.answer) (sym is) rest)
 
-  pub done_both : (here there : Content) (rounds : ℕ) (after : CallState) → WasHeld e here
-      → GoesBy e p q rounds (call_begun p here there) after → after.state ≡ Done
+  pub done_both : (here there : Content) (asked : List ℕ) (rounds : ℕ) (after : CallState)
+      → WasHeld e here → AskForAll here asked
+      → GoesBy e p q rounds (call_begun p asked here there) after → after.state ≡ Done
       → IsWithin there after.here × IsWithin after.here after.there
-  done_both here there rounds after held goes done = pulls rounds here there after held goes done
+  done_both here there asked rounds after held asks goes done =
+      pulls rounds asked here there after held asks goes done
 
 -- ---- what a frame that is taken comes to
 

@@ -24,14 +24,16 @@ use Rattle.conversation.specs.declared.other_end.PeerDialog.{PeerDialog}
 use Rattle.conversation.specs.declared.world.World.{World}
 use Rattle.conversation.specs.OtherEnds.{ConversationEnding}
 use Rattle.conversation.specs.Admitting.{AsksOwn}
-use Rattle.conversation.specs.Answering.{AnswersClient, AnswersPeer, LearnsFromPeer, RefusesPeer, Tells}
+use Rattle.conversation.specs.Answering.{AnswersClient, AnswersPeer, LearnsFromPeer, RefusesPeer, EndsByComparing, Tells}
+use Rattle.conversation.specs.Comparing.{ComparesFirst, FindsNone}
 use Rattle.conversation.specs.Closing.{TellsCallOf}
 use Rattle.conversation.specs.Events.{Telling}
 use Rattle.conversation.specs.OtherEnds.{none_moved}
+use Rattle.multiplex.specs.declared.stay.Party.{Party as OtherParty}
 use Rattle.multiplex.specs.declared.stay.Stay.{Stay}
 use Rattle.ua_peers.specs.declared.calling.Synced.{Synced}
 use Rattle.conversation.specs.Starting.{AsksPeer, BeginsBy, StartsCall}
-use Rattle.conversation.proofs.Asked.{own_leaves, own_answered, same_party, talks_behind}
+use Rattle.conversation.proofs.Asked.{own_leaves, own_answered, compared_leaves, none_found, leaves_behind, same_party, talks_behind}
 use Rattle.headline.specs.Machines.{RestartsAs, IsMachine}
 use Rattle.headline.specs.Plants.{AreUnforged, BeginsCall, Plant, plant_after, IsClientTurn, IsPeerTurn, IsCallTurn, IsLearningTurn, IsRefusalTurn}
 
@@ -45,11 +47,12 @@ told_part said made ends ending (inr none) = (said, told none.0)
     told e = ap (λ (l : List ℕ). l ++ said) (sym e)
 
 -- the frame that asks was made and is written, or not kept
-begun_by : (a b : Store) (made : List ℕ) (result : Result (Unit {0}) ExchangeFault)
-    → AsksPeer a b made result → BeginsCall a b made
-begun_by a b made result (inl greets) = (made, result, greets, ([], sym (append-nil made)))
-begun_by a b made result (inr (frame, greets, none, starved)) =
-    (frame, Ok tt, greets, (frame, ap (λ (l : List ℕ). l ++ frame) (sym none)))
+begun_by : (checks : Bool) (a b : Store) (made : List ℕ) (result : Result (Unit {0}) ExchangeFault)
+    → AsksPeer checks a b made result → BeginsCall a b made
+begun_by checks a b made result (inl greets) =
+    (checks, made, result, greets, ([], sym (append-nil made)))
+begun_by checks a b made result (inr (frame, greets, none, starved)) =
+    (checks, frame, Ok tt, greets, (frame, ap (λ (l : List ℕ). l ++ frame) (sym none)))
 
 -- records that are learned ahead over what an archive holds behind a query are learned over what it
 -- held before, since an archive that answers is in use
@@ -101,6 +104,7 @@ learned_behind a b c start last rs result stays leaves learns = record {
     told (Err exchange.PeerFormat) tells = absurd tells
     told (Err exchange.AheadOfClock) tells = absurd tells
     told (Err exchange.NotAdmitted) tells = absurd tells
+    told (Err exchange.GivenTwice) tells = absurd tells
 
 -- so they are where it may have been asked how many records of its own number it holds
 ahead_behind : {A : Type 0} (state : A → Store) (asks : Bool) (v w : A) (held : Option ℕ)
@@ -114,6 +118,24 @@ ahead_behind state true v w held c start last waiting result asked learns =
     (subst (λ (p : Party). LearnsAhead (state w) c start last (first_records p start waiting)
     result) (same_party (state v) (state w) [] asked.leaves.passes) learns)
 ahead_behind {A} state false v w held c start last waiting result same learns =
+    subst (λ (u : A). LearnsAhead (state u) c start last
+    (first_records (party_of (state u)) start waiting) result) same.0 learns
+
+-- and so they are where a call compared the first frame before, and found no number given twice
+compared_behind : {A : Type 0} (state : A → Store) (compares : Bool) (first : List ℕ) (v w : A)
+    (c : Store) (start last : DialogState) (waiting : List ℕ)
+    (result : Result (Option ℕ) ExchangeFault) → ComparesFirst state compares first v w (Ok None)
+    → LearnsAhead (state w) c start last (first_records (party_of (state w)) start waiting) result
+    → LearnsAhead (state v) c start last (first_records (party_of (state v)) start waiting) result
+compared_behind state true first v w c start last waiting result (inl asked) learns =
+    learned_behind (state v) (state w) c start last
+    (first_records (party_of (state v)) start waiting) result asked.stays asked.leaves
+    (subst (λ (p : Party). LearnsAhead (state w) c start last (first_records p start waiting)
+    result) (same_party (state v) (state w) [] asked.leaves.passes) learns)
+compared_behind {A} state true first v w c start last waiting result (inr same) learns =
+    subst (λ (u : A). LearnsAhead (state u) c start last
+    (first_records (party_of (state u)) start waiting) result) same.0 learns
+compared_behind {A} state false first v w c start last waiting result same learns =
     subst (λ (u : A). LearnsAhead (state u) c start last
     (first_records (party_of (state u)) start waiting) result) same.0 learns
 
@@ -149,10 +171,10 @@ module _ {A C L : Type 0} (state : A → Store) where
     now = refl;
   }
 
-  pub peer_turns : (gave : C → List ℤ → C → Type 0) (v w : World A C L) (peer : PeerDialog)
-      (made : List ℕ)
+  pub peer_turns : (gave : C → List ℤ → C → Type 0) (party : OtherParty) (v u w : World A C L)
+      (peer : PeerDialog) (made : List ℕ)
       (ending : Option ConversationEnding) (next : OtherEnd) (old : Plant A) (place : ℕ) (later : A)
-      (answers : AnswersPeer state gave v peer made ending w next)
+      → FindsNone state party peer v u → (answers : AnswersPeer state gave u peer made ending w next)
       → AreUnforged old.written (party_of (state v.server.replica.archive))
       (map (λ t. t.frame) answers.once.talks.taken)
       → IsMachine state old.machines place v.server.replica.archive
@@ -160,7 +182,9 @@ module _ {A C L : Type 0} (state : A → Store) where
       → RestartsAs (state w.server.replica.archive) (state later)
       → IsPeerTurn state old (plant_after old place later made)
   unfolding talks_behind
-  peer_turns gave v w peer made ending next old place later answers unforged there honest goes =
+  peer_turns gave party v u w peer made ending next old place later none answers unforged there
+      honest goes =
+      let first = none_found state _ _ _ _ none.1 in
       let kept = own_answered state _ _ answers.between _ answers.takes.asks in
       record {
         place = place;
@@ -177,7 +201,8 @@ module _ {A C L : Type 0} (state : A → Store) where
             rest = answers.rest;
             ending = answers.ends;
             last = answers.last;
-            talks = talks_behind _ _ _ _ _ _ _ _ _ kept.0 kept.1 answers.once.talks;
+            talks = talks_behind _ _ _ _ _ _ _ _ _ first.0 first.1
+                (talks_behind _ _ _ _ _ _ _ _ _ kept.0 kept.1 answers.once.talks);
             unforged = unforged;
             part = told_part answers.said made answers.ends ending answers.tells;
           };
@@ -187,16 +212,18 @@ module _ {A C L : Type 0} (state : A → Store) where
         now = refl;
       }
 
-  pub learning_turns : (gave : C → List ℤ → C → Type 0) (v w : World A C L) (peer : PeerDialog)
-      (made : List ℕ) (ending : Option ConversationEnding) (next : OtherEnd) (old : Plant A)
-      (place : ℕ) (later : A) → LearnsFromPeer state gave v peer made ending w next
+  pub learning_turns : (gave : C → List ℤ → C → Type 0) (party : OtherParty) (v u w : World A C L)
+      (peer : PeerDialog) (made : List ℕ) (ending : Option ConversationEnding) (next : OtherEnd)
+      (old : Plant A) (place : ℕ) (later : A) → FindsNone state party peer v u
+      → LearnsFromPeer state gave u peer made ending w next
       → AreUnforged old.written (party_of (state v.server.replica.archive))
       (option_to_list (first_frame peer.frames.waiting))
       → IsMachine state old.machines place v.server.replica.archive
       → (state w.server.replica.archive).honest
       → RestartsAs (state w.server.replica.archive) (state later)
       → IsLearningTurn state old (plant_after old place later made)
-  learning_turns gave v w peer made ending next old place later learns unforged there honest goes =
+  learning_turns gave party v u w peer made ending next old place later none learns unforged there
+      honest goes =
       record {
         place = place;
         before = v.server.replica.archive;
@@ -212,9 +239,12 @@ module _ {A C L : Type 0} (state : A → Store) where
             result = learns.result;
             said = learns.said;
             ends = learns.ends;
-            learns = ahead_behind state _ v.server.replica.archive learns.between learns.takes.held
+            learns = compared_behind state _ _ v.server.replica.archive u.server.replica.archive
                 (state w.server.replica.archive) peer.dialog learns.last peer.frames.waiting
-                learns.result learns.takes.asks learns.learns;
+                learns.result none.1
+                (ahead_behind state _ u.server.replica.archive learns.between learns.takes.held
+                (state w.server.replica.archive) peer.dialog learns.last peer.frames.waiting
+                learns.result learns.takes.asks learns.learns);
             unforged = unforged;
             told = learns.told;
             part = told_part learns.said made learns.ends ending learns.tells;
@@ -225,15 +255,19 @@ module _ {A C L : Type 0} (state : A → Store) where
         now = refl;
       }
 
-  pub refusal_turns : (gave : C → List ℤ → C → Type 0) (v w : World A C L) (peer : PeerDialog)
-      (made : List ℕ) (ending : Option ConversationEnding) (next : OtherEnd) (old : Plant A)
-      (place : ℕ) (later : A) → RefusesPeer state gave v peer made ending w next
+  pub refusal_turns : (gave : C → List ℤ → C → Type 0) (party : OtherParty) (v u w : World A C L)
+      (peer : PeerDialog) (made : List ℕ) (ending : Option ConversationEnding) (next : OtherEnd)
+      (old : Plant A) (place : ℕ) (later : A) → FindsNone state party peer v u
+      → RefusesPeer state gave u peer made ending w next
       → IsMachine state old.machines place v.server.replica.archive
       → (state w.server.replica.archive).honest
       → RestartsAs (state w.server.replica.archive) (state later)
       → IsRefusalTurn state old (plant_after old place later made)
-  refusal_turns gave v w peer made ending next old place later refuses there honest goes =
-      let left = own_leaves state _ _ _ refuses.asked refuses.asks in record {
+  refusal_turns gave party v u w peer made ending next old place later none refuses there honest
+      goes =
+      let first = none_found state _ _ _ _ none.1 in
+      let left = leaves_behind _ _ _ first.0 first.1
+      (own_leaves state _ _ _ refuses.asked refuses.asks) in record {
         place = place;
         before = v.server.replica.archive;
         later = later;
@@ -250,6 +284,40 @@ module _ {A C L : Type 0} (state : A → Store) where
             passes = left.passes;
             tells = refuses.refuses.tells;
             part = told_part refuses.said made refuses.ends ending refuses.tells;
+          };
+          honest = honest;
+          goes = goes;
+        };
+        now = refl;
+      }
+
+  -- a call was ended by what it found, or met, as it compared the first frame
+  pub comparing_turns : (told : Telling L) (party : OtherParty) (v w : World A C L)
+      (peer : PeerDialog) (made : List ℕ) (ending : Option ConversationEnding) (next : OtherEnd)
+      (old : Plant A) (place : ℕ) (later : A)
+      → EndsByComparing state told party v peer made ending w next
+      → IsMachine state old.machines place v.server.replica.archive
+      → (state w.server.replica.archive).honest
+      → RestartsAs (state w.server.replica.archive) (state later)
+      → IsRefusalTurn state old (plant_after old place later made)
+  comparing_turns told party v w peer made ending next old place later ends there honest goes =
+      let left = compared_leaves state _ _ _ _ ends.found ends.compares in record {
+        place = place;
+        before = v.server.replica.archive;
+        later = later;
+        made = made;
+        there = there;
+        acts = record {
+          behind = w.server.replica.archive;
+          does = record {
+            fault = ends.fault;
+            told = ends.result;
+            said = ends.said;
+            faults = left.faults;
+            stays = left.stays;
+            passes = left.passes;
+            tells = ends.tells;
+            part = told_part ends.said made _ ending ends.written;
           };
           honest = honest;
           goes = goes;
@@ -293,7 +361,7 @@ module _ {A C L : Type 0} (state : A → Store) where
         there = there;
         acts = record {
           behind = starts.between.server.replica.archive;
-          does = begun_by _ _ made starts.result starts.asks;
+          does = begun_by _ _ _ made starts.result starts.asks;
           honest = subst (λ (x : A). (state x).honest) same honest;
           goes = subst (λ (x : A). RestartsAs (state x) (state later)) same goes;
         };

@@ -1,5 +1,5 @@
 -- What happens at a plant, turn by turn, is what happens to the replicas of a past.
-use Rattle.std.proofs.Common.{◌≡◌, ◌<◌, ◌^◌, ℕ, List, [], ◌∷◌, ◌++◌, map, length, Option, Some, None, option_to_list, Result, Ok, Err, refl, sym, ap, ◌∙◌, subst, inl, inr}
+use Rattle.std.proofs.Common.{◌≡◌, ◌<◌, ◌^◌, ℕ, Bool, true, false, List, [], ◌∷◌, ◌++◌, map, length, Option, Some, None, option_to_list, Result, Ok, Err, refl, sym, ap, ◌∙◌, subst, inl, inr}
 use Rattle.std.specs.Prelude.{slice_set}
 use Rattle.std.specs.List.{AllByRecursion}
 use Rattle.std.specs.Option.{option_map_or}
@@ -8,7 +8,8 @@ use Rattle.records.specs.Lists.{Has}
 use Rattle.records.specs.Contents.{Content}
 use Rattle.records.specs.declared.record.Record.{Record}
 use Rattle.records.proofs.ContentLemmas.{has_from_append}
-use Rattle.archive.specs.Store.{Store}
+use Rattle.archive.specs.declared.fault.StoreFault.{StoreFault}
+use Rattle.archive.specs.Store.{Store, CountsFaults, KeepsContent}
 use Rattle.archive.proofs.Acting.{left-alone, left-stays}
 use Rattle.counted_io.specs.declared.fault.ServeFault.{ServeFault}
 use Rattle.conversation.specs.Admitting.{TellsAhead}
@@ -19,7 +20,7 @@ use Rattle.exchange.specs.Fault.{exchange_number}
 use Rattle.exchange.specs.Admissions.{first_frame}
 use Rattle.exchange.specs.Ahead.{first_records}
 use Rattle.exchange.specs.Messages.{Party}
-use Rattle.exchange.specs.Dialogs.{DialogState, Greets, TellsFault, title_by, unfit, received, records_read, party_of}
+use Rattle.exchange.specs.Dialogs.{DialogState, TellsFault, title_by, unfit, received, records_read, party_of}
 use Rattle.exchange.specs.Frames.{message_at}
 use Rattle.exchange.specs.Streams.{FrameContent}
 use Rattle.exchange.specs.Running.{AreSites, IsSiteOf}
@@ -32,6 +33,7 @@ use Rattle.ua_peers.specs.Wires.{IsStartOf}
 use Rattle.ua_peers.specs.declared.peers.PeerEnded.{PeerEnded}
 use Rattle.ua_peers.proofs.Exchanged.{run_append}
 use Rattle.ua_peers.proofs.Joined.{numbered}
+use Rattle.conversation.specs.Starting.{GreetsPeer}
 use Rattle.headline.specs.Answers.{IsInUse}
 use Rattle.headline.specs.Executions.{IsLawfulEvent, Execution, IsExecution}
 use Rattle.headline.specs.Machines.{Simulates}
@@ -116,6 +118,13 @@ lawful_pool p past batch h r k =
     let x = sound.known batch h r k in
     (lawful_at p (length p.events) x.0 x.1 past
     (subst (λ (v : World). IsReplicaAt v x.0 x.1) (sym (ends_at p)) x.2)).records r x.3
+
+-- the frame by which a call begins, of either kind, leaves what is held
+greeted : (checks : Bool) (a b : Store) (frame : List ℕ) (result : Result (Unit {0}) ExchangeFault)
+    → GreetsPeer checks a b frame result
+    → (faults : List StoreFault) × KeepsContent a b × CountsFaults a b faults
+greeted true a b frame result greets = (_, greets.stays, greets.passes)
+greeted false a b frame result greets = (_, greets.stays, greets.passes)
 
 module _ {A : Type 0} (state : A → Store) where
   pub plant_begun : (plant : Plant A) → IsNewPlant state plant
@@ -259,31 +268,45 @@ module _ {A : Type 0} (state : A → Store) where
       let w : World = run p.events p.start in
       let a : Store = state turn.before in
       let does = turn.acts.does in
-      let greets = does.2 in
-      let left = left-stays a (state turn.acts.behind) _ (state turn.later).content greets.stays
-      greets.passes turn.acts.honest turn.acts.goes.content in
+      let asked = greeted does.0 a (state turn.acts.behind) does.1 does.2 does.3 in
+      let left = left-stays a (state turn.acts.behind) _ (state turn.later).content asked.1
+      asked.2 turn.acts.honest turn.acts.goes.content in
       let same : (state turn.later).content ≡ x.s.content =
       left-alone a (state turn.later).content x.used.durable x.used.honest x.used.unbroken left
       ∙ sym x.content in
-      turned BeginsCall p old new are turn x.s x.at x.is greets.passes.id greets.passes.own [] tt
+      turned BeginsCall p old new are turn x.s x.at x.is asked.2.id asked.2.own [] tt
       (record {
         here = subst (λ (R : Content). IsReplicaAt w turn.place (record x.s { content = R }))
             (sym same) x.at;
         others = λ j other. refl;
       })
-      (brings_part w.pool turn.made does.0 does.3 (word does.0 does.1 greets x))
+      (brings_part w.pool turn.made does.1 does.4 (word does.0 does.1 does.2 does.3 x))
     where
-      word : (frame : List ℕ) (result : Result (Unit {0}) ExchangeFault)
-          → Greets (state turn.before) (state turn.acts.behind) [] frame result
+      word : (checks : Bool) (frame : List ℕ) (result : Result (Unit {0}) ExchangeFault)
+          → GreetsPeer checks (state turn.before) (state turn.acts.behind) frame result
           → IsThere p turn.place turn.before → BringsSent (run p.events p.start).pool frame
-      word frame (Ok u) greets x = brings_word (run p.events p.start).pool frame (inr (
+      word true frame (Ok u) greets x =
+          let before = greets.frame turn.acts.honest in
+          brings_word (run p.events p.start).pool frame (inr (
+            Asks (record {
+              id = (party_of (state turn.before)).id;
+              sender = (party_of (state turn.before)).own;
+              vector = before.0;
+            }),
+            record { id = x.party.id; sender = x.party.own; vector = before.1.vector },
+            before.2,
+            inl refl,
+          ))
+      word true frame (Err f) greets x =
+          brings_word (run p.events p.start).pool frame (inl greets.kept.1)
+      word false frame (Ok u) greets x = brings_word (run p.events p.start).pool frame (inr (
         Asks (title_by (party_of (state turn.before)) (state turn.before).content),
         title_spelled (party_of (state turn.before)) (state turn.before).content x.party
             (x.used.durable x.used.honest x.used.unbroken).lawful,
         greets.frame turn.acts.honest,
         inl refl,
       ))
-      word frame (Err f) greets x =
+      word false frame (Err f) greets x =
           brings_word (run p.events p.start).pool frame (inl greets.kept.1)
 
   pub peer_learned : (p : Execution) (old new : Plant A) → PlantSimulates state p old

@@ -1,11 +1,13 @@
 -- Calls of one replica by another, turn by turn, where anything may happen to either in between.
-use Rattle.std.specs.Prelude.{◌≡◌, ℕ, zero, suc, Option, Some, Ok}
-use Rattle.records.specs.Contents.{Content, IsWithin}
+use Rattle.std.specs.Prelude.{◌≡◌, ◌≤◌, ℕ, zero, suc, List, Option, Some, Ok}
+use Rattle.stamp.specs.Limits.{IsReplica}
+use Rattle.stamp.specs.Numbers.{number_of}
+use Rattle.records.specs.Contents.{Content, IsWithin, vec}
 use Rattle.exchange.specs.Messages.{Party, Message}
 use Rattle.exchange.specs.declared.message.Message.TheVariants.{Asks}
 use Rattle.exchange.specs.declared.message.State.{State}
 use Rattle.exchange.specs.declared.message.State.TheVariants.{Pulling, Serving}
-use Rattle.exchange.specs.Dialogs.{title_by, turned}
+use Rattle.exchange.specs.Dialogs.{turned}
 use Rattle.exchange.specs.Worlds.{ReplicaState}
 use Rattle.headline.specs.Executions.{Execution, IsReachable}
 
@@ -54,10 +56,16 @@ GoesBy e caller called (suc rounds) before after =
     (round : Round e caller called before)
     × GoesBy e caller called rounds (call_behind e caller called before round) after
 
--- a call begins: the caller asked for what it lacks
-abbrev pub call_begun : (caller : Party) → (here there : Content) → CallState
-call_begun caller here there = record {
-  said = Some (Asks (title_by caller here));
+-- what R lacks these numbers lack too, and perhaps more: none is greater than R's own number of its
+-- replica
+abbrev pub AskForAll : Content → (numbers : List ℕ) → Type 0
+AskForAll R numbers =
+    (replica : ℕ) → IsReplica replica → number_of numbers replica ≤ vec R replica
+
+-- a call begins: the caller asked for what these numbers lack
+abbrev pub call_begun : (caller : Party) → (numbers : List ℕ) → (here there : Content) → CallState
+call_begun caller numbers here there = record {
+  said = Some (Asks (record { id = caller.id; sender = caller.own; vector = numbers }));
   state = Pulling;
   here = here;
   there = there;

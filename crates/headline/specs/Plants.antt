@@ -1,6 +1,6 @@
 -- Plants: machines that serve many clients and peers at once. What happens is one turn after the
 -- other, each at one machine, and turns of its other connections come in between.
-use Rattle.std.specs.Prelude.{◌≡◌, ◌⊎◌, ⊤, ℕ, List, [], ◌∷◌, ◌++◌, map, slice_get, slice_set, Option, option_to_list, Result}
+use Rattle.std.specs.Prelude.{◌≡◌, ◌⊎◌, ⊤, ℕ, Bool, List, [], ◌∷◌, ◌++◌, map, slice_get, slice_set, Option, option_to_list, Result}
 use Rattle.std.specs.List.{AllByRecursion, flat_map}
 use Rattle.records.specs.Lists.{Has}
 use Rattle.records.specs.Contents.{Content}
@@ -15,7 +15,7 @@ use Rattle.exchange.specs.Admissions.{first_frame}
 use Rattle.exchange.specs.Ahead.{first_records, LearnsAhead}
 use Rattle.exchange.specs.Messages.{Party}
 use Rattle.exchange.specs.declared.message.State.{State}
-use Rattle.exchange.specs.Dialogs.{DialogState, Greets, TellsFault, party_of, records_read}
+use Rattle.exchange.specs.Dialogs.{DialogState, TellsFault, party_of, records_read}
 use Rattle.exchange.specs.Frames.{message_at}
 use Rattle.exchange.specs.Streams.{FrameContent, AreFrames}
 use Rattle.exchange.specs.Worlds.{ReplicaState, World, IsReplicaAt, run}
@@ -27,6 +27,7 @@ use Rattle.ua_peers.specs.Peers.{Talks}
 use Rattle.ua_peers.specs.Wires.{IsStartOf}
 use Rattle.ua_peers.specs.declared.peers.PeerEnded.{PeerEnded}
 use Rattle.conversation.specs.Admitting.{TellsAhead}
+use Rattle.conversation.specs.Starting.{GreetsPeer}
 use Rattle.headline.specs.Executions.{Execution}
 use Rattle.headline.specs.Machines.{RestartsAs, Extends, IsMachine, AreNew, Simulates, Restarts}
 
@@ -103,11 +104,12 @@ pub record AnswersFrames (written : List (List ℕ)) (old new : Store) (made : L
   pub unforged : AreUnforged written (party_of old) (map (λ t. t.frame) talks.taken)
   pub part : IsStartOf made said
 
--- a call to a peer began, and so much of the frame that asks was written
+-- a call to a peer began, one that looks for numbers that were given twice or not, and so much of
+-- the frame that asks was written
 abbrev pub BeginsCall : (old new : Store) → (made : List ℕ) → Type 0
 BeginsCall old new made =
-    (frame : List ℕ) × (result : Result (Unit {0}) ExchangeFault)
-    × Greets old new [] frame result × IsStartOf made frame
+    (checks : Bool) × (frame : List ℕ) × (result : Result (Unit {0}) ExchangeFault)
+    × GreetsPeer checks old new frame result × IsStartOf made frame
 
 -- some first records of a frame of a dialog with a peer were learned ahead of the frame's turn, and
 -- so much of what tells why the next one wasn't, if it wasn't, was written

@@ -27,11 +27,13 @@ ghost use Rattle.ua_peers.specs.Peers.{Taken, Side, side_of, side_after, AreAnsw
 ghost use Rattle.conversation.specs.declared.other_end.OtherEnd.{OtherEnd};
 ghost use Rattle.conversation.specs.declared.other_end.PeerDialog.{PeerDialog};
 ghost use Rattle.conversation.specs.declared.world.World.{World as Shared};
+ghost use Rattle.multiplex.specs.declared.stay.Party.{Party as OtherParty};
 ghost use Rattle.multiplex.specs.declared.stay.Stay.{Stay};
 ghost use Rattle.conversation.specs.OtherEnds.{ConversationEnding};
-ghost use Rattle.conversation.specs.Answering.{AnswersClient, AnswersPeer, LearnsFromPeer, RefusesPeer};
+ghost use Rattle.conversation.specs.Answering.{AnswersClient, AnswersPeer, LearnsFromPeer, RefusesPeer, EndsByComparing};
+ghost use Rattle.conversation.specs.Comparing.{FindsNone};
 ghost use Rattle.conversation.specs.Starting.{StartsCall};
-ghost use Rattle.headline.specs.Calls.{WasHeld, CallState, GoesBy, call_begun};
+ghost use Rattle.headline.specs.Calls.{WasHeld, CallState, GoesBy, AskForAll, call_begun};
 ghost use Rattle.headline.specs.Executions.{Execution, IsExecution};
 ghost use Rattle.headline.specs.Machines.{RestartsAs, IsMachine};
 ghost use Rattle.headline.specs.Plants.{BringsSent, IsReplaced, AreLawfulBatches, AreUnforged, AreWholeFrames, CameOver, Plant, plant_after, IsNewPlant, PlantSimulates, PlantExtendsTo, IsClientTurn, IsPeerTurn, IsCallTurn, IsLearningTurn, IsRefusalTurn, IsRestart, ArePlantSteps, AreSimulated};
@@ -124,8 +126,8 @@ pub fn plants_simulate_an_execution<A: Archive>()
 {}
 
 /// What is answered on one connection of many (`conversation`) is a turn of a machine of any plant: a client's message; frames of a peer, or
-/// some first records of one that is learned over several turns, as long as they aren't forged; records of a peer that aren't taken; and the
-/// beginning of a call. So what a loop over many connections makes of a machine's archive is turns of a plant.
+/// some first records of one that is learned over several turns, as long as they aren't forged; records of a peer that aren't taken, or among
+/// which a call found a number that was given twice; and the beginning of a call. So what a loop over many connections makes of a machine's archive is turns of a plant.
 pub fn conversations_take_turns<A: Archive, C: Clock, L: Log>()
     ensures client { (stay : Stay) (v w : Shared A C L) (link : ConnectionState) (made : List ℕ)
         (ending : Option ConversationEnding) (next : OtherEnd) (old : Plant A) (place : ℕ)
@@ -134,27 +136,37 @@ pub fn conversations_take_turns<A: Archive, C: Clock, L: Log>()
         → (A.state w.server.replica.archive).honest
         → RestartsAs (A.state w.server.replica.archive) (A.state later)
         → IsClientTurn A.state old (plant_after old place later []) }
-    ensures peer { (v w : Shared A C L) (peer : PeerDialog) (made : List ℕ)
+    ensures peer { (party : OtherParty) (v u w : Shared A C L) (peer : PeerDialog) (made : List ℕ)
         (ending : Option ConversationEnding) (next : OtherEnd) (old : Plant A) (place : ℕ)
-        (later : A) → (answers : AnswersPeer A.state C.gave v peer made ending w next)
+        (later : A) → FindsNone A.state party peer v u
+        → (answers : AnswersPeer A.state C.gave u peer made ending w next)
         → AreUnforged old.written (party_of (A.state v.server.replica.archive))
         (map (λ t. t.frame) answers.once.talks.taken)
         → IsMachine A.state old.machines place v.server.replica.archive
         → (A.state w.server.replica.archive).honest
         → RestartsAs (A.state w.server.replica.archive) (A.state later)
         → IsPeerTurn A.state old (plant_after old place later made) }
-    ensures learning { (v w : Shared A C L) (peer : PeerDialog) (made : List ℕ)
-        (ending : Option ConversationEnding) (next : OtherEnd) (old : Plant A) (place : ℕ)
-        (later : A) → LearnsFromPeer A.state C.gave v peer made ending w next
+    ensures learning { (party : OtherParty) (v u w : Shared A C L) (peer : PeerDialog)
+        (made : List ℕ) (ending : Option ConversationEnding) (next : OtherEnd) (old : Plant A)
+        (place : ℕ) (later : A) → FindsNone A.state party peer v u
+        → LearnsFromPeer A.state C.gave u peer made ending w next
         → AreUnforged old.written (party_of (A.state v.server.replica.archive))
         (option_to_list (first_frame peer.frames.waiting))
         → IsMachine A.state old.machines place v.server.replica.archive
         → (A.state w.server.replica.archive).honest
         → RestartsAs (A.state w.server.replica.archive) (A.state later)
         → IsLearningTurn A.state old (plant_after old place later made) }
-    ensures refusal { (v w : Shared A C L) (peer : PeerDialog) (made : List ℕ)
-        (ending : Option ConversationEnding) (next : OtherEnd) (old : Plant A) (place : ℕ)
-        (later : A) → RefusesPeer A.state C.gave v peer made ending w next
+    ensures refusal { (party : OtherParty) (v u w : Shared A C L) (peer : PeerDialog)
+        (made : List ℕ) (ending : Option ConversationEnding) (next : OtherEnd) (old : Plant A)
+        (place : ℕ) (later : A) → FindsNone A.state party peer v u
+        → RefusesPeer A.state C.gave u peer made ending w next
+        → IsMachine A.state old.machines place v.server.replica.archive
+        → (A.state w.server.replica.archive).honest
+        → RestartsAs (A.state w.server.replica.archive) (A.state later)
+        → IsRefusalTurn A.state old (plant_after old place later made) }
+    ensures comparing { (party : OtherParty) (v w : Shared A C L) (peer : PeerDialog)
+        (made : List ℕ) (ending : Option ConversationEnding) (next : OtherEnd) (old : Plant A)
+        (place : ℕ) (later : A) → EndsByComparing A.state L.told party v peer made ending w next
         → IsMachine A.state old.machines place v.server.replica.archive
         → (A.state w.server.replica.archive).honest
         → RestartsAs (A.state w.server.replica.archive) (A.state later)
@@ -170,12 +182,13 @@ pub fn conversations_take_turns<A: Archive, C: Clock, L: Log>()
 
 /// When a call is done each end holds all that the other one held: whatever other turns come in between, which only add to what either
 /// holds, if the caller ended the call well then it holds all that the one that it called held when the call began, and that one holds all
-/// that the caller holds by then. All that either holds is held by replicas of a past. A round of a call is what its two ends make of each
+/// that the caller holds by then; also where it first asked for more than it lacks, as a call does that looks for numbers that were given twice. All that either holds is held by replicas of a past. A round of a call is what its two ends make of each
 /// other's frames where nothing comes in the way, and that is so of each frame after which an end goes on, or is done.
 pub fn a_call_that_is_done_leaves_all_at_both()
-    ensures done { (e : Execution) (caller called : Party) (here there : Content) (rounds : ℕ)
-        (after : CallState) → IsExecution e → WasHeld e here
-        → GoesBy e caller called rounds (call_begun caller here there) after
+    ensures done { (e : Execution) (caller called : Party) (here there : Content)
+        (asked : List ℕ) (rounds : ℕ) (after : CallState) → IsExecution e → WasHeld e here
+        → AskForAll here asked
+        → GoesBy e caller called rounds (call_begun caller asked here there) after
         → after.state ≡ State.Done
         → IsWithin there after.here × IsWithin after.here after.there }
     ensures taken { (p : Party) (side : Side) (t : Taken) (next : Standing)
