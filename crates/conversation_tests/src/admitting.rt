@@ -17,11 +17,11 @@ const PLANT: &str =
     "[archive]\nid = '00000000000000000000000000000000'\nreplica = 1\n[server]\nlisten = ''\nurl = ''\napplication = ''\nnamespace = ''\nanonymous = true\n[door]\nlisten = ''\nreplicas = [2, 3]\nahead = 60\n";
 
 /// The time of the clock, and the greatest tick that is taken.
-const NOW: i64 = 116_444_736_000_000_000;
+pub(crate) const NOW: i64 = 116_444_736_000_000_000;
 
 const LATEST: i64 = NOW + 600_000_000;
 
-fn replica(alloc: Global, number: u8) -> Result<Replica<ListArchive>, Fail> {
+pub(crate) fn replica(alloc: Global, number: u8) -> Result<Replica<ListArchive>, Fail> {
     let number = replica_number(number)?;
     Ok(Replica::new(ListArchive::new(alloc, Uuid::nil(), number)))
 }
@@ -86,7 +86,7 @@ fn answer_behind<A: Archive>(
 }
 
 /// What a replica 5 answers to what it is asked that holds these records.
-fn answered_behind(alloc: Global, rows: &[Row], asked: &[u8]) -> Result<Vec<u8>, Fail> {
+pub(crate) fn answered_behind(alloc: Global, rows: &[Row], asked: &[u8]) -> Result<Vec<u8>, Fail> {
     let mut answer = Vec::new(alloc);
     let mut holder = replica(alloc, 5)?;
     answer_behind(alloc, &mut holder, rows, asked, &mut answer)?;
@@ -230,7 +230,12 @@ pub(crate) fn of_a_peer() -> Origin {
 }
 
 /// Answers what came on a connection, nine times at most.
-fn answer_turns<H: Handler>(talk: &mut H, stay: Stay, world: &mut H::World, out: &mut Vec<u8>) {
+pub(crate) fn answer_turns<H: Handler>(
+    talk: &mut H,
+    stay: Stay,
+    world: &mut H::World,
+    out: &mut Vec<u8>,
+) {
     for _ in 0..9 {
         match talk.answer(stay, world, out) {
             Progress::Answered => {}

@@ -21,3 +21,5 @@ mod scripts;
 mod shared;
 #[cfg(test)]
 mod strangers;
+#[cfg(test)]
+mod twice;
