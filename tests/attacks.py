@@ -808,6 +808,20 @@ def copies():
         whole = len(rows) == 3 and rows[0].startswith("held,replica,number,") and rows[1].startswith(f"here,{replica},") and rows[2].startswith(f"there,{replica},")
         return "found, and both are printed" if found and whole else (done.out.decode() + done.said).strip()
 
+    def looks(caller, called, replica=1):
+        """What a server says of a call by which it looks for numbers that were given twice."""
+        called.start()
+        text = open(caller.settings).read()
+        open(caller.settings, "w").write(text + f"\n[[peer]]\naddress = '127.0.0.1:{called.port}'\nevery = 86400\ncheck = true\n")
+        caller.start()
+        time.sleep(2)
+        rows = caller.stop().splitlines()
+        called.stop()
+        open(caller.settings, "w").write(text)
+        found = len(rows) == 4 and rows[3] == f"uahist: peer 127.0.0.1:{called.port}: exchange ended (11)"
+        whole = found and rows[0].startswith("held,replica,number,") and rows[1].startswith(f"here,{replica},") and rows[2].startswith(f"there,{replica},")
+        return "found, and both are told" if whole else "\n".join(rows)
+
     def files(server):
         return [server.store + end for end in ("", "-wal") if os.path.exists(server.store + end)]
 
@@ -831,6 +845,10 @@ def copies():
         before = [server.dump() for server in (one, two)]
         looked = [checked(one, two), checked(two, one)] if new else []
         stays = before == [server.dump() for server in (one, two)]
+        if new:
+            finder, other = (one, two) if new <= 5 else (two, one)
+            served = looks(finder, other)
+            tell(served == "found, and both are told" and before == [server.dump() for server in (one, two)], f"{what}: `serve` with `check` at the machine that holds no more finds it, tells both, and changes nothing", served)
         first, second = exchanged(one, two), exchanged(one, two)
         what = f"an old copy of 5 records, put back where 5 more were exchanged, and {new} written since"
         if new:
