@@ -7,5 +7,6 @@ pub mod PartLemmas
 pub mod PortionLemmas
 pub mod PrintingLemmas
 pub mod ReadingLemmas
+pub mod TextlessLemmas
 pub mod WalkLemmas
 mod WholeLemmas

@@ -11,16 +11,16 @@ use Rattle.archive.specs.Store.{Store, IsLawfulContent, faults_of}
 use Rattle.archive.specs.Steps.{Transitions}
 use Rattle.archive.specs.declared.fault.StoreFault.{StoreFault}
 use Rattle.archive.proofs.Acting.{moves-none, moves-then, moves-as, faults-append}
-use Rattle.history_csv.specs.Rows.{IsTextless, ShowsTextless}
 use Rattle.history_report.specs.declared.fault.PartFault.{PartFault}
 use Rattle.history_report.specs.declared.fault.PartFault.TheVariants as part_fault
 use Rattle.history_report.specs.declared.fault.ReportFault.{ReportFault}
 use Rattle.history_report.specs.declared.fault.ReportFault.TheVariants as fault
 use Rattle.history_report.specs.declared.pages.Pages.{Pages}
 use Rattle.history_report.specs.declared.report.Report.{Report}
-use Rattle.history_report.specs.Reports.{PrintsReport, PrintsWhole, ReadsFor, IsAt, IsChangeLine, IsValueLine, footer_of, report_faults, values_asked, changes_asked}
+use Rattle.history_report.specs.Reports.{ReadsFor, IsHeader, report_faults, values_asked, changes_asked}
 use Rattle.history_report.specs.Paging.{IsPut, IsPageOf, GivesPage, Fails, values_left, changes_left}
-use Rattle.history_report.specs.Parts.{part_up_to, part_fault_told, end_between, HasTextless, IsFirstPart, AreCrowded, IsPrinted, PutsPart, AsksForPart, IsPartEnd, AreFirstTimes}
+use Rattle.history_report.specs.Parts.{end_between, HasTextless, IsFirstPart, AreCrowded, AsksForPart, IsPartEnd, AreFirstTimes}
+use Rattle.history_report.specs.Portions.{Begins, BeginsPart, IsWhole, Remainder}
 use Rattle.history_report.proofs.PageLemmas.{IsSpanOf, values-all, changes-all}
 use Rattle.history_report.proofs.PartLemmas.{EndsChanges}
 use Rattle.history_report.proofs.PrintingLemmas.{AreShown}
@@ -97,6 +97,13 @@ part-ends s t (part_fault.Report why) C L P Q reads = (
       (λ R p e. absurd (p e)) reads.1,
 )
 
+-- what ended one call for a part ends another that is asked so
+pub part-stopped : {A B : Type 0} (s t : Store) (why : PartFault) (C L : Content → Type 0)
+    (P : A → Content → Type 0) (Q : B → Content → Type 0)
+    → AsksForPart {A = A} s t (Err why) C L P → AsksForPart {A = B} s t (Err why) C L Q
+part-stopped s t part_fault.Crowded C L P Q reads = reads
+part-stopped s t (part_fault.Report why) C L P Q reads = reads
+
 -- a reading, and then one that isn't crowded
 pub part-then : {A : Type 0} (s t u : Store) (result : Result A PartFault) (P : Content → Type 0)
     (C L M : Content → Type 0) (Q To : A → Content → Type 0)
@@ -135,21 +142,6 @@ part-starves s t C L P Q (used, reads) = (
         × (fault.OutOfMemory ≡ fault.NoText → L R)))
         (λ ms R S p. (p.0, (p.1.0, (λ e. absurd cc)))) reads,
   ),
-)
-
--- a report ended by this
-pub part-stops : {A : Type 0} (s t : Store) (why : ReportFault) (C L P : Content → Type 0)
-    (Q : A → Content → Type 0) → ((R : Content) → P R → why ≡ fault.NoText → L R)
-    → ReadsFor s t (Err why) P → AsksForPart s t (Err (part_fault_told why)) C L Q
-part-stops s t fault.Write C L P Q lacks reads = part-starves s t C L P Q reads
-part-stops s t fault.OutOfMemory C L P Q lacks reads = part-starves s t C L P Q reads
-part-stops s t fault.NoText C L P Q lacks reads = (
-  λ e. absurd cc,
-  reads-as s t (Err fault.NoText) P (λ R. fault.NoText ≡ fault.NoText → L R) lacks reads,
-)
-part-stops s t (fault.Store why) C L P Q lacks reads = (
-  λ e. absurd cc,
-  reads-as s t (Err (fault.Store why)) P (λ R. fault.Store why ≡ fault.NoText → L R) lacks reads,
 )
 
 -- one call behind a reading was ended by this
@@ -264,20 +256,21 @@ more-times time pages seen new page few put some =
     at-least [] e = absurd cc
     at-least (x ∷ l) e = omega arith
 
+-- which records are shown was asked
+pub shown-reads : (report : Report) (pages : Pages) (t u : Store) → AreShown t u pages.within
+    → ReadsFor t u (Ok tt)
+    (λ R. IsLawfulContent R × ((o : ℕ) → number_of pages.within o ≡ vec R o))
+shown-reads report pages t u shown = reads-quiet t u
+    (λ R. IsLawfulContent R × ((o : ℕ) → number_of pages.within o ≡ vec R o))
+    (moves-as t u [] (λ marks R S. (S ≡ R) × IsLawfulContent R
+    × ((o : ℕ) → number_of pages.within o ≡ vec R o))
+    (λ marks R S. (S ≡ R)
+    × (IsLawfulContent R × ((o : ℕ) → number_of pages.within o ≡ vec R o)))
+    (λ ms R S p. (p.0, (p.1, p.2))) shown)
+
 module _ (report : Report) (pages : Pages) (times : List ℤ) (t u w : Store)
     (shown : AreShown t u pages.within)
     (span : IsSpanOf report pages.span.from pages.span.to) where
-  -- which records are shown was asked
-  shown-reads : ReadsFor t u (Ok tt)
-      (λ R. IsLawfulContent R × ((o : ℕ) → number_of pages.within o ≡ vec R o))
-  shown-reads = reads-quiet t u
-      (λ R. IsLawfulContent R × ((o : ℕ) → number_of pages.within o ≡ vec R o))
-      (moves-as t u [] (λ marks R S. (S ≡ R) × IsLawfulContent R
-      × ((o : ℕ) → number_of pages.within o ≡ vec R o))
-      (λ marks R S. (S ≡ R)
-      × (IsLawfulContent R × ((o : ℕ) → number_of pages.within o ≡ vec R o)))
-      (λ ms R S p. (p.0, (p.1, p.2))) shown)
-
   pub seen-values : ReadsFor u w (Ok tt) (λ R. AreFirstTimes
       (map (λ (h : Held). h.time) (values_left report.node pages R)) times)
       → ReadsFor t w (Ok tt) (λ R. AreFirstTimes
@@ -288,7 +281,7 @@ module _ (report : Report) (pages : Pages) (times : List ℤ) (t u w : Store)
       (λ R. AreFirstTimes (map (λ (h : Held). h.time) (values_asked R report)) times)
       (λ R p q. subst (λ (l : List Held). AreFirstTimes (map (λ (h : Held). h.time) l) times)
       (values-all R report pages p.0 p.1 span) q)
-      shown-reads
+      (shown-reads report pages t u shown)
 
   pub seen-changes : pages.after ≡ None → ReadsFor u w (Ok tt) (λ R. AreFirstTimes
       (map (λ (e : Entry). e.time) (changes_left report.node pages R)) times)
@@ -300,7 +293,7 @@ module _ (report : Report) (pages : Pages) (times : List ℤ) (t u w : Store)
       (λ R. AreFirstTimes (map (λ (e : Entry). e.time) (changes_asked R report)) times)
       (λ R p q. subst (λ (l : List Entry). AreFirstTimes (map (λ (e : Entry). e.time) l) times)
       (changes-all R report pages p.0 p.1 span first) q)
-      shown-reads
+      (shown-reads report pages t u shown)
 
 -- an end that is missing is for no fault of a report
 never : (first last : Option ℤ) (why : ReportFault)
@@ -325,77 +318,36 @@ ends-changes report s t (Err part_fault.Crowded) first last is reads = reads
 ends-changes report s t (Err (part_fault.Report why)) first last is reads =
     absurd (never first last why is)
 
--- ---- what is printed
+-- ---- a part that is begun
 
--- the whole of a report, behind nothing
-pub printed-whole : (R : Content) (report : Report) (text : List ℕ)
-    → PrintsReport report R (Some []) (Some text) (Ok tt) → IsPrinted R report text
-printed-whole R report text (inl (header, is, behind)) = (header, is, behind)
-printed-whole R report text (inr (why, is, other, none)) = absurd cc
-
--- what was printed was put behind a text
-pub printed-put : (R : Content) (report : Report) (empty printed text shown old new : List ℕ)
-    → empty ≡ [] → text ≡ printed → shown ≡ text → new ≡ old ++ shown
-    → PrintsReport report R (Some empty) (Some printed) (Ok tt)
-    → IsPut old new (IsPrinted R report)
-printed-put R report empty printed text shown old new none is same put prints = (
-  printed,
-  put ∙ ap (λ l. old ++ l) (same ∙ is),
-  printed-whole R report printed
-      (subst (λ (l : List ℕ). PrintsReport report R (Some l) (Some printed) (Ok tt)) none prints),
+-- the beginning of a part ended by this
+pub part-unbegun : {A : Type 0} (part : Report) (s t : Store) (why : ReportFault)
+    (C L P : Content → Type 0) (Q : A → Content → Type 0) → (why ≡ fault.Write → ⊥)
+    → ReadsFor s t (Ok tt) P → (u : Store) → Begins part t u (Err why)
+    → AsksForPart s u (Err (part_fault.Report why)) C L Q
+part-unbegun part s t why C L P Q own reads u (other, ends) = (
+  own,
+  reads-then s t u (Err why) P (λ R. Unit {0}) (λ R. why ≡ fault.NoText → L R)
+      (λ R p q e. absurd (other e)) reads ends,
 )
 
--- the first part of a report was put behind a text
-pub part-put : (report : Report) (end : Option ℤ) (old new : List ℕ) (R : Content)
-    → IsFirstPart R report (part_up_to report end)
-    → IsPut old new (IsPrinted R (part_up_to report end)) → PutsPart report old new R
-part-put report end old new R first put = (part_up_to report end, first, put)
+-- what is known of a part before it is begun: which it is, and that each of its rows has a text
+abbrev pub IsChecked : Report → Report → Content → Type 0
+IsChecked report part R = IsFirstPart R report part × (HasTextless R part → ⊥)
 
--- the same by whether modifications are asked for
-abbrev Behind : Report → (header : List ℕ) → Content → (before after : Option (List ℕ))
-    → Result (Unit {0}) ReportFault → (changes : Bool) → Type 0
-Behind report header R before after result changes =
-    elim changes [
-      | true ↦ PrintsWhole (IsChangeLine report) (λ e. ShowsTextless e.value) header
-          (footer_of report) (changes_asked R report) before after result
-      | false ↦ PrintsWhole (IsValueLine report) (λ h. IsTextless h.value.value) header
-          (footer_of report) (values_asked R report) before after result
-    ]
+pub part-checked : (report part : Report) (s t u : Store)
+    → ReadsFor s t (Ok tt) (λ R. IsFirstPart R report part)
+    → ReadsFor t u (Ok tt) (λ R. HasTextless R part → ⊥)
+    → ReadsFor s u (Ok tt) (IsChecked report part)
+part-checked report part s t u = reads-then s t u (Ok tt) (λ R. IsFirstPart R report part)
+    (λ R. HasTextless R part → ⊥) (IsChecked report part) (λ R first none. (first, none))
 
-abbrev Textless : Content → Report → (changes : Bool) → Type 0
-Textless R report changes = (n : ℕ) × elim changes [
-  | true ↦ IsAt (λ e. ShowsTextless e.value) (changes_asked R report) n
-  | false ↦ IsAt (λ h. IsTextless h.value.value) (values_asked R report) n
-]
-
--- the fault of a result, or another one
-abbrev fault_or : ReportFault → Result (Unit {0}) ReportFault → ReportFault
-fault_or other (Ok done) = other
-fault_or other (Err why) = why
-
-writes-text : fault.Write ≡ fault.NoText → ⊥
-writes-text e = absurd cc
-
--- a report that ended at a value without a text shows such a one
-pub printed-textless : (R : Content) (report : Report) (before after : Option (List ℕ))
-    (why : ReportFault) → PrintsReport report R before after (Err why) → why ≡ fault.NoText
-    → HasTextless R report
-printed-textless R report before after why (inl (header, is, behind)) none =
-    go report.changes behind
-  where
-    short : {X : Type 0} (IsLine : X → List ℕ → Type 0) (HasNoText : X → Type 0)
-        (footer : List ℕ) (xs : List X)
-        → PrintsWhole IsLine HasNoText header footer xs before after (Err why)
-        → (n : ℕ) × IsAt HasNoText xs n
-    short IsLine HasNoText footer xs (inl (n, lines, are, part, textless)) =
-        (n, (textless none).1)
-    short IsLine HasNoText footer xs (inr (writes, whole)) = absurd (writes-text (sym writes ∙ none))
-
-    go : (changes : Bool) → Behind report header R before after (Err why) changes
-        → Textless R report changes
-    go true printed = short (IsChangeLine report) (λ e. ShowsTextless e.value) (footer_of report)
-        (changes_asked R report) printed
-    go false printed = short (IsValueLine report) (λ h. IsTextless h.value.value)
-        (footer_of report) (values_asked R report) printed
-printed-textless R report before after why (inr (other, is, not_text, none)) ends =
-    absurd (not_text (sym (ap (fault_or why) is) ∙ ends))
+-- a part is begun
+pub part-begun : (report part : Report) (left : Remainder) (old new : List ℕ) (s t u : Store)
+    → ReadsFor s t (Ok tt) (IsChecked report part) → Begins part t u (Ok left)
+    → IsPut old new (IsHeader part) → ReadsFor s u (Ok tt) (λ R. BeginsPart report left R old new)
+part-begun report part left old new s t u reads begins header =
+    reads-then s t u (Ok tt) (IsChecked report part) (λ R. IsWhole part left R)
+    (λ R. BeginsPart report left R old new)
+    (λ R p whole. (part, p.0, p.1, header, whole)) reads
+    (reads-quiet t u (λ R. IsWhole part left R) begins)

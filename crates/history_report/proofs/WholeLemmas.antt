@@ -13,8 +13,8 @@ use Rattle.history_report.specs.declared.fault.ReportFault.{ReportFault}
 use Rattle.history_report.specs.declared.report.Report.{Report}
 use Rattle.history_report.specs.Reports.{AreLines, IsChangeLine, IsHeader, IsValueLine, OfWhole, changes_asked, footer_of, values_asked}
 use Rattle.history_report.specs.Paging.{IsPut}
-use Rattle.history_report.specs.Parts.{IsPrinted}
-use Rattle.history_report.specs.Portions.{ArePortions, IsWhole, MayFollow, PutsChanges, PutsValues, Remainder, changes_to_come, values_to_come}
+use Rattle.history_report.specs.Parts.{IsPrinted, IsPrintedPart}
+use Rattle.history_report.specs.Portions.{ArePortions, BeginsPart, IsWhole, MayFollow, PutsChanges, PutsValues, Remainder, changes_to_come, values_to_come}
 use Rattle.history_report.proofs.LineLemmas.{lines-append}
 
 -- ---- portions of rows
@@ -180,3 +180,15 @@ portions_whole report R left header portions closed top (is, values, changes, al
           ap (λ l. header ++ l) (joined ∙ ap (λ (r : Report). lines ++ footer_of r) is)
               ∙ sym (append_assoc header lines (footer_of report)),
         )
+
+-- of a part that was begun
+pub portions_part : (report : Report) (R : Content) (left : Remainder) (header : List ℕ)
+    (portions : List (List ℕ)) → IsClosed R → BeginsPart report left R [] header
+    → ArePortions R left portions → IsPrintedPart R report (header ++ concat portions)
+portions_part report R left header portions closed
+    (part, first, none, (line, put, top), whole) are = (
+      part,
+      first,
+      portions_whole part R left header portions closed (subst (IsHeader part) (sym put) top) whole
+          are,
+    )

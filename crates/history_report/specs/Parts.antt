@@ -11,7 +11,6 @@ use Rattle.history_report.specs.declared.fault.PartFault.{PartFault}
 use Rattle.history_report.specs.declared.fault.PartFault.TheVariants as part_fault
 use Rattle.history_report.specs.declared.report.Report.{Report}
 use Rattle.history_report.specs.Reports.{OfWhole, IsAt, ReadsFor, IsHeader, IsValueLine, IsChangeLine, footer_of, values_asked, changes_asked}
-use Rattle.history_report.specs.Paging.{IsPut}
 
 -- ---- parts of a report
 
@@ -71,17 +70,22 @@ IsPrinted R report text =
           (λ whole. text ≡ whole)
     ]
 
--- the first part of a report was put behind a text
-abbrev pub PutsPart : Report → (old new : List ℕ) → Content → Type 0
-PutsPart report old new R =
-    (part : Report) × IsFirstPart R report part × IsPut old new (IsPrinted R part)
+-- the text is the first part of a report
+abbrev pub IsPrintedPart : Content → Report → List ℕ → Type 0
+IsPrintedPart R report text =
+    (part : Report) × IsFirstPart R report part × IsPrinted R part text
+
+-- one of these is such
+abbrev pub HasOne : {X : Type 0} → (X → Type 0) → List X → Type 0
+HasOne P xs = (n : ℕ) × IsAt P xs n
 
 -- a row of a report shows a value that has no text
 abbrev pub HasTextless : Content → Report → Type 0
-HasTextless R report = (n : ℕ) × elim report.changes [
-  | true ↦ IsAt (λ e. ShowsTextless e.value) (changes_asked R report) n
-  | false ↦ IsAt (λ h. IsTextless h.value.value) (values_asked R report) n
-]
+HasTextless R report =
+    elim report.changes [
+      | true ↦ HasOne (λ e. ShowsTextless e.value) (changes_asked R report)
+      | false ↦ HasOne (λ h. IsTextless h.value.value) (values_asked R report)
+    ]
 
 -- a row of the first part of a report does
 abbrev pub LacksText : Content → Report → Type 0
@@ -99,11 +103,6 @@ AsksForPart old new result Crowds Lacks Holds =
       | Err (part_fault.Report why) ↦ (why ≡ fault.Write → ⊥)
           × ReadsFor old new (Err why) (λ R. why ≡ fault.NoText → Lacks R)
     ]
-
--- what ends a part, by what ended its report: a write into memory fails for want of memory
-abbrev pub part_fault_told : ReportFault → PartFault
-part_fault_told why =
-    elim why [ fault.Write ↦ part_fault.Report fault.OutOfMemory | other ↦ part_fault.Report other ]
 
 -- ---- where a part ends
 

@@ -13,7 +13,8 @@ use Rattle.history_report.specs.declared.fault.ReportFault.{ReportFault}
 use Rattle.history_report.specs.declared.fault.ReportFault.TheVariants as fault
 use Rattle.history_report.specs.declared.pages.Pages.{Pages}
 use Rattle.history_report.specs.declared.report.Report.{Report}
-use Rattle.history_report.specs.Reports.{AreLines, IsAt, ReadsFor, IsValueLine, IsChangeLine, footer_of, values_asked, changes_asked}
+use Rattle.history_report.specs.Parts.{HasTextless, IsFirstPart}
+use Rattle.history_report.specs.Reports.{AreLines, IsAt, IsHeader, ReadsFor, IsValueLine, IsChangeLine, footer_of, values_asked, changes_asked}
 use Rattle.history_report.specs.Paging.{IsPut, values_left, changes_left}
 
 -- ---- what is still to be made
@@ -58,6 +59,13 @@ Begins report old new result =
     MatchResult result
     (λ left. Transitions old new [] (λ marks R S. (S ≡ R) × IsWhole report left R))
     (λ why. (why ≡ fault.NoText → ⊥) × ReadsFor old new (Err why) (λ R. Unit {0}))
+
+-- the header of the first part of a report was put behind a text, and all rows of that part are
+-- still to come, of the records that are held; each of them has a text
+abbrev pub BeginsPart : Report → Remainder → Content → (old new : List ℕ) → Type 0
+BeginsPart report left R old new =
+    (part : Report) × IsFirstPart R report part × (HasTextless R part → ⊥)
+    × IsPut old new (IsHeader part) × IsWhole part left R
 
 -- ---- a portion
 

@@ -6,8 +6,8 @@ ghost use Rattle.history_report.specs.Html.{escaped, is_markup, IsPath, has_forb
 ghost use Rattle.records.specs.Contents.{Content, IsClosed};
 ghost use Rattle.history_report.specs.declared.report.Report.{Report};
 ghost use Rattle.history_report.specs.Reports.{IsHeader, is_in_stretch, values_asked, changes_asked};
-ghost use Rattle.history_report.specs.Parts.{IsPartEnd, IsPrinted, part_before, rest_from, row_times};
-ghost use Rattle.history_report.specs.Portions.{ArePortions, IsWhole, Remainder};
+ghost use Rattle.history_report.specs.Parts.{IsPartEnd, IsPrinted, IsPrintedPart, part_before, rest_from, row_times};
+ghost use Rattle.history_report.specs.Portions.{ArePortions, BeginsPart, IsWhole, Remainder};
 
 /// No text in a page has a byte that begins or ends a tag, or an attribute's value, and neither has
 /// a drawing's path.
@@ -70,9 +70,13 @@ pub fn a_first_part_has_the_first_rows()
 {}
 
 /// The header of a report and all its portions, one behind the other, are the whole report of what
-/// an archive held when it was begun, whatever the archive learned in between.
+/// an archive held when it was begun, whatever the archive learned in between; and so are those of its
+/// first part that part.
 pub fn all_portions_are_the_whole()
-    ensures { (report : Report) (R : Content) (left : Remainder) (header : List ℕ)
+    ensures whole { (report : Report) (R : Content) (left : Remainder) (header : List ℕ)
         (portions : List (List ℕ)) → IsClosed R → IsHeader report header → IsWhole report left R
         → ArePortions R left portions → IsPrinted R report (header ++ concat portions) }
+    ensures part { (report : Report) (R : Content) (left : Remainder) (header : List ℕ)
+        (portions : List (List ℕ)) → IsClosed R → BeginsPart report left R [] header
+        → ArePortions R left portions → IsPrintedPart R report (header ++ concat portions) }
 {}

@@ -18,6 +18,7 @@ mod report;
 mod rows;
 mod span;
 mod table;
+mod textless;
 mod trend;
 
 pub use fault::{PartFault, ReportFault};
@@ -25,7 +26,6 @@ pub use laws::{
     a_first_part_has_the_first_rows, a_pages_text_holds_no_markup, a_pages_text_is_read_again,
     a_part_and_the_rest_are_the_whole, a_rows_texts_are_its_fields, all_portions_are_the_whole,
 };
-pub use parts::put_part;
 pub use portions::Portions;
 pub use printing::print_report;
 pub use report::{Form, Next, Report};

@@ -1,20 +1,19 @@
-//! One page of a history, which leads to the rest by a link.
+//! The first part of a history, which leads to the rest by a link.
 
-ghost use Rattle.std.specs.Prelude.{◌≡◌, ◌++◌, true, map, slice_get, OnErr, MatchResult};
+ghost use Rattle.std.specs.Prelude.{◌≡◌, ◌↔◌, ◌++◌, IsTrue, true, map, slice_get, OnErr, MatchResult};
 ghost use Rattle.archive.specs.Store.{IsAskedWithin};
 ghost use Rattle.history_report.specs.Reports.{values_asked, changes_asked};
-ghost use Rattle.history_report.specs.Paging.{IsPut, values_left, changes_left};
-ghost use Rattle.history_report.specs.Parts.{part_up_to, end_between, part_fault_told, HasTextless, IsFirstPart, LacksText, AreCrowded, IsPrinted, PutsPart, AsksForPart, IsPartEnd, AreFirstTimes};
+ghost use Rattle.history_report.specs.Paging.{values_left, changes_left};
+ghost use Rattle.history_report.specs.Parts.{part_up_to, end_between, HasOne, HasTextless, IsFirstPart, LacksText, AreCrowded, AsksForPart, IsPartEnd, AreFirstTimes};
 
 use crate::fault::{PartFault, ReportFault};
 use crate::pages::{Pages, next_changes, next_values};
-use crate::printing::print_report;
+use crate::portions::Portions;
 use crate::report::{Next, Report};
 use crate::rows::Row;
 use crate::span::span_of;
 use archive::Archive;
-use counted_io::Counted;
-use records::Moment;
+use records::{Entry, Held, Moment};
 use std::alloc::Global;
 
 /// The most rows of a part.
@@ -219,67 +218,110 @@ fn part_up_to(report: Report, end: Option<Moment>) -> Report
     part
 }
 
-/// What ends a part, by what ended its report: a write into memory fails for want of memory.
-fn fault_of(fault: ReportFault) -> PartFault
-    ensures { result ≡ part_fault_told fault }
+/// Whether one of some rows has no text.
+fn one_lacks_text<T: Row>(rows: &[T]) -> bool
+    ensures { IsTrue result ↔ HasOne T.is_textless rows.now }
 {
-    match fault {
-        ReportFault::Write => PartFault::Report(ReportFault::OutOfMemory),
-        _ => PartFault::Report(fault),
+    for row in rows {
+        if row.lacks_text() {
+            return true;
+        }
     }
+    false
 }
 
-/// Appends a report.
-fn append_report<A: Archive>(
+/// Sees that all rows of these pages have a text: `NoText` says that one has none.
+fn check_rows<A: Archive, T: Row + Drop>(
     alloc: Global,
     archive: &mut A,
     report: &Report,
-    out: &mut Vec<u8>,
+    mut pages: Pages,
 ) -> Result<(), PartFault>
     ensures reads { AsksForPart (A.state archive.old) (A.state archive.new) result (λ R. ⊥)
-        (λ R. HasTextless R report.now)
-        (λ done R. IsPut out.old.items out.new.items (IsPrinted R report.now)) }
-    ensures kept { OnErr result (out.new.items ≡ out.old.items) }
+        (λ R. HasOne T.is_textless (T.left_of report.now.node pages R))
+        (λ done R. ¬ HasOne T.is_textless (T.left_of report.now.node pages R)) }
     ensures asked { IsAskedWithin 8 (A.asked archive.old) (A.asked archive.new) }
 {
-    let mut output = Counted::new(Vec::new(alloc));
-    match print_report(alloc, archive, report, &mut output) {
-        Ok(()) => {}
-        Err(fault) => return Err(fault_of(fault)),
+    for _ in 0..u64::MAX {
+        let page = match T::next_page(alloc, archive, report, &mut pages) {
+            Ok(page) => page,
+            Err(fault) => return Err(PartFault::Report(ReportFault::Store(fault))),
+        };
+        let rows = page.as_slice();
+        if rows.is_empty() {
+            return Ok(());
+        }
+        if one_lacks_text(rows) {
+            return Err(PartFault::Report(ReportFault::NoText));
+        }
     }
-    let text = output.into_inner();
-    match out.extend_from_slice(text.as_slice()) {
-        Ok(()) => Ok(()),
-        Err(_) => Err(PartFault::Report(ReportFault::OutOfMemory)),
+    Err(PartFault::Report(ReportFault::OutOfMemory))
+}
+
+/// Sees that all rows of a report have a text: `NoText` says that one has none.
+fn check_report<A: Archive>(
+    alloc: Global,
+    archive: &mut A,
+    report: &Report,
+) -> Result<(), PartFault>
+    ensures reads { AsksForPart (A.state archive.old) (A.state archive.new) result (λ R. ⊥)
+        (λ R. HasTextless R report.now) (λ done R. ¬ HasTextless R report.now) }
+    ensures asked { IsAskedWithin 8 (A.asked archive.old) (A.asked archive.new) }
+{
+    let within = match archive.vector() {
+        Ok(within) => within,
+        Err(fault) => return Err(PartFault::Report(ReportFault::Store(fault))),
+    };
+    let pages = Pages {
+        within,
+        span: span_of(report),
+        after: None,
+    };
+    if report.changes {
+        check_rows::<A, Entry>(alloc, archive, report, pages)
+    } else {
+        check_rows::<A, Held>(alloc, archive, report, pages)
     }
 }
 
-/// Appends the first part of a node's history, of at most 500 values or modifications, as
-/// `print_report` prints it, its header and its footer too. Where it isn't all of the history, it
-/// ends before the time of the 501st, and a page leads by a link to the history from that moment on.
-/// The archive stays as it is. At most eight values are in memory at a time, the times of 508, and
-/// the text.
-///
-/// Errors, after which nothing is appended: `Report` where the report of that part met this fault, so
-/// `NoText` where a value that the part shows has no text, but never `Write`: a want of memory is
-/// `OutOfMemory`; `Crowded` where the first 501 modifications are of one moment.
-pub fn put_part<A: Archive>(
-    alloc: Global,
-    archive: &mut A,
-    report: Report,
-    out: &mut Vec<u8>,
-) -> Result<(), PartFault>
-    ensures reads { AsksForPart (A.state archive.old) (A.state archive.new) result
-        (λ R. (report.changes ≡ true) × AreCrowded (changes_asked R report))
-        (λ R. LacksText R report)
-        (λ done R. PutsPart report out.old.items out.new.items R) }
-    ensures kept { OnErr result (out.new.items ≡ out.old.items) }
-    ensures asked { IsAskedWithin 8 (A.asked archive.old) (A.asked archive.new) }
-{
-    let end = match end_of(alloc, archive, &report) {
-        Ok(end) => end,
-        Err(fault) => return Err(fault),
-    };
-    let part = part_up_to(report, end);
-    append_report(alloc, archive, &part, out)
+impl Portions {
+    ghost use Rattle.history_report.specs.Portions.{BeginsPart};
+
+    /// Begins the first part of a history, of at most 500 values or modifications: appends its
+    /// header, a page's with the drawing of that part's values. Where the part isn't all of the
+    /// history, it ends before the time of the 501st, and a page leads by a link to the history from
+    /// that moment on. Of which rows it is, is known before its first byte, and each has a text. The
+    /// archive stays as it is. At most eight values are in memory at a time, and the times of 508.
+    ///
+    /// Errors, after which nothing is appended: `Report` with `Store` where the archive met a fault
+    /// of its store, with `NoText` where a value that the part shows has no text, with `OutOfMemory`
+    /// where memory was wanting, and never with `Write`; `Crowded` where the first 501 modifications
+    /// are of one moment.
+    pub fn begin_part<A: Archive>(
+        alloc: Global,
+        archive: &mut A,
+        report: Report,
+        out: &mut Vec<u8>,
+    ) -> Result<Portions, PartFault>
+        ensures begins { AsksForPart (A.state archive.old) (A.state archive.new) result
+            (λ R. (report.changes ≡ true) × AreCrowded (changes_asked R report))
+            (λ R. LacksText R report)
+            (λ left R. BeginsPart report left R out.old.items out.new.items) }
+        ensures kept { OnErr result (out.new.items ≡ out.old.items) }
+        ensures asked { IsAskedWithin 8 (A.asked archive.old) (A.asked archive.new) }
+    {
+        let end = match end_of(alloc, archive, &report) {
+            Ok(end) => end,
+            Err(fault) => return Err(fault),
+        };
+        let part = part_up_to(report, end);
+        match check_report(alloc, archive, &part) {
+            Ok(()) => {}
+            Err(fault) => return Err(fault),
+        }
+        match Portions::begin(alloc, archive, part, out) {
+            Ok(portions) => Ok(portions),
+            Err(fault) => Err(PartFault::Report(fault)),
+        }
+    }
 }

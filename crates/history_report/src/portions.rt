@@ -2,10 +2,12 @@
 
 ghost use Rattle.std.specs.Prelude.{◌≡◌, ◌++◌, true, false, Ok, Err, IfErr, OnOk, OnErr, IsErrOf, MatchResult};
 ghost use Rattle.archive.specs.Store.{IsAskedWithin};
+ghost use Rattle.history_report.specs.Html.{IsDrawing};
 ghost use Rattle.history_report.specs.Reports.{IsHeader, ReadsFor, footer_of};
 ghost use Rattle.history_report.specs.Paging.{IsPut, values_left, changes_left, fault_told};
 ghost use Rattle.history_report.specs.Portions.{PutsRows, PutsValues, PutsChanges, TakesPortion, ending, kept_behind, left_of};
 
+use crate::drawing::put_drawing;
 use crate::fault::ReportFault;
 use crate::lines::{footer, put_header};
 use crate::pages::{Pages, first_changes, first_values, go_behind, span_behind};
@@ -18,7 +20,7 @@ use std::alloc::Global;
 use std::marker::Model;
 
 /// A history that is made portion by portion, of the records that were held when it began: a thread
-/// that serves others too makes a portion, and turns to them. A page of it has no drawing.
+/// that serves others too makes a portion, and turns to them.
 #[derive(Debug, Drop)]
 pub struct Portions {
     report: Report,
@@ -33,14 +35,20 @@ impl Model for Portions {
     ghost view = { λ p. record { report = p.report; pages = p.pages } };
 }
 
-/// Appends the header, a page's without a drawing; nothing where memory is wanting.
-fn append_header(alloc: Global, report: &Report, out: &mut Vec<u8>) -> Result<(), ReportFault>
+/// Appends the header, a page's with this drawing; nothing where memory is wanting.
+fn append_header(
+    alloc: Global,
+    report: &Report,
+    drawing: &[u8],
+    out: &mut Vec<u8>,
+) -> Result<(), ReportFault>
+    requires { IsDrawing report.now drawing.now }
     ensures written { OnOk result (IsPut out.old.items out.new.items (IsHeader report.now)) }
     ensures kept { OnErr result (out.new.items ≡ out.old.items) }
     ensures why { IfErr result (λ why. why ≡ ReportFault.OutOfMemory) }
 {
     let mut text = Vec::new(alloc);
-    match put_header(alloc, report, b"", &mut text) {
+    match put_header(alloc, report, drawing, &mut text) {
         Ok(()) => {}
         Err(_) => return Err(ReportFault::OutOfMemory),
     }
@@ -195,8 +203,8 @@ fn append_page<A: Archive>(
 impl Portions {
     ghost use Rattle.history_report.specs.Portions.{Begins, IsOfSame};
 
-    /// Begins: appends the header, a page's without a drawing. The records that the archive holds
-    /// now are those that the history is of.
+    /// Begins: appends the header, a page's with the drawing of its values. The records that the
+    /// archive holds now are those that the history is of, whatever it learns later.
     ///
     /// Errors: `Store` where the archive met a fault of its store, `OutOfMemory` where memory was
     /// wanting; then nothing is appended.
@@ -209,19 +217,26 @@ impl Portions {
         ensures begins { Begins report (A.state archive.old) (A.state archive.new) result }
         ensures header { OnOk result (IsPut out.old.items out.new.items (IsHeader report)) }
         ensures kept { OnErr result (out.new.items ≡ out.old.items) }
-        ensures asked { IsAskedWithin 0 (A.asked archive.old) (A.asked archive.new) }
+        ensures asked { IsAskedWithin 8 (A.asked archive.old) (A.asked archive.new) }
         ensures own { IsErrOf result ReportFault.Write → ⊥ }
     {
         let within = match archive.vector() {
             Ok(within) => within,
             Err(fault) => return Err(ReportFault::Store(fault)),
         };
-        let pages = Pages {
+        let mut pages = Pages {
             within,
             span: span_of(&report),
             after: None,
         };
-        match append_header(alloc, &report, out) {
+        let mut drawing = Vec::new(alloc);
+        match put_drawing(alloc, archive, &report, &mut pages, &mut drawing) {
+            Ok(()) => {}
+            Err(fault) => return Err(fault),
+        }
+        pages.span = span_of(&report);
+        pages.after = None;
+        match append_header(alloc, &report, drawing.as_slice(), out) {
             Ok(()) => Ok(Portions { report, pages }),
             Err(fault) => Err(fault),
         }

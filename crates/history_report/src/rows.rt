@@ -4,11 +4,14 @@ ghost use Rattle.std.specs.Prelude.{◌≡◌, ◌<◌, [], length, IsErrOf, OnO
 ghost use Rattle.counted_io.specs.Bytes.{counted};
 ghost use Rattle.history_csv.specs.Rows.{IsTextless, ShowsTextless};
 ghost use Rattle.history_report.specs.Reports.{IsValueLine, IsChangeLine};
-ghost use Rattle.history_report.specs.Paging.{SendsText, SendsFirst, SendsBefore, SendsLines, fault_told};
+ghost use Rattle.history_report.specs.Paging.{SendsText, SendsFirst, SendsBefore, SendsLines, fault_told, values_left, changes_left};
 
 use crate::fault::ReportFault;
 use crate::lines::{put_change_line, put_value_line};
+use crate::pages::{Pages, next_changes, next_values};
 use crate::report::Report;
+use crate::textless::{is_textless, shows_textless};
+use archive::{Archive, StoreFault};
 use counted_io::Counted;
 use history_text::TextFault;
 use records::{Entry, Held, Moment};
@@ -20,9 +23,13 @@ pub(crate) const LONG: usize = 65_536;
 
 /// A live value, or a modification.
 pub(crate) trait Row {
-    ghost use Rattle.std.specs.Prelude.{◌≡◌, ℕ, ℤ, List, IfErr, OnOk, OnErr};
+    ghost use Rattle.std.specs.Prelude.{◌≡◌, ◌↔◌, ℕ, ℤ, List, IfErr, IsTrue, MatchResult, OnOk, OnErr};
+    ghost use Rattle.ua_binary.specs.declared.values.NodeId.{NodeId};
+    ghost use Rattle.records.specs.Contents.{Content};
+    ghost use Rattle.archive.specs.Store.{IsAskedWithin};
+    ghost use Rattle.history_report.specs.declared.pages.Pages.{Pages};
     ghost use Rattle.history_report.specs.declared.report.Report.{Report};
-    ghost use Rattle.history_report.specs.Paging.{IsPut, IsWhy};
+    ghost use Rattle.history_report.specs.Paging.{Fails, GivesPage, IsPut, IsWhy};
 
     /// What its lines are.
     ghost is_line: { Report → Self → List ℕ → Type 0 };
@@ -32,6 +39,27 @@ pub(crate) trait Row {
 
     /// Its source time.
     ghost time_of: { Self → ℤ };
+
+    /// Those that are still to come of a node's history.
+    ghost left_of: { NodeId → Pages → Content → List Self };
+
+    /// The next page of what is still to come; an empty one is the last.
+    fn next_page<A: Archive>(
+        alloc: Global,
+        archive: &mut A,
+        report: &Report,
+        pages: &mut Pages,
+    ) -> Result<Vec<Self>, StoreFault>
+        ensures pages { MatchResult result
+            (λ page. GivesPage (A.state archive.old) (A.state archive.new) page.items
+            (left_of report.now.node pages.new) (left_of report.now.node pages.old))
+            (λ why. Fails (A.state archive.old) (A.state archive.new) why) }
+        ensures same { pages.new.within ≡ pages.old.within }
+        ensures asked { IsAskedWithin 8 (A.asked archive.old) (A.asked archive.new) };
+
+    /// Whether it shows a value that has no text.
+    fn lacks_text(&self) -> bool
+        ensures { IsTrue result ↔ is_textless self.now };
 
     /// Its source time.
     fn time(&self) -> Moment
@@ -53,6 +81,21 @@ impl Row for Held {
 
     ghost time_of = { λ held. held.time };
 
+    ghost left_of = { values_left };
+
+    fn next_page<A: Archive>(
+        alloc: Global,
+        archive: &mut A,
+        report: &Report,
+        pages: &mut Pages,
+    ) -> Result<Vec<Held>, StoreFault> {
+        next_values(alloc, archive, report, pages)
+    }
+
+    fn lacks_text(&self) -> bool {
+        is_textless(&self.value.value)
+    }
+
     fn time(&self) -> Moment {
         self.time
     }
@@ -68,6 +111,21 @@ impl Row for Entry {
     ghost is_textless = { λ entry. ShowsTextless entry.value };
 
     ghost time_of = { λ entry. entry.time };
+
+    ghost left_of = { changes_left };
+
+    fn next_page<A: Archive>(
+        alloc: Global,
+        archive: &mut A,
+        report: &Report,
+        pages: &mut Pages,
+    ) -> Result<Vec<Entry>, StoreFault> {
+        next_changes(alloc, archive, report, pages)
+    }
+
+    fn lacks_text(&self) -> bool {
+        shows_textless(&self.value)
+    }
 
     fn time(&self) -> Moment {
         self.time
