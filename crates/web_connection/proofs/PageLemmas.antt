@@ -1,8 +1,7 @@
 -- What is told of what was found.
-use Rattle.std.proofs.Common.{◌≡◌, ℕ, Bool, List, [], ◌∷◌, ◌++◌, Option, None, Some, Result, Ok, Err, true, false, inr, refl, sym, subst, ap, ◌∙◌}
-use Rattle.std.specs.Prelude.{⊤, MatchResult}
+use Rattle.std.proofs.Common.{◌≡◌, ℕ, Bool, List, [], ◌∷◌, ◌++◌, Option, None, Some, Result, Ok, Err, true, false, inl, inr, refl, sym, subst, ap, ◌∙◌}
+use Rattle.std.specs.Prelude.{⊤, IfOk, MatchResult}
 use Rattle.std.specs.declared.alloc.AllocError.{AllocError}
-use Rattle.http1.specs.Encoder.{piece_text}
 use Rattle.stamp.specs.Numbers.{number_of}
 use Rattle.records.specs.Contents.{Content, vec}
 use Rattle.archive.specs.Store.{Store}
@@ -15,26 +14,26 @@ use Rattle.history_report.specs.declared.report.Form.TheVariants as form
 use Rattle.history_report.specs.declared.report.Report.{Report}
 use Rattle.history_report.specs.Paging.{IsPut}
 use Rattle.history_report.specs.Reports.{IsHeader, changes_asked, report_faults}
-use Rattle.history_report.specs.Parts.{AreCrowded, AsksForPart, IsFirstPart, LacksText, PutsPart}
-use Rattle.history_report.specs.Portions.{Begins, Remainder, IsOfSame, IsPortion, IsWhole, ending}
+use Rattle.history_report.specs.Parts.{AreCrowded, AsksForPart, IsFirstPart, LacksText}
+use Rattle.history_report.specs.Portions.{Begins, BeginsPart, Remainder, IsOfSame, IsPortion, IsWhole, ending}
 use Rattle.settings_check.specs.Stored.{IsVectorOf, Reads}
 use Rattle.web_page.specs.declared.fault.PageFault.{PageFault}
 use Rattle.web_page.specs.Calls.{Overview}
 use Rattle.web_page.specs.Front.{page_faults}
 use Rattle.web_request.specs.Refusals.{refusal_text}
 use Rattle.web_request.specs.declared.answer.Kind.{Kind}
-use Rattle.web_request.specs.declared.answer.Kind.TheVariants.{Html, Json}
+use Rattle.web_request.specs.declared.answer.Kind.TheVariants.{Csv, Html, Json}
 use Rattle.web_request.specs.declared.page.Page.{Page}
 use Rattle.web_request.specs.declared.page.Question.{Question}
 use Rattle.web_request.specs.declared.page.Refusal.{Refusal}
 use Rattle.web_request.specs.declared.page.Refusal.TheVariants as why
 use Rattle.web_request.specs.declared.page.Request.{Request}
-use Rattle.web_connection.specs.Answers.{BeginsCsv, GoesOn, IsCrowded, IsHistoryPage, IsPortionText, IsStatus, OnlyAsks, Makes, TellsCsv, rest_of, TellsAsked, TellsPage, TellsRefusal, TellsStoreFault, AnswersRequest, refusal_of, report_of, sending_of}
+use Rattle.web_connection.specs.Answers.{BeginsHistory, GoesOn, IsBegun, IsCrowded, IsPortionText, IsStatus, OnlyAsks, Makes, RefusesPage, TellsCsv, TellsHistory, rest_of, TellsAsked, TellsPage, TellsRefusal, TellsStoreFault, AnswersRequest, refusal_of, report_of, sending_of}
 use Rattle.web_connection.specs.Status.{IsStatusJson}
-use Rattle.web_connection.specs.Texts.{answer_text, csv_head, coding_of}
+use Rattle.web_connection.specs.Texts.{answer_text, history_head}
 use Rattle.web_connection.specs.declared.sending.Sending.{Sending}
 use Rattle.web_connection.specs.declared.sending.Told.{Told}
-use Rattle.web_connection.proofs.AskingLemmas.{made-as, one-fault, only-asked, reads-of}
+use Rattle.web_connection.proofs.AskingLemmas.{made-as, made-by, one-fault, only-asked, reads-of}
 
 -- a page that was put behind nothing
 pub page-told : (kind : Kind) (head_only : Bool) (IsPage : List ℕ → Type 0)
@@ -67,36 +66,55 @@ state-told overview R head_only numbers text same (page, is, told) =
       told,
     )
 
+-- what was put behind nothing is the header of a report
+header-of : (report asked : Report) (empty header sent : List ℕ) → report ≡ asked → empty ≡ []
+    → sent ≡ header → IsPut empty header (IsHeader report) → IsHeader asked sent
+header-of report asked empty header sent is none same (line, puts, holds) =
+    subst (λ (r : Report). IsHeader r sent) is
+    (subst (IsHeader report) (sym (same ∙ (puts ∙ ap (λ e. e ++ line) none))) holds)
+
 -- a history that is begun
-pub csv-begun : (R : Content) (question : Question) (report : Report) (chunked : Bool)
-    (left : Remainder) (empty names sent text : List ℕ) → report ≡ report_of question form.Csv
-    → empty ≡ [] → sent ≡ names → IsPut empty names (IsHeader report)
-    → text ≡ csv_head chunked ++ piece_text (coding_of chunked) sent → IsWhole report left R
-    → BeginsCsv R question chunked text (Some (record { portions = left; chunked = chunked }))
-csv-begun R question report chunked left empty names sent text asked none same
-    (line, puts, holds) told whole = (
-      line,
-      subst (λ (r : Report). IsHeader r line) asked holds,
-      told ∙ ap (λ p. csv_head chunked ++ piece_text (coding_of chunked) p)
-          (same ∙ (puts ∙ ap (λ e. e ++ line) none)),
+pub history-begun : (R : Content) (kind : Kind) (report asked : Report) (head_only chunked : Bool)
+    (left : Remainder) (empty header sent text : List ℕ) (sending : Option Sending)
+    → report ≡ asked → empty ≡ [] → sent ≡ header → IsPut empty header (IsHeader report)
+    → IsWhole report left R
+    → IsBegun kind head_only sent (record { portions = left; chunked = chunked }) text sending
+    → BeginsHistory R kind asked head_only chunked text sending
+history-begun R kind report asked head_only chunked left empty header sent text sending is none same
+    puts whole told = (
+      sent,
+      header-of report asked empty header sent is none same puts,
       left,
-      subst (λ (r : Report). IsWhole r left R) asked whole,
-      refl,
+      subst (λ (r : Report). IsWhole r left R) is whole,
+      told,
     )
 
 -- the first part of a history
-pub history-told : (R : Content) (question : Question) (report : Report) (head_only : Bool)
-    (empty page text : List ℕ) → report ≡ report_of question form.Page → empty ≡ []
-    → text ≡ page → PutsPart report empty page R
-    → TellsPage Html head_only (IsHistoryPage R question) [] (answer_text Html text head_only)
-history-told R question report head_only empty page text asked none same shown =
-    let puts = shown.2 in
-    inr (
+pub page-begun : (R : Content) (question : Question) (report : Report) (head_only chunked : Bool)
+    (left : Remainder) (empty header sent text : List ℕ) (sending : Option Sending)
+    → report ≡ report_of question form.Page → empty ≡ [] → sent ≡ header
+    → BeginsPart report left R empty header
+    → IsBegun Html head_only sent (record { portions = left; chunked = chunked }) text sending
+    → TellsHistory R question head_only chunked [] text sending
+page-begun R question report head_only chunked left empty header sent text sending asked none same
+    (part, first, texts, puts, whole) told =
+    inl (
       refl,
-      puts.0,
-      (shown.0, subst (λ (r : Report). IsFirstPart R r shown.0) asked shown.1, puts.2),
-      ap (λ p. answer_text Html p head_only) (same ∙ (puts.1 ∙ ap (λ e. e ++ puts.0) none)),
+      (
+        part,
+        subst (λ (r : Report). IsFirstPart R r part) asked first,
+        texts,
+        history-begun R Html part part head_only chunked left empty header sent text sending refl
+            none same puts whole told,
+      ),
     )
+
+-- a page is refused
+pub page-refused : (R : Content) (question : Question) (head_only chunked : Bool)
+    (faults : List StoreFault) (text : List ℕ) (sending : Option Sending)
+    → RefusesPage R question head_only faults text → sending ≡ None
+    → TellsHistory R question head_only chunked faults text sending
+page-refused R question head_only chunked faults text sending refuses over = inr (refuses, over)
 
 -- what a request is answered, by why it is refused
 abbrev Judged : Overview → Content → Request → Option Refusal → List StoreFault → List ℕ
@@ -146,12 +164,12 @@ pub textless-told : (R : Content) (question : Question) (report : Report)
     → LacksText R (report_of question form.Page)
 textless-told R question report asked lacks = subst (λ (r : Report). LacksText R r) asked lacks
 
--- what was found where no part of a history was put
+-- what was found where no part of a history was begun
 abbrev pub PartFails : Report → (old new : List ℕ) → Store → Store → PartFault → Type 0
 PartFails report old new s t why =
-    AsksForPart {A = Unit {0}} s t (Err why)
+    AsksForPart {A = Remainder} s t (Err why)
     (λ R. (report.changes ≡ true) × AreCrowded (changes_asked R report)) (λ R. LacksText R report)
-    (λ done R. PutsPart report old new R)
+    (λ left R. BeginsPart report left R old new)
 
 -- ---- what was asked where nothing is made
 
@@ -171,11 +189,11 @@ begin-asks report s t (Ok left) begins =
 begin-asks report s t (Err why) begins =
     only-asked s t (report_faults (Err why)) (λ R. Unit {0}) begins.1
 
--- a part of a history was made, or not
-pub part-asks : (s t : Store) (result : Result (Unit {0}) PartFault)
-    (Crowds Lacks : Content → Type 0) (Holds : Unit {0} → Content → Type 0)
+-- a part of a history was begun, or not
+pub part-asks : (s t : Store) (result : Result Remainder PartFault)
+    (Crowds Lacks : Content → Type 0) (Holds : Remainder → Content → Type 0)
     → AsksForPart s t result Crowds Lacks Holds → OnlyAsks s t
-part-asks s t (Ok done) Crowds Lacks Holds reads = only-asked s t [] (Holds done) reads
+part-asks s t (Ok left) Crowds Lacks Holds reads = only-asked s t [] (Holds left) reads
 part-asks s t (Err part.Crowded) Crowds Lacks Holds reads = only-asked s t [] Crowds reads
 part-asks s t (Err (part.Report why)) Crowds Lacks Holds reads =
     only-asked s t (report_faults (Err why)) (λ R. why ≡ fault.NoText → Lacks R) reads.1
@@ -226,9 +244,26 @@ result-as s t (Ok told) P Q says made =
     (λ R faults p. says R faults told.text.items (sending_of told.rest) p) made
 result-as s t (Err starved) P Q says asks = asks
 
+-- a text that is told so, unless memory ran out
+pub told-by : (result : Result Told AllocError) (IsTold : List ℕ → Option Sending → Type 0)
+    (s t : Store) (faults : List StoreFault) (P : Content → Type 0)
+    (Q : Content → List StoreFault → List ℕ → Option Sending → Type 0)
+    → ((R : Content) (text : List ℕ) (sending : Option Sending) → P R → IsTold text sending
+    → Q R faults text sending)
+    → IfOk result (λ told. IsTold told.text.items (sending_of told.rest)) → Reads s t faults P
+    → MatchResult result (λ told. Makes s t
+    (λ R faults. Q R faults told.text.items (sending_of told.rest)))
+    (λ starved. OnlyAsks s t)
+told-by (Ok told) IsTold s t faults P Q says is reads =
+    made-by s t faults P
+    (λ (R : Content) (faults : List StoreFault).
+    Q R faults told.text.items (sending_of told.rest))
+    (λ R p. says R told.text.items (sending_of told.rest) p is) reads
+told-by (Err starved) IsTold s t faults P Q says is reads = only-asked s t faults P reads
+
 -- the head of a history alone
 pub csv-alone : (R : Content) (question : Question) (head_only chunked : Bool) (text : List ℕ)
-    → head_only ≡ true → text ≡ csv_head chunked
+    → head_only ≡ true → text ≡ history_head Csv chunked
     → TellsCsv R question head_only chunked [] text None
 csv-alone R question head_only chunked text alone told =
     subst (λ (b : Bool). TellsCsv R question b chunked [] text None) (sym alone)

@@ -15,7 +15,7 @@ use Rattle.history_report.specs.declared.report.Form.{Form}
 use Rattle.history_report.specs.declared.report.Form.TheVariants as form
 use Rattle.history_report.specs.declared.report.Report.{Report}
 use Rattle.history_report.specs.Reports.{IsHeader, report_faults, changes_asked}
-use Rattle.history_report.specs.Parts.{AreCrowded, IsFirstPart, IsPrinted, LacksText}
+use Rattle.history_report.specs.Parts.{AreCrowded, HasTextless, IsFirstPart, LacksText}
 use Rattle.history_report.specs.Portions.{Remainder, IsWhole, IsOfSame, IsPortion, ending}
 use Rattle.settings_check.specs.Stored.{Reads}
 use Rattle.web_page.specs.Calls.{Overview}
@@ -23,7 +23,7 @@ use Rattle.web_page.specs.Front.{IsFront}
 use Rattle.web_request.specs.Refusals.{refusal_text}
 use Rattle.web_request.specs.Requests.{ReadsRequest as IsRead, IsCutHead}
 use Rattle.web_request.specs.declared.answer.Kind.{Kind}
-use Rattle.web_request.specs.declared.answer.Kind.TheVariants.{Html, Json}
+use Rattle.web_request.specs.declared.answer.Kind.TheVariants.{Csv, Html, Json}
 use Rattle.web_request.specs.declared.page.Page.{Page}
 use Rattle.web_request.specs.declared.page.Page.TheVariants as page
 use Rattle.web_request.specs.declared.page.Question.{Question}
@@ -32,7 +32,7 @@ use Rattle.web_request.specs.declared.page.Refusal.TheVariants as why
 use Rattle.web_request.specs.declared.page.Request.{Request}
 use Rattle.web_request.specs.declared.page.RequestFault.TheVariants.{Refused}
 use Rattle.web_connection.specs.Access.{is_let_in, are_wrong}
-use Rattle.web_connection.specs.Texts.{answer_text, csv_head, coding_of}
+use Rattle.web_connection.specs.Texts.{answer_text, history_head, coding_of}
 use Rattle.web_connection.specs.Status.{IsStatusJson}
 use Rattle.web_connection.specs.declared.sending.Sending.{Sending}
 use Rattle.web_connection.specs.declared.sending.Rest.{Rest}
@@ -110,29 +110,47 @@ abbrev pub IsCrowded : Content → Question → Type 0
 IsCrowded R question =
     (question.changes ≡ true) × AreCrowded (changes_asked R (report_of question form.Page))
 
--- the page is the first part of a history, which leads to the rest
-abbrev pub IsHistoryPage : Content → Question → List ℕ → Type 0
-IsHistoryPage R question page =
-    (part : Report) × IsFirstPart R (report_of question form.Page) part × IsPrinted R part page
+-- The head of a history is told, and what stands above its rows as its first portion, and all its
+-- rows are still to be sent; or its head, where that alone is asked for.
+abbrev pub IsBegun : Kind → (head_only : Bool) → (header : List ℕ) → Sending → List ℕ
+    → Option Sending → Type 0
+IsBegun kind head_only header left text sending =
+    elim head_only [
+      | true ↦ (text ≡ history_head kind left.chunked) × (sending ≡ None)
+      | false ↦ (text ≡ history_head kind left.chunked
+          ++ piece_text (coding_of left.chunked) header) × (sending ≡ Some left)
+    ]
 
--- such a page of a history is told; or that it is crowded, where it is; or that a value that it
--- would show has no text, where one hasn't
-abbrev pub TellsHistory : Content → Question → (head_only : Bool) → List StoreFault → List ℕ
+-- a report of what is held is begun so
+abbrev pub BeginsHistory : Content → Kind → Report → (head_only chunked : Bool) → List ℕ
+    → Option Sending → Type 0
+BeginsHistory R kind report head_only chunked text sending =
+    (header : List ℕ) × IsHeader report header × (left : Remainder) × IsWhole report left R
+    × IsBegun kind head_only header (record { portions = left; chunked = chunked }) text sending
+
+-- a page of a history is begun: its first part, which leads to the rest; each of its rows has a text
+abbrev pub BeginsPage : Content → Question → (head_only chunked : Bool) → List ℕ → Option Sending
     → Type 0
-TellsHistory R question head_only faults text =
-    TellsPage Html head_only (IsHistoryPage R question) faults text
+BeginsPage R question head_only chunked text sending =
+    (part : Report) × IsFirstPart R (report_of question form.Page) part
+    × (HasTextless R part → ⊥) × BeginsHistory R Html part head_only chunked text sending
+
+-- it is told why there is no page of a history: the archive can't be read now, or it is crowded, or
+-- a value that the page would show has no text
+abbrev pub RefusesPage : Content → Question → (head_only : Bool) → List StoreFault → List ℕ
+    → Type 0
+RefusesPage R question head_only faults text =
+    TellsStoreFault head_only faults text
     ⊎ ((IsCrowded R question × TellsRefusal why.Crowded head_only faults text)
     ⊎ (LacksText R (report_of question form.Page)
     × TellsRefusal why.NoText head_only faults text))
 
--- The head of a history as CSV is told, and the names of its fields as its first portion; the whole
--- history is still to be sent.
-abbrev pub BeginsCsv : Content → Question → (chunked : Bool) → List ℕ → Option Sending → Type 0
-BeginsCsv R question chunked text sending =
-    (names : List ℕ) × IsHeader (report_of question form.Csv) names
-    × (text ≡ csv_head chunked ++ piece_text (coding_of chunked) names)
-    × (left : Remainder) × IsWhole (report_of question form.Csv) left R
-    × (sending ≡ Some (record { portions = left; chunked = chunked }))
+-- a history as a page is begun, or it is told why there is none
+abbrev pub TellsHistory : Content → Question → (head_only chunked : Bool) → List StoreFault
+    → List ℕ → Option Sending → Type 0
+TellsHistory R question head_only chunked faults text sending =
+    ((faults ≡ []) × BeginsPage R question head_only chunked text sending)
+    ⊎ (RefusesPage R question head_only faults text × (sending ≡ None))
 
 -- a history as CSV is begun, or its head is told where that alone is asked for; or it is told that
 -- the archive can't be read now
@@ -140,9 +158,10 @@ abbrev pub TellsCsv : Content → Question → (head_only chunked : Bool) → Li
     → Option Sending → Type 0
 TellsCsv R question head_only chunked faults text sending =
     elim head_only [
-      | true ↦ (faults ≡ []) × (text ≡ csv_head chunked) × (sending ≡ None)
+      | true ↦ (faults ≡ []) × (text ≡ history_head Csv chunked) × (sending ≡ None)
       | false ↦ (TellsStoreFault false faults text × (sending ≡ None))
-          ⊎ ((faults ≡ []) × BeginsCsv R question chunked text sending)
+          ⊎ ((faults ≡ [])
+          × BeginsHistory R Csv (report_of question form.Csv) false chunked text sending)
     ]
 
 -- A portion of a history as it is sent, and after the last one the end. Where the store met a
@@ -199,7 +218,7 @@ abbrev pub TellsAsked : Overview → Content → Page → (head_only chunked : B
 TellsAsked overview R asked head_only chunked faults text sending =
     elim asked [
       | page.Front ↦ TellsPage Html head_only (IsFront overview R) faults text × (sending ≡ None)
-      | page.History question ↦ TellsHistory R question head_only faults text × (sending ≡ None)
+      | page.History question ↦ TellsHistory R question head_only chunked faults text sending
       | page.Csv question ↦ TellsCsv R question head_only chunked faults text sending
       | page.Status ↦ TellsPage Json head_only (IsStatus overview R) faults text × (sending ≡ None)
     ]

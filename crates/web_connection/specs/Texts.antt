@@ -7,7 +7,6 @@ use Rattle.web_request.specs.declared.answer.Answer.{Answer}
 use Rattle.web_request.specs.declared.answer.Body.{Body}
 use Rattle.web_request.specs.declared.answer.Body.TheVariants.{Length, Chunked, UntilClose}
 use Rattle.web_request.specs.declared.answer.Kind.{Kind}
-use Rattle.web_request.specs.declared.answer.Kind.TheVariants.{Csv}
 use Rattle.web_request.specs.declared.answer.Status.TheVariants.{Success}
 
 -- what the head of an answer tells: the connection is closed after it
@@ -19,9 +18,9 @@ abbrev pub answer_text : Kind → (page : List ℕ) → (head_only : Bool) → L
 answer_text kind page head_only =
     head_text (told_of kind (Length (length page))) ++ (if head_only then [] else page)
 
--- the head of a history as CSV, whose length isn't known
-abbrev pub csv_head : (chunked : Bool) → List ℕ
-csv_head chunked = head_text (told_of Csv (if chunked then Chunked else UntilClose))
+-- the head of a history, whose length isn't known
+abbrev pub history_head : Kind → (chunked : Bool) → List ℕ
+history_head kind chunked = head_text (told_of kind (if chunked then Chunked else UntilClose))
 
 -- how the portions of a history are framed
 abbrev pub coding_of : (chunked : Bool) → Encoder

@@ -145,11 +145,11 @@ impl WebConnection {
     }
 
     /// Makes the next part of the answer, and appends it to `out`: what came is refused, or the page
-    /// that is asked for is told, whole or its head alone; a history as CSV goes on at each call, by at
-    /// most eight values or modifications, and 64 KiB and a line, of the records that were held when
-    /// it began. Who isn't one of the settings' users is told that, and no page; where credentials were
-    /// given, the step is `Denied`. The archive stays as it is; where its store meets a fault that is
-    /// told, or a history that was begun is broken off.
+    /// that is asked for is told, whole or its head alone; a history, as CSV or as a page, is begun, and
+    /// goes on at each call, by at most eight values or modifications, and 64 KiB and a line, of the
+    /// records that were held when it began. Who isn't one of the settings' users is told that, and no
+    /// page; where credentials were given, the step is `Denied`. The archive stays as it is; where its
+    /// store meets a fault that is told, or a history that was begun is broken off.
     ///
     /// The one error is want of memory, and then nothing is appended. The connection is over then, as
     /// it is after `Ended` and `Denied`.

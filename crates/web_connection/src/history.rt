@@ -1,16 +1,19 @@
-//! Histories: as CSV, portion by portion, and as a page.
+//! Histories, portion by portion: as CSV, and as a page.
 
 ghost use Rattle.std.specs.Prelude.{◌≡◌, ◌≢◌, ◌⊎◌, ◌++◌, [], MatchResult, IfOk, OnOk, None, false};
+ghost use Rattle.web_request.specs.Refusals.{refusal_text};
+ghost use Rattle.web_request.specs.declared.answer.Kind.TheVariants.{Csv};
+ghost use Rattle.history_report.specs.declared.report.Form.TheVariants as forms;
 ghost use Rattle.archive.specs.Store.{IsAskedWithin};
 ghost use Rattle.http1.specs.Encoder.{piece_text, end_text};
-ghost use Rattle.web_connection.specs.Texts.{csv_head, coding_of};
-ghost use Rattle.web_connection.specs.Answers.{Makes, OnlyAsks, TellsStoreFault, TellsHistory, TellsCsv, BeginsCsv, GoesOn, IsPortionText, rest_of, sending_of, is_variable, report_of};
+ghost use Rattle.web_connection.specs.Texts.{history_head, coding_of};
+ghost use Rattle.web_connection.specs.Answers.{Makes, OnlyAsks, TellsStoreFault, TellsHistory, TellsCsv, IsBegun, BeginsHistory, GoesOn, IsPortionText, rest_of, sending_of, is_variable, report_of};
 ghost use Rattle.web_connection.specs.declared.sending.Rest.TheVariants.{Denied};
 
 use crate::sending::{Rest, Sending, Told};
-use crate::texts::{page_text, refusal_text, told_of};
+use crate::texts::{refusal_text, told_of};
 use archive::Archive;
-use history_report::{Form, PartFault, Portions, Report, ReportFault, put_part};
+use history_report::{Form, PartFault, Portions, Report, ReportFault};
 use std::alloc::{AllocError, Global};
 use ua_binary::NodeId;
 use ua_settings::Settings;
@@ -37,9 +40,9 @@ fn report_of(question: Question, form: Form) -> Report
     }
 }
 
-/// The head of a history as CSV.
-fn csv_head(alloc: Global, chunked: bool) -> Result<Vec<u8>, AllocError>
-    ensures { IfOk result (λ text. text.items ≡ csv_head chunked) }
+/// The head of a history.
+fn history_head(alloc: Global, kind: Kind, chunked: bool) -> Result<Vec<u8>, AllocError>
+    ensures { IfOk result (λ text. text.items ≡ history_head kind chunked) }
 {
     let body = if chunked {
         Body::Chunked
@@ -47,7 +50,7 @@ fn csv_head(alloc: Global, chunked: bool) -> Result<Vec<u8>, AllocError>
         Body::UntilClose
     };
     let mut out = Vec::new(alloc);
-    put_head(alloc, &mut out, told_of(Kind::Csv, body))?;
+    put_head(alloc, &mut out, told_of(kind, body))?;
     Ok(out)
 }
 
@@ -72,13 +75,54 @@ fn put_end(out: &mut Vec<u8>, chunked: bool) -> Result<(), AllocError>
 }
 
 /// The head of a history, and its first portion.
-fn begun_text(alloc: Global, names: &[u8], chunked: bool) -> Result<Vec<u8>, AllocError>
+fn begun_text(
+    alloc: Global,
+    kind: Kind,
+    header: &[u8],
+    chunked: bool,
+) -> Result<Vec<u8>, AllocError>
     ensures { IfOk result (λ text. text.items
-        ≡ csv_head chunked ++ piece_text (coding_of chunked) names.now) }
+        ≡ history_head kind chunked ++ piece_text (coding_of chunked) header.now) }
 {
-    let mut out = csv_head(alloc, chunked)?;
-    put_portion(&mut out, names, chunked)?;
+    let mut out = history_head(alloc, kind, chunked)?;
+    put_portion(&mut out, header, chunked)?;
     Ok(out)
+}
+
+/// A history of this header is begun; or its head is told, where that alone is asked for.
+fn begun(
+    alloc: Global,
+    kind: Kind,
+    head_only: bool,
+    header: &[u8],
+    sending: Sending,
+) -> Result<Told, AllocError>
+    ensures told { IfOk result (λ told.
+        IsBegun kind head_only header.now sending told.text.items (sending_of told.rest)) }
+    ensures let_in { IfOk result (λ told. told.rest ≢ Denied) }
+{
+    if head_only {
+        return Ok(Told {
+            text: history_head(alloc, kind, sending.chunked)?,
+            rest: Rest::Over,
+        });
+    }
+    Ok(Told {
+        text: begun_text(alloc, kind, header, sending.chunked)?,
+        rest: Rest::Sending(sending),
+    })
+}
+
+/// A history is refused.
+fn refused(alloc: Global, why: Refusal, head_only: bool) -> Result<Told, AllocError>
+    ensures told { IfOk result (λ told.
+        (told.text.items ≡ refusal_text why head_only) × (sending_of told.rest ≡ None)) }
+    ensures let_in { IfOk result (λ told. told.rest ≢ Denied) }
+{
+    Ok(Told {
+        text: refusal_text(alloc, why, head_only)?,
+        rest: Rest::Over,
+    })
 }
 
 /// Begins a history as CSV.
@@ -91,28 +135,19 @@ fn begin_csv<A: Archive>(
     ensures answers { MatchResult result
         (λ told. Makes (A.state archive.old) (A.state archive.new)
         (λ R faults. (TellsStoreFault false faults told.text.items × (sending_of told.rest ≡ None))
-        ⊎ ((faults ≡ [])
-        × BeginsCsv R question chunked told.text.items (sending_of told.rest))))
+        ⊎ ((faults ≡ []) × BeginsHistory R Csv (report_of question forms.Csv) false chunked
+        told.text.items (sending_of told.rest))))
         (λ starved. OnlyAsks (A.state archive.old) (A.state archive.new)) }
     ensures let_in { IfOk result (λ told. told.rest ≢ Denied) }
     ensures asked { IsAskedWithin 8 (A.asked archive.old) (A.asked archive.new) }
 {
     let mut names = Vec::new(alloc);
     match Portions::begin(alloc, archive, report_of(question, Form::Csv), &mut names) {
-        Ok(portions) => match begun_text(alloc, names.as_slice(), chunked) {
-            Ok(text) => Ok(Told {
-                text,
-                rest: Rest::Sending(Sending { portions, chunked }),
-            }),
-            Err(_) => Err(AllocError),
-        },
-        Err(ReportFault::Store(_)) => match refusal_text(alloc, Refusal::Store, false) {
-            Ok(text) => Ok(Told {
-                text,
-                rest: Rest::Over,
-            }),
-            Err(_) => Err(AllocError),
-        },
+        Ok(portions) => {
+            let sending = Sending { portions, chunked };
+            begun(alloc, Kind::Csv, false, names.as_slice(), sending)
+        }
+        Err(ReportFault::Store(_)) => refused(alloc, Refusal::Store, false),
         Err(_) => Err(AllocError),
     }
 }
@@ -135,11 +170,40 @@ pub(crate) fn told_csv<A: Archive>(
 {
     if head_only {
         return Ok(Told {
-            text: csv_head(alloc, chunked)?,
+            text: history_head(alloc, Kind::Csv, chunked)?,
             rest: Rest::Over,
         });
     }
     begin_csv(alloc, archive, question, chunked)
+}
+
+/// A history as a page: the beginning of its first part, which leads to the rest, or its head alone.
+pub(crate) fn told_page<A: Archive>(
+    alloc: Global,
+    archive: &mut A,
+    question: Question,
+    head_only: bool,
+    chunked: bool,
+) -> Result<Told, AllocError>
+    ensures answers { MatchResult result
+        (λ told. Makes (A.state archive.old) (A.state archive.new)
+        (λ R faults. TellsHistory R question head_only chunked faults told.text.items
+        (sending_of told.rest)))
+        (λ starved. OnlyAsks (A.state archive.old) (A.state archive.new)) }
+    ensures let_in { IfOk result (λ told. told.rest ≢ Denied) }
+    ensures asked { IsAskedWithin 8 (A.asked archive.old) (A.asked archive.new) }
+{
+    let mut header = Vec::new(alloc);
+    match Portions::begin_part(alloc, archive, report_of(question, Form::Page), &mut header) {
+        Ok(portions) => {
+            let sending = Sending { portions, chunked };
+            begun(alloc, Kind::Html, head_only, header.as_slice(), sending)
+        }
+        Err(PartFault::Crowded) => refused(alloc, Refusal::Crowded, head_only),
+        Err(PartFault::Report(ReportFault::Store(_))) => refused(alloc, Refusal::Store, head_only),
+        Err(PartFault::Report(ReportFault::NoText)) => refused(alloc, Refusal::NoText, head_only),
+        Err(_) => Err(AllocError),
+    }
 }
 
 /// A portion in its frame.
@@ -160,33 +224,6 @@ fn last_text(alloc: Global, portion: &[u8], chunked: bool) -> Result<Vec<u8>, Al
     put_portion(&mut out, portion, chunked)?;
     put_end(&mut out, chunked)?;
     Ok(out)
-}
-
-/// A history as a page: its first part, which leads to the rest.
-pub(crate) fn history_text<A: Archive>(
-    alloc: Global,
-    archive: &mut A,
-    question: Question,
-    head_only: bool,
-) -> Result<Vec<u8>, AllocError>
-    ensures answers { MatchResult result
-        (λ text. Makes (A.state archive.old) (A.state archive.new)
-        (λ R faults. TellsHistory R question head_only faults text.items))
-        (λ starved. OnlyAsks (A.state archive.old) (A.state archive.new)) }
-    ensures asked { IsAskedWithin 8 (A.asked archive.old) (A.asked archive.new) }
-{
-    let mut page = Vec::new(alloc);
-    match put_part(alloc, archive, report_of(question, Form::Page), &mut page) {
-        Ok(()) => page_text(alloc, Kind::Html, page.as_slice(), head_only),
-        Err(PartFault::Crowded) => refusal_text(alloc, Refusal::Crowded, head_only),
-        Err(PartFault::Report(ReportFault::Store(_))) => {
-            refusal_text(alloc, Refusal::Store, head_only)
-        }
-        Err(PartFault::Report(ReportFault::NoText)) => {
-            refusal_text(alloc, Refusal::NoText, head_only)
-        }
-        Err(_) => Err(AllocError),
-    }
 }
 
 /// A portion as it is sent: after the last one stands the end. Where the store met a fault, or a value

@@ -9,7 +9,7 @@ ghost use Rattle.web_connection.specs.Answers.{Makes, OnlyAsks, lacks_variable, 
 ghost use Rattle.web_connection.specs.declared.sending.Rest.TheVariants.{Denied};
 
 use crate::access::{are_wrong, is_let_in};
-use crate::history::{history_text, is_variable, told_csv};
+use crate::history::{is_variable, told_csv, told_page};
 use crate::pages::{front_text, state_text};
 use crate::sending::{Rest, Told};
 use crate::texts::refusal_text;
@@ -85,10 +85,7 @@ fn told_request<A: Archive>(
             rest: Rest::Over,
         }),
         Page::Csv(question) => told_csv(alloc, archive, question, head_only, takes_chunks),
-        Page::History(question) => Ok(Told {
-            text: history_text(alloc, archive, question, head_only)?,
-            rest: Rest::Over,
-        }),
+        Page::History(question) => told_page(alloc, archive, question, head_only, takes_chunks),
     }
 }
 

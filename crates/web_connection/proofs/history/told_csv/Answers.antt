@@ -12,8 +12,8 @@ returns-then-head_only-clause-answers g c =
     let state = g.A.Archive.state in
     made-alone (state c.args.archive.now) _
     (λ R. csv-alone R c.args.question c.args.head_only c.args.chunked
-    c.in_ok-csv_head.field-0.items c.if-head_only.true
-    c.in_ok-csv_head.ensures)
+    c.in_ok-history_head.field-0.items c.if-head_only.true
+    c.in_ok-history_head.ensures)
 
 pub returns-clause-answers : goal.returns-clause-answers
 returns-clause-answers g c =

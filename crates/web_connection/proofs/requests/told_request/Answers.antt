@@ -55,10 +55,11 @@ returns-clause-answers g c =
     let overview = overview_of c.args.overview in
     let request = c.args.request in
     let question = c.in-History.question in
-    let text = c.in_ok-history_text-in-History.field-0.items in
-    made-as (state c.args.archive.now) (state c.history_text.new.archive)
-    (λ (R : Content) (faults : List StoreFault).
-    TellsHistory R question request.head_only faults text) _
-    (λ R faults p. asked-as overview R request.page (page.History question) request.head_only
-    request.takes_chunks faults text None c.in-History.is (p, refl))
-    c.in_ok-history_text-in-History.ensures.answers
+    result-as (state c.args.archive.now) (state c.told_page.new.archive) c.told_page.result
+    (λ (R : Content) (faults : List StoreFault) (text : List ℕ) (sending : Option Sending).
+    TellsHistory R question request.head_only request.takes_chunks faults text sending)
+    (λ (R : Content) (faults : List StoreFault) (text : List ℕ) (sending : Option Sending).
+    TellsAsked overview R request.page request.head_only request.takes_chunks faults text sending)
+    (λ R faults text sending p. asked-as overview R request.page (page.History question)
+    request.head_only request.takes_chunks faults text sending c.in-History.is p)
+    c.told_page.ensures.answers
