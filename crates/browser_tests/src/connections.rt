@@ -236,6 +236,22 @@ pub(crate) const CHUNKED: &str = "GET /history.csv?node=ns%3D1%3Bs%3Dn HTTP/1.1\
 /// The same by HTTP/1.0.
 const PLAIN: &str = "GET /history.csv?node=ns%3D1%3Bs%3Dn HTTP/1.0\r\n\r\n";
 
+/// A history as a page is asked for by HTTP/1.1.
+const CHUNKED_PAGE: &str = "GET /history?node=ns%3D1%3Bs%3Dn HTTP/1.1\r\nHost: a\r\n\r\n";
+
+/// The same by HTTP/1.0.
+const PLAIN_PAGE: &str = "GET /history?node=ns%3D1%3Bs%3Dn HTTP/1.0\r\n\r\n";
+
+/// The request of a history in this form, by HTTP/1.1, which takes chunks, or by HTTP/1.0.
+fn request_of(form: Form, chunked: bool) -> &'static str {
+    match (form, chunked) {
+        (Form::Page, true) => CHUNKED_PAGE,
+        (Form::Page, false) => PLAIN_PAGE,
+        (_, true) => CHUNKED,
+        (_, false) => PLAIN,
+    }
+}
+
 /// What stands behind the head of an answer.
 fn body_of(made: &[u8]) -> &str {
     match str::from_utf8(made) {
@@ -262,32 +278,33 @@ fn is_sent_as<A: Archive>(
     alloc: Global,
     settings: &Settings,
     archive: &mut A,
-    chunked: bool,
+    asked: (Form, bool),
     wanted: &[u8],
 ) -> bool {
     let mut made = Vec::new(alloc);
-    let request = if chunked { CHUNKED } else { PLAIN };
+    let (form, chunked) = asked;
+    let request = request_of(form, chunked);
     let ended = put_made(alloc, settings, archive, (request, Whole), &mut made);
     ended.is_some() && is_body(made.as_slice(), chunked, wanted)
 }
 
 /// Whether the history is sent as these bytes, by HTTP/1.0 and by HTTP/1.1.
-fn is_sent_both<A: Archive>(alloc: Global, archive: &mut A, wanted: &[u8]) -> bool {
+fn is_sent_both<A: Archive>(alloc: Global, archive: &mut A, form: Form, wanted: &[u8]) -> bool {
     match settings_of(alloc, true) {
         Some(settings) => {
-            is_sent_as(alloc, &settings, archive, false, wanted)
-                && is_sent_as(alloc, &settings, archive, true, wanted)
+            is_sent_as(alloc, &settings, archive, (form, false), wanted)
+                && is_sent_as(alloc, &settings, archive, (form, true), wanted)
         }
         None => false,
     }
 }
 
-/// Whether the history is sent as it is printed.
-fn is_sent_whole<A: Archive>(alloc: Global, archive: &mut A) -> bool {
-    match report_of(alloc, false, Form::Csv) {
+/// Whether the history is sent as it is printed in this form.
+fn is_sent_whole<A: Archive>(alloc: Global, archive: &mut A, form: Form) -> bool {
+    match report_of(alloc, false, form) {
         Ok(report) => {
             let (ended, wanted) = printed(alloc, archive, &report);
-            ended.is_ok() && is_sent_both(alloc, archive, wanted.as_slice())
+            ended.is_ok() && is_sent_both(alloc, archive, form, wanted.as_slice())
         }
         Err(_) => false,
     }
@@ -296,7 +313,11 @@ fn is_sent_whole<A: Archive>(alloc: Global, archive: &mut A) -> bool {
 /// The same of an archive that was made, and is the plant's then.
 fn is_sent_over<A: Archive + Drop>(alloc: Global, made: Result<A, StoreFault>) -> bool {
     match made {
-        Ok(mut archive) => { is_planted(alloc, &mut archive) && is_sent_whole(alloc, &mut archive) }
+        Ok(mut archive) => {
+            is_planted(alloc, &mut archive)
+                && is_sent_whole(alloc, &mut archive, Form::Csv)
+                && is_sent_whole(alloc, &mut archive, Form::Page)
+        }
         Err(_) => false,
     }
 }

@@ -6,7 +6,7 @@ use crate::portions::{
 use Form::Page;
 use archive::{Archive, StoreFault};
 use history_csv::read_moment;
-use history_report::{Form, PartFault, Report, ReportFault, put_part};
+use history_report::{Form, PartFault, Portions, Report, ReportFault};
 use records::Moment;
 use std::alloc::{AllocError, Global};
 use std::test::Fail;
@@ -74,6 +74,36 @@ fn next_from(alloc: Global, page: &str) -> Result<Option<Moment>, AllocError> {
 /// The first moment of a part of the node's history, the second before which it ends, and whether it
 /// is of modifications.
 type Stretch = (Option<Moment>, Option<i64>, bool);
+
+/// Appends all portions that are left.
+fn put_portions<A: Archive>(
+    alloc: Global,
+    archive: &mut A,
+    portions: &mut Portions,
+    out: &mut Vec<u8>,
+) -> Result<(), PartFault> {
+    for _ in 0..1000u32 {
+        match portions.next(alloc, archive, out) {
+            Ok(true) => {}
+            Ok(false) => return Ok(()),
+            Err(fault) => return Err(PartFault::Report(fault)),
+        }
+    }
+    Err(PartFault::Report(ReportFault::OutOfMemory))
+}
+
+/// Appends the first part of a report, portion by portion.
+fn put_part<A: Archive>(
+    alloc: Global,
+    archive: &mut A,
+    report: Report,
+    out: &mut Vec<u8>,
+) -> Result<(), PartFault> {
+    match Portions::begin_part(alloc, archive, report, out) {
+        Ok(mut portions) => put_portions(alloc, archive, &mut portions, out),
+        Err(fault) => Err(fault),
+    }
+}
 
 /// Appends a part of the node's history.
 fn put_stretch<A: Archive>(

@@ -1,6 +1,6 @@
 //! A history that is made portion by portion.
 
-use Form::{Csv, Table};
+use Form::{Csv, Page, Table};
 use archive::{Archive, LearnFault, ListArchive, StoreFault};
 use counted_io::Counted;
 use history_report::{Form, Portions, Report, ReportFault, print_report};
@@ -190,7 +190,7 @@ type Case = (bool, Form);
 
 /// What is tried: how many updates an archive has at first, how many of them at each second, and
 /// which of them is no number, and what it is; the updates that come before each portion, two at a
-/// time; how many lines each portion has, and how it ends.
+/// time; how many rows each portion has, and how it ends.
 struct Tried {
     count: u64,
     at_once: u64,
@@ -231,25 +231,52 @@ fn learns_both<A: Archive>(alloc: Global, archive: &mut A, pair: Option<&[Update
     }
 }
 
-/// Whether the next portion has so many lines, and ends so.
+/// What a row of a page begins by.
+const ROW: &str = "<tr><td>";
+
+/// What a row of a page of modifications begins by.
+const CHANGE: &str = "<tr class=";
+
+/// How many lines of a text are rows of a page.
+fn page_rows(text: &str) -> usize {
+    let mut count = 0usize;
+    for line in text.lines() {
+        if line.starts_with(ROW) || line.starts_with(CHANGE) {
+            count = count.saturating_add(1);
+        }
+    }
+    count
+}
+
+/// How many rows a text has: its lines, and of a page those that are rows of its table.
+fn row_count(form: Form, text: &[u8]) -> usize {
+    match (form, str::from_utf8(text)) {
+        (Page, Ok(text)) => page_rows(text),
+        _ => line_count(text),
+    }
+}
+
+/// Whether the next portion has so many rows, and ends so.
 fn is_next<A: Archive>(
     alloc: Global,
     archive: &mut A,
+    form: Form,
     portions: &mut Portions,
     out: &mut Vec<u8>,
     wanted: (usize, Result<bool, ReportFault>),
 ) -> bool {
-    let before = line_count(out.as_slice());
+    let before = row_count(form, out.as_slice());
     let ended = portions.next(alloc, archive, out);
-    let lines = line_count(out.as_slice()).saturating_sub(before);
-    lines == wanted.0 && ended == wanted.1
+    let rows = row_count(form, out.as_slice()).saturating_sub(before);
+    rows == wanted.0 && ended == wanted.1
 }
 
-/// Whether all portions have so many lines each, and end so; before each, an archive takes the next
+/// Whether all portions have so many rows each, and end so; before each, an archive takes the next
 /// two updates.
 fn are_next<A: Archive>(
     alloc: Global,
     archive: &mut A,
+    form: Form,
     portions: &mut Portions,
     out: &mut Vec<u8>,
     tried: &Tried,
@@ -257,12 +284,20 @@ fn are_next<A: Archive>(
     let mut between = tried.between.iter();
     for wanted in tried.wanted {
         if !learns_both(alloc, archive, between.next())
-            || !is_next(alloc, archive, portions, out, *wanted)
+            || !is_next(alloc, archive, form, portions, out, *wanted)
         {
             return false;
         }
     }
     true
+}
+
+/// Whether a text is a header: one line, and of a page all up to its first row.
+fn is_header(form: Form, text: &[u8]) -> bool {
+    match form {
+        Page => row_count(form, text) == 0 && text.ends_with(b"</thead>\n<tbody>\n"),
+        Csv | Table => line_count(text) == 1,
+    }
 }
 
 /// Whether a report is made of a header and such portions.
@@ -273,9 +308,11 @@ fn is_made<A: Archive>(
     tried: &Tried,
     out: &mut Vec<u8>,
 ) -> bool {
+    let form = report.form;
     match Portions::begin(alloc, archive, report, out) {
         Ok(mut portions) => {
-            line_count(out.as_slice()) == 1 && are_next(alloc, archive, &mut portions, out, tried)
+            is_header(form, out.as_slice())
+                && are_next(alloc, archive, form, &mut portions, out, tried)
         }
         Err(_) => false,
     }
@@ -335,17 +372,20 @@ fn are_parted(alloc: Global, cases: &[(&'static str, Case)], tried: &Tried) -> R
 }
 
 /// Values or modifications, in each form.
-static CASES: [(&str, Case); 4] = [
+static CASES: [(&str, Case); 6] = [
     ("values as CSV", (false, Csv)),
     ("values as a table", (false, Table)),
+    ("values as a page", (false, Page)),
     ("modifications as CSV", (true, Csv)),
     ("modifications as a table", (true, Table)),
+    ("modifications as a page", (true, Page)),
 ];
 
 /// Modifications, in each form.
-static CHANGES: [(&str, Case); 2] = [
+static CHANGES: [(&str, Case); 3] = [
     ("modifications as CSV", (true, Csv)),
     ("modifications as a table", (true, Table)),
+    ("modifications as a page", (true, Page)),
 ];
 
 /// The portions of 40 updates.

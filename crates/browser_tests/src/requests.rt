@@ -16,7 +16,7 @@ use web_connection::WebStep;
 type Row = (bool, &'static str, &'static str, &'static str, usize);
 
 /// Requests whose answer is a page or rows.
-static ANSWERED: [Row; 10] = [
+static ANSWERED: [Row; 12] = [
     (
         true,
         "GET / HTTP/1.1\r\nHost: a\r\n\r\n",
@@ -48,8 +48,22 @@ static ANSWERED: [Row; 10] = [
     (
         true,
         "GET /history?node=ns%3D1%3Bs%3Dn HTTP/1.1\r\nHost: a\r\n\r\n",
-        "HTTP/1.1 200 OK\r\nContent-Type: text/html; charset=utf-8\r\nContent-Length: ",
+        "HTTP/1.1 200 OK\r\nContent-Type: text/html; charset=utf-8\r\nTransfer-Encoding: chunked\r\nConnection: close\r\n",
+        "</body>\n</html>\n\r\n0\r\n\r\n",
+        6,
+    ),
+    (
+        true,
+        "GET /history?node=ns%3D1%3Bs%3Dn&changes=true HTTP/1.0\r\n\r\n",
+        "HTTP/1.1 200 OK\r\nContent-Type: text/html; charset=utf-8\r\nConnection: close\r\n",
         "</body>\n</html>\n",
+        6,
+    ),
+    (
+        true,
+        "HEAD /history?node=ns%3D1%3Bs%3Dn HTTP/1.1\r\nHost: a\r\n\r\n",
+        "HTTP/1.1 200 OK\r\nContent-Type: text/html; charset=utf-8\r\nTransfer-Encoding: chunked\r\nConnection: close\r\n",
+        "\r\nReferrer-Policy: no-referrer\r\n\r\n",
         0,
     ),
     (
