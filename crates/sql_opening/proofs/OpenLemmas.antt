@@ -326,33 +326,6 @@ not_next rows row walk r w ok is late = inl (λ items spelled each turn.
     ∙ (ap (comes_next (mark_behind nowhere last.0)) same ∙ last.6) in
     absurd (true≢false (sym next ∙ late)))
 
--- a row by its columns
-pub columns_are : (row : Row) (o n t time pico asked : ℤ) (node who value : List ℕ)
-    → (column row 0 ≡ Int o) × (column row 1 ≡ Int n) × (column row 2 ≡ Int t)
-    → (column row 3 ≡ Bytes node) × (column row 4 ≡ Int time) × (column row 5 ≡ Int pico)
-    → (column row 6 ≡ Int asked) × (column row 7 ≡ Bytes who) × (column row 8 ≡ Bytes value)
-    → shown_of row ≡ cells_of o n t node time pico asked who value
-columns_are row o n t time pico asked node who value a b c =
-    rw (a.0, a.1, a.2, b.0, b.1, b.2, c.0, c.1, c.2) refl
-
-pub are_columns : (row : Row) (o n t time pico asked : ℤ) (node who value : List ℕ)
-    → shown_of row ≡ cells_of o n t node time pico asked who value
-    → ((column row 0 ≡ Int o) × (column row 1 ≡ Int n) × (column row 2 ≡ Int t))
-    × ((column row 3 ≡ Bytes node) × (column row 4 ≡ Int time) × (column row 5 ≡ Int pico))
-    × ((column row 6 ≡ Int asked) × (column row 7 ≡ Bytes who) × (column row 8 ≡ Bytes value))
-are_columns row o n t time pico asked node who value is = (
-  (ap (λ x. column x 0) is, ap (λ x. column x 1) is, ap (λ x. column x 2) is),
-  (ap (λ x. column x 3) is, ap (λ x. column x 4) is, ap (λ x. column x 5) is),
-  (ap (λ x. column x 6) is, ap (λ x. column x 7) is, ap (λ x. column x 8) is),
-)
-
--- the row isn't that of the record that it spells, and so it is no record's
-pub other_row : (row : Row) (r : Record) (c : Row) → records_in row ≡ r ∷ [] → c ≡ row_of r
-    → (shown_of row ≡ c → ⊥) → IsNoRecords row
-other_row row r c found is other s h same =
-    let both : s ∷ [] ≡ r ∷ [] = sym (record_again s h) ∙ sym (ap records_in same) ∙ found in
-    let one : s ≡ r = cc in other (same ∙ ap row_of one ∙ sym is)
-
 -- a fault of reading a row, as one of the store
 pub unread_as : (row : Row) (e : RecordFault) → (e ≡ memory.OutOfMemory) ⊎ IsNoRecords row
     → (of_record e ≡ OutOfMemory) ⊎ ((of_record e ≡ Refused) × IsNoRecords row)

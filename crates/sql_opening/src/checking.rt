@@ -11,12 +11,11 @@ ghost use Rattle.sql_schema.specs.Tables.{archive_schema};
 ghost use Rattle.sql_tables.specs.State.{MayBeStopped, Holds, IsOpenAndIdle, shown_of};
 ghost use Rattle.sql_opening.specs.Opening.{comes_next, HasWalked, HasChecked, AreOutOfTurn, BeginOutOfTurn};
 ghost use Rattle.sql_tables.specs.Connections.{WhereClean, HasSchema, tables_of, CommitsNothing};
-ghost use Rattle.sql_tables.specs.Words.{row_of_cells};
 
 use crate::latest::{Latest, raised};
 use archive::StoreFault;
 use records::Record;
-use sql_tables::{Cells, bytes_at, decode, int_at, make_cells};
+use sql_tables::{bytes_at, decode, int_at};
 use sqlite::{Alter, Connection, Error, ErrorCode, Row};
 use stamp::Vector;
 use std::alloc::Global;
@@ -60,50 +59,13 @@ pub(crate) fn is_bytes(row: &Row, at: usize, bytes: &[u8]) -> bool
     }
 }
 
-/// Whether a row begins with the name and the tick of these cells.
-fn has_name(row: &Row, c: &Cells) -> bool
-    ensures { IsTrue result ↔ ((column row.now 0 ≡ value.Int c.now.origin)
-        × (column row.now 1 ≡ value.Int c.now.number) × (column row.now 2 ≡ value.Int c.now.tick)) }
-{
-    is_int(row, 0, c.origin) && is_int(row, 1, c.number) && is_int(row, 2, c.tick)
-}
-
-/// Whether it has their node and moment.
-fn has_place(row: &Row, c: &Cells) -> bool
-    ensures { IsTrue result ↔ ((column row.now 3 ≡ value.Blob c.now.node.items)
-        × (column row.now 4 ≡ value.Int c.now.time) × (column row.now 5 ≡ value.Int c.now.pico)) }
-{
-    is_bytes(row, 3, &c.node) && is_int(row, 4, c.time) && is_int(row, 5, c.pico)
-}
-
-/// Whether it has what they say was asked, by whom, and the value.
-fn has_rest(row: &Row, c: &Cells) -> bool
-    ensures { IsTrue result ↔ ((column row.now 6 ≡ value.Int c.now.asked) × (column row.now 7
-        ≡ value.Blob c.now.who.items) × (column row.now 8 ≡ value.Blob c.now.value.items)) }
-{
-    is_int(row, 6, c.asked) && is_bytes(row, 7, &c.who) && is_bytes(row, 8, &c.value)
-}
-
-/// Whether a row is that of these cells.
-#[tactic(auto, using(crate::proofs::OpenLemmas::columns_are, crate::proofs::OpenLemmas::are_columns))]
-fn is_row(row: &Row, c: &Cells) -> bool
-    ensures { IsTrue result ↔ (shown_of row.now ≡ row_of_cells c.now) }
-{
-    has_name(row, c) && has_place(row, c) && has_rest(row, c)
-}
-
 /// The record of exactly this row; a row that is no record's is `Refused`.
-fn read_row(alloc: Global, row: &Row) -> Result<Record, StoreFault>
+fn read_row(alloc: Global, buffer: &mut Vec<u8>, row: &Row) -> Result<Record, StoreFault>
     ensures read { IfOk result (λ r. IsRecord r × (shown_of row.now ≡ row_of r)) }
     ensures met { IfErr result (λ fault. (fault ≡ StoreFault.OutOfMemory)
         ⊎ ((fault ≡ StoreFault.Refused) × IsNoRecords row.now)) }
 {
-    let r = decode(alloc, row)?;
-    let cells = make_cells(alloc, &r)?;
-    if !is_row(row, &cells) {
-        return Err(StoreFault::Refused);
-    }
-    Ok(r)
+    Ok(decode(alloc, buffer, row)?)
 }
 
 /// What was gone over: where the last record stands, and what an archive remembers of them.
@@ -131,7 +93,12 @@ pub(crate) fn start() -> Walk
 }
 
 /// Goes on over one row more, which is that of the next record in turn; else it is refused.
-pub(crate) fn go_on(alloc: Global, walk: Walk, row: &Row) -> Result<Walk, StoreFault>
+pub(crate) fn go_on(
+    alloc: Global,
+    buffer: &mut Vec<u8>,
+    walk: Walk,
+    row: &Row,
+) -> Result<Walk, StoreFault>
     ensures walked { (rows : List Columns) → HasWalked rows walk
         → IfOk result (HasWalked (rows ++ row.now ∷ [])) }
     ensures met { IfErr result (λ fault. (fault ≡ StoreFault.OutOfMemory)
@@ -139,7 +106,7 @@ pub(crate) fn go_on(alloc: Global, walk: Walk, row: &Row) -> Result<Walk, StoreF
     ensures refused { (rows : List Columns) → HasWalked rows walk → IfErr result
         (λ fault. (fault ≡ StoreFault.OutOfMemory) ⊎ AreOutOfTurn (rows ++ row.now ∷ [])) }
 {
-    let r = read_row(alloc, row)?;
+    let r = read_row(alloc, buffer, row)?;
     if !comes_next(walk.last, &r) {
         return Err(StoreFault::Refused);
     }
@@ -179,6 +146,7 @@ pub(crate) fn check_rows<S: Alter>(
     ensures crash { CommitsNothing S.Store conn.old conn.new }
 {
     let mut walk = start();
+    let mut buffer = Vec::new(alloc);
     let mut rows = conn.query(
         "SELECT origin, number, tick, node, time, pico, asked, who, value FROM records2 ORDER BY origin, number",
         &[],
@@ -188,7 +156,7 @@ pub(crate) fn check_rows<S: Alter>(
         let Some(row) = rows.get() else {
             return Ok(Ok(walk));
         };
-        match go_on(alloc, walk, row) {
+        match go_on(alloc, &mut buffer, walk, row) {
             Ok(more) => walk = more,
             Err(fault) => return Ok(Err(fault)),
         }

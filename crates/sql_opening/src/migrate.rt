@@ -88,8 +88,9 @@ fn check_records(alloc: Global, rows: &[Row]) -> Result<(), StoreFault>
     ensures met { IfErr result (λ fault. IsOfOpening fault → ⊥) }
 {
     let mut walk = start();
+    let mut buffer = Vec::new(alloc);
     for row in rows {
-        walk = go_on(alloc, walk, row)?;
+        walk = go_on(alloc, &mut buffer, walk, row)?;
     }
     Ok(())
 }

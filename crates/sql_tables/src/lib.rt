@@ -18,4 +18,4 @@ pub use queries::{
     rows_next, rows_of_meta,
 };
 pub use statements::{ask, fault_of, refusal_of, select};
-pub use writes::{Cells, make_cells, store_record};
+pub use writes::{Cells, store_record};

@@ -135,7 +135,7 @@ fn value_bytes(alloc: Global, value: &DataValue) -> Result<Vec<u8>, StoreFault>
 
 /// A record as its row has it; the only error is `OutOfMemory`.
 #[tactic(auto, using(crate::proofs::LearnLemmas::short_enough))]
-pub fn make_cells(alloc: Global, r: &Record) -> Result<Cells, StoreFault>
+fn make_cells(alloc: Global, r: &Record) -> Result<Cells, StoreFault>
     requires { IsLawfulRecord r.now }
     ensures row { IfOk result (λ c. row_of_cells c ≡ row_of r.now) }
     ensures met { IfErr result (λ fault. fault ≡ StoreFault.OutOfMemory) }
