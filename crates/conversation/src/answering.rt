@@ -299,7 +299,7 @@ fn answer_peer<A: Archive, C: Clock, L>(
     }
 }
 
-/// Tells a peer why a call of it ends; or memory for that is wanting.
+/// Tells a peer why the call to it ends; or memory for that is wanting.
 fn refuse_call(
     alloc: Global,
     fault: ExchangeFault,

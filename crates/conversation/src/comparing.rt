@@ -29,7 +29,8 @@ fn compares_first(settings: &Settings, party: Party, peer: &PeerDialog) -> bool
     }
 }
 
-/// Compares them, where they are.
+/// Compares the records of the first frame with those that are held, where such a call does; else none is found, and the archive
+/// isn't asked.
 fn compare_first<A: Archive>(
     server: &mut Server<A>,
     party: Party,

@@ -127,7 +127,8 @@ pub fn plants_simulate_an_execution<A: Archive>()
 
 /// What is answered on one connection of many (`conversation`) is a turn of a machine of any plant: a client's message; frames of a peer, or
 /// some first records of one that is learned over several turns, as long as they aren't forged; records of a peer that aren't taken, or among
-/// which a call found a number that was given twice; and the beginning of a call. So what a loop over many connections makes of a machine's archive is turns of a plant.
+/// which a call found a number that was given twice; and the beginning of a call.
+/// So what a loop over many connections makes of a machine's archive is turns of a plant.
 pub fn conversations_take_turns<A: Archive, C: Clock, L: Log>()
     ensures client { (stay : Stay) (v w : Shared A C L) (link : ConnectionState) (made : List ℕ)
         (ending : Option ConversationEnding) (next : OtherEnd) (old : Plant A) (place : ℕ)
@@ -182,8 +183,10 @@ pub fn conversations_take_turns<A: Archive, C: Clock, L: Log>()
 
 /// When a call is done each end holds all that the other one held: whatever other turns come in between, which only add to what either
 /// holds, if the caller ended the call well then it holds all that the one that it called held when the call began, and that one holds all
-/// that the caller holds by then; also where it first asked for more than it lacks, as a call does that looks for numbers that were given twice. All that either holds is held by replicas of a past. A round of a call is what its two ends make of each
-/// other's frames where nothing comes in the way, and that is so of each frame after which an end goes on, or is done.
+/// that the caller holds by then.
+/// That is so too where it first asked for more than it lacks, as a call does that looks for numbers that were given twice.
+/// All that either holds is held by replicas of a past. A round of a call is what its two ends make of each other's frames where nothing
+/// comes in the way, and that is so of each frame after which an end goes on, or is done.
 pub fn a_call_that_is_done_leaves_all_at_both()
     ensures done { (e : Execution) (caller called : Party) (here there : Content)
         (asked : List ℕ) (rounds : ℕ) (after : CallState) → IsExecution e → WasHeld e here

@@ -199,7 +199,8 @@ impl<E: Write, C: Clock> Log for ErrorLog<E, C> {
         }
     }
 
-    /// Tells the two records of one number that a call found by a table of CSV, where the last call of that peer didn't end so.
+    /// Tells by a table of CSV the two records of one number that a call found, where the last call of that peer didn't end so;
+    /// nothing where memory is wanting or a value has no text.
     fn tell_clash(&mut self, callee: usize, clash: &Clash) {
         self.log_clash(callee, clash);
     }

@@ -229,7 +229,7 @@ fn of_exchange(number: u32) -> Option<&'static str> {
         9 => Some("a record is ahead of a clock: compare the clocks, and [door] ahead"),
         10 => Some("a record is of a replica that a [door] doesn't take: compare its replicas"),
         11 => Some(
-            "a number was given to two records: an old copy of a store was put back, or two machines have one number",
+            "a number was given to two records: look at standard error of the machine that called",
         ),
         _ => Some("the number is the peer's own"),
     }
