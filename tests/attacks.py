@@ -845,12 +845,12 @@ def copies():
         before = [server.dump() for server in (one, two)]
         looked = [checked(one, two), checked(two, one)] if new else []
         stays = before == [server.dump() for server in (one, two)]
+        what = f"an old copy of 5 records, put back where 5 more were exchanged, and {new} written since"
         if new:
             finder, other = (one, two) if new <= 5 else (two, one)
             served = looks(finder, other)
             tell(served == "found, and both are told" and before == [server.dump() for server in (one, two)], f"{what}: `serve` with `check` at the machine that holds no more finds it, tells both, and changes nothing", served)
         first, second = exchanged(one, two), exchanged(one, two)
-        what = f"an old copy of 5 records, put back where 5 more were exchanged, and {new} written since"
         if new:
             tell(looked == 2 * ["found, and both are printed"] and stays, f"{what}: `sync --check` finds it from either machine, prints both, and changes nothing", looked)
         if new == 0:
