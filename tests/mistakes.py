@@ -147,7 +147,7 @@ def keys():
                         ("[[variable]] 2, id", put('id = "boiler.pressure"\n', "")), ("[door] listen", PLANT + "\n[door]\n"), ("[web] listen", PLANT + "\n[web]\n"), ("[[peer]] 1, every", PLANT + "\n[[peer]]\naddress = '192.0.2.2:4841'\n")):
         of_settings(f"{place} is missing", f"no {place}", text, ["settings refused (2)", place, "this key has to be there"])
     none = "there is no such key: want "
-    for place, text, right in (("[archive] path", put("replica = 1\n", "replica = 1\npath = '/a'\n"), "id, replica, store or broken"),
+    for place, text, right in (("[archive] path", put("replica = 1\n", "replica = 1\npath = '/a'\n"), "id, replica, store, broken or index"),
                                ("[server] port", put("anonymous = false\n", "anonymous = false\nport = 1\n"), "listen, url, application, namespace, anonymous, anonymous_access, connections, waiting, strict, slow or logins"),
                                ("[[user]] 1, mail", put('name = "ann"\n', 'name = "ann"\nmail = "a@b"\n'), "name, password, password_file or access"), ("[[folder]] 1, folder", put('name = "Boiler"\n', 'name = "Boiler"\nfolder = "pump"\n'), "id or name"),
                                ("[[variable]] 2, unit", put('name = "Pressure"\n', 'name = "Pressure"\nunit = "bar"\n'), "id, name, type, array or folder"), ("[[peer]] 1, replica", PLANT + "\n[[peer]]\naddress = ''\nevery = 1\nreplica = 2\n", "address, every or check"),
@@ -167,7 +167,7 @@ def values():
     cases = [("an id that is no UUID", "[archive] id", put('id = "3f2c8a10-5b7e-4d21-9c44-0a1b2c3d4e5f"', 'id = "plant-7"'), "want a UUID, as 3f2c8a10-5b1e-4c7d-9a60-2d8f4b6e7c90"),
              ("replica 65", "[archive] replica", put("replica = 1\n", "replica = 65\n"), replica), ("a replica in quotes", "[archive] replica", put("replica = 1\n", 'replica = "1"\n'), replica),
              ("another word behind broken", "[archive] broken", put("replica = 1\n", "replica = 1\nbroken = 'go on'\n"), 'want "stop" or "reopen", or no such key'),
-             ("an address that is a number", "[server] listen", put(LISTEN, str(PORT)), text), ("anonymous in quotes", "[server] anonymous", put("anonymous = false", 'anonymous = "no"'), truth),
+             ("index in quotes", "[archive] index", put("replica = 1\n", "replica = 1\nindex = 'true'\n"), truth), ("an address that is a number", "[server] listen", put(LISTEN, str(PORT)), text), ("anonymous in quotes", "[server] anonymous", put("anonymous = false", 'anonymous = "no"'), truth),
              ("anonymous_access is none", "[server] anonymous_access", server("anonymous_access = 'none'"), access), ("strict is a number", "[server] strict", server("strict = 1"), truth),
              ("slow is 0", "[server] slow", server("slow = 0"), "want a whole number of milliseconds from 1 to 60000"), ("connections is 0", "[server] connections", server("connections = 0"), number),
              ("waiting is 0", "[server] waiting", server("waiting = 0"), "want a whole number of MiB from 1 to 65536"), ("logins is 0", "[server] logins", put("logins = 5", "logins = 0"), number),

@@ -64,6 +64,7 @@ pub fn plant_of(alloc: Global, number: u8) -> Option<Settings> {
         door: None,
         web: None,
         after_break: AfterBreak::GoOn,
+        is_indexed: false,
         is_strict: false,
         slow: None,
         logins: None,

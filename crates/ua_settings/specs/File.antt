@@ -46,7 +46,7 @@ document_keys =
 abbrev pub archive_keys : List Rule
 archive_keys =
     required (codes "id") Id ∷ required (codes "replica") Replica ∷ optional (codes "store") Text
-    ∷ optional (codes "broken") AfterBreak ∷ []
+    ∷ optional (codes "broken") AfterBreak ∷ optional (codes "index") Truth ∷ []
 
 -- those of the table `server`
 abbrev pub server_keys : List Rule

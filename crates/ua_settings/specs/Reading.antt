@@ -165,8 +165,8 @@ listed_in lines document space = record {
 }
 
 -- what the tables `archive` and `server` give, with what others list; 64 connections at a time, and
--- 256 MiB, where the tables don't say, faults once the store is broken, files of any rights, no
--- turn that is told, and no limit of refused logins
+-- 256 MiB, where the tables don't say, faults once the store is broken, no index of live values,
+-- files of any rights, no turn that is told, and no limit of refused logins
 abbrev pub values_of : (archive server : Members) → Listed → SettingsValues
 values_of archive server listed = record {
   archive = unwrap_or (parsed (text_at (codes "id") archive)) [];
@@ -183,6 +183,7 @@ values_of archive server listed = record {
   door = listed.door;
   web = listed.web;
   after_break = after_break_at (codes "broken") archive;
+  is_indexed = truth_at (codes "index") archive;
   is_strict = truth_at (codes "strict") server;
   slow = number_there (codes "slow") server;
   logins = number_there (codes "logins") server;

@@ -9,9 +9,10 @@ use Rattle.ua_settings.specs.declared.settings.Parts.{Parts}
 -- where the server listens, the URL of its endpoint, the URI of the application; who may use it;
 -- its nodes; how many connections it serves at a time, and how many MiB may wait to be written;
 -- the peers that it calls, where peers come to it, if not to the address where clients do, and
--- where browsers come to it, if they do; what it does once its store is broken, whether others
--- may have a hand in its files, and from how many milliseconds on a turn is told; after how many
--- refused logins from one address its next ones wait, and whether what happens is told
+-- where browsers come to it, if they do; what it does once its store is broken, whether its archive
+-- has an index of live values, whether others may have a hand in its files, and from how many
+-- milliseconds on a turn is told; after how many refused logins from one address its next ones
+-- wait, and whether what happens is told
 abbrev pub SettingsValues : Type 0
 SettingsValues = Parts
 
@@ -33,6 +34,7 @@ bare = record {
   door = None;
   web = None;
   after_break = GoOn;
+  is_indexed = false;
   is_strict = false;
   slow = None;
   logins = None;

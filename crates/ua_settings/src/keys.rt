@@ -149,11 +149,12 @@ static DOCUMENT: [Key; 9] = [
     key!("log", OneTable, optional),
 ];
 
-static ARCHIVE: [Key; 4] = [
+static ARCHIVE: [Key; 5] = [
     key!("id", Id),
     key!("replica", Replica),
     key!("store", Text, optional),
     key!("broken", AfterBreak, optional),
+    key!("index", Truth, optional),
 ];
 
 static SERVER: [Key; 11] = [

@@ -370,6 +370,7 @@ fn settings_of(
         door: listed.door,
         web: listed.web,
         after_break: after_break(archive, "broken"),
+        is_indexed: truth(archive, "index"),
         is_strict: truth(server, "strict"),
         slow: number_there(server, "slow", 60_000),
         logins: number_there(server, "logins", 1_000),

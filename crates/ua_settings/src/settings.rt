@@ -65,6 +65,8 @@ pub struct Parts {
     pub web: Option<WebSettings>,
     /// What `serve` does once its store is broken.
     pub after_break: AfterBreak,
+    /// Whether the archive has an index of live values, along which reads pass deleted ones at once.
+    pub is_indexed: bool,
     /// Whether settings are refused whose files others may write, or read passwords in.
     pub is_strict: bool,
     /// From how many milliseconds on a turn of a connection is told; none: none is.
@@ -93,6 +95,7 @@ pub struct Settings {
     door: Option<DoorSettings>,
     web: Option<WebSettings>,
     after_break: AfterBreak,
+    is_indexed: bool,
     is_strict: bool,
     slow: Option<u32>,
     logins: Option<u32>,
@@ -120,6 +123,7 @@ impl Model for Settings {
           door = s.door;
           web = s.web;
           after_break = s.after_break;
+          is_indexed = s.is_indexed;
           is_strict = s.is_strict;
           slow = s.slow;
           logins = s.logins;
@@ -167,6 +171,7 @@ impl Settings {
             door: None,
             web: None,
             after_break: AfterBreak::GoOn,
+            is_indexed: false,
             is_strict: false,
             slow: None,
             logins: None,
@@ -223,6 +228,7 @@ impl Settings {
             door: parts.door,
             web: parts.web,
             after_break: parts.after_break,
+            is_indexed: parts.is_indexed,
             is_strict: parts.is_strict,
             slow: parts.slow,
             logins: parts.logins,
@@ -310,6 +316,13 @@ impl Settings {
         ensures { result ≡ self.now.after_break }
     {
         self.after_break
+    }
+
+    /// Whether the archive has an index of live values, along which reads pass deleted ones at once.
+    pub fn is_indexed(&self) -> bool
+        ensures { result ≡ self.now.is_indexed }
+    {
+        self.is_indexed
     }
 
     /// Whether settings are refused whose files others may write, or read passwords in.

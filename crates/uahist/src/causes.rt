@@ -16,7 +16,7 @@ const NO_COMMAND: &str = "want a command, and after --perform insert, replace or
 pub(crate) const BROKEN: &str = "a read or a write of its disk failed";
 
 /// What keys of the settings hold, for those whose value may be wrong.
-static WANTED: [(&str, &str); 24] = [
+static WANTED: [(&str, &str); 25] = [
     (
         "[archive] id",
         "want a UUID, as 3f2c8a10-5b1e-4c7d-9a60-2d8f4b6e7c90",
@@ -27,6 +27,7 @@ static WANTED: [(&str, &str); 24] = [
     ),
     ("replica", "want a whole number from 1 to 64"),
     ("broken", "want \"stop\" or \"reopen\", or no such key"),
+    ("index", "want true or false"),
     ("anonymous", "want true or false"),
     ("strict", "want true or false"),
     (
@@ -65,7 +66,7 @@ static WANTED: [(&str, &str); 24] = [
 static KEYS: [(&str, &str); 9] = [
     (
         "[archive] ",
-        "there is no such key: want id, replica, store or broken",
+        "there is no such key: want id, replica, store, broken or index",
     ),
     (
         "[server] ",

@@ -348,8 +348,8 @@ enum Asked<'a> {
     Sample,
     /// What the user of a name may do.
     AccessOf(&'a str, Access),
-    /// What is done once the store is broken.
-    Broken(AfterBreak),
+    /// What is done once the store is broken, and whether the archive has an index of live values.
+    Archive(AfterBreak, bool),
     /// Where the door is.
     Door(&'a str),
     /// The records that the door takes: of which replicas, and how far ahead.
@@ -367,7 +367,9 @@ fn is_so(alloc: Global, settings: &Settings, asked: Asked<'_>) -> bool {
     match asked {
         Asked::Sample => is_sample(settings) && type_in(settings) == Some(11),
         Asked::AccessOf(name, access) => settings.users().access_of(name) == access,
-        Asked::Broken(broken) => settings.after_break() == broken,
+        Asked::Archive(broken, indexed) => {
+            settings.after_break() == broken && settings.is_indexed() == indexed
+        }
         Asked::Door(address) => has_door(settings, address),
         Asked::Admitted(replicas, ahead) => admits(settings, replicas, ahead),
         Asked::Web(address, connections) => has_web(settings, address, connections),
@@ -485,37 +487,50 @@ fn accesses_are_read(rt: HostRuntime) -> Result<(), Fail> {
     Ok(())
 }
 
-/// What stands in `[archive]`, and what is done then once the store is broken; none where it is refused.
-static BREAKS: [(&str, Option<AfterBreak>); 7] = [
-    ("", Some(AfterBreak::GoOn)),
-    ("broken = 'stop'\n", Some(AfterBreak::Stop)),
-    ("broken = 'reopen'\n", Some(AfterBreak::Reopen)),
+/// What stands in `[archive]`, what is done then once the store is broken, and whether the archive has an index; none where it is refused.
+static ARCHIVES: [(&str, Option<(AfterBreak, bool)>); 10] = [
+    ("", Some((AfterBreak::GoOn, false))),
+    ("broken = 'stop'\n", Some((AfterBreak::Stop, false))),
+    (
+        "broken = 'reopen'\nindex = true\n",
+        Some((AfterBreak::Reopen, true)),
+    ),
+    ("index = true\n", Some((AfterBreak::GoOn, true))),
+    ("index = false\n", Some((AfterBreak::GoOn, false))),
+    ("index = 1\n", None),
     ("broken = 'Reopen'\n", None),
     ("broken = 'go on'\n", None),
     ("broken = ''\n", None),
     ("broken = true\n", None),
 ];
 
-/// Whether it is done by a text once the store is broken; none: whether the text is refused.
-fn is_broken_so(alloc: Global, text: &str, broken: Option<AfterBreak>) -> bool {
-    match broken {
-        Some(broken) => are_so(alloc, Settings::read(alloc, text), Asked::Broken(broken)),
+/// Whether a text says so of the archive; none: whether the text is refused.
+fn is_archive(alloc: Global, text: &str, said: Option<(AfterBreak, bool)>) -> bool {
+    match said {
+        Some((broken, indexed)) => {
+            let asked = Asked::Archive(broken, indexed);
+            are_so(alloc, Settings::read(alloc, text), asked)
+        }
         None => Settings::read(alloc, text).is_err(),
     }
 }
 
 /// The same of a text with this in `[archive]`.
-fn is_break(alloc: Global, key: &str, broken: Option<AfterBreak>) -> Result<bool, AllocError> {
+fn archive_says(
+    alloc: Global,
+    key: &str,
+    said: Option<(AfterBreak, bool)>,
+) -> Result<bool, AllocError> {
     let text = format!(in alloc;
         "[archive]\n{key}id = '00000000000000000000000000000000'\nreplica = 1\n[server]\nlisten = ''\nurl = ''\napplication = ''\nnamespace = ''\nanonymous = true\n"
     )?;
-    Ok(is_broken_so(alloc, text.as_str(), broken))
+    Ok(is_archive(alloc, text.as_str(), said))
 }
 
 #[test]
-fn breaks_are_read(rt: HostRuntime) -> Result<(), Fail> {
-    for (key, broken) in &BREAKS {
-        assert!(rt; is_break(rt.alloc(), key, *broken)?, "{key}");
+fn archives_are_read(rt: HostRuntime) -> Result<(), Fail> {
+    for (key, said) in &ARCHIVES {
+        assert!(rt; archive_says(rt.alloc(), key, *said)?, "{key}");
     }
     Ok(())
 }
