@@ -5,11 +5,9 @@ ghost use Rattle.ua_server.specs.Host.{unknown_machine};
 use archive::{Archive, Failure, ScriptedArchive, StoreFault};
 use server_rows::ends::{Narrow, Slow};
 use server_rows::network::{Client, Clients};
-use stamp::ReplicaNo;
 use std::alloc::Global;
 use std::net::SocketAddr;
-use ua_server::{ConstantClock, Counted, Door, Host, Listening, report, run};
-use uuid::Uuid;
+use ua_server::{ConstantClock, Counted, Door, Host, Listening, StoreTerms, report, run};
 
 /// A peer that asks for all records, and hangs up behind the answer.
 const PEER: Option<Client<'static>> = Some(Client {
@@ -167,19 +165,14 @@ impl Host for Machine {
         true
     }
 
-    fn open_file(
-        &mut self,
-        _path: &str,
-        id: Uuid,
-        number: ReplicaNo,
-    ) -> Result<ScriptedArchive, StoreFault> {
+    fn open_file(&mut self, _path: &str, terms: StoreTerms) -> Result<ScriptedArchive, StoreFault> {
         let opening = self.openings.get(self.opened);
         self.opened = self.opened.saturating_add(1);
         match opening {
             Some(Some(call)) => Ok(ScriptedArchive::new(
                 self.alloc,
-                id,
-                number,
+                terms.archive,
+                terms.replica,
                 *call,
                 Failure::BrokenBefore,
             )),
@@ -187,8 +180,14 @@ impl Host for Machine {
         }
     }
 
-    fn open_in_memory(&self, id: Uuid, number: ReplicaNo) -> Result<ScriptedArchive, StoreFault> {
-        Ok(ScriptedArchive::new(self.alloc, id, number, 1, Failure::BrokenBefore))
+    fn open_in_memory(&self, terms: StoreTerms) -> Result<ScriptedArchive, StoreFault> {
+        Ok(ScriptedArchive::new(
+            self.alloc,
+            terms.archive,
+            terms.replica,
+            1,
+            Failure::BrokenBefore,
+        ))
     }
 
     fn close(&mut self, archive: ScriptedArchive) {

@@ -5,16 +5,15 @@ ghost use Rattle.ua_server.specs.Host.{unknown_machine};
 use archive::{ListArchive, StoreFault};
 use server_rows::ends::{Narrow, Slow};
 use server_rows::network::{Client, Clients};
-use stamp::ReplicaNo;
 use std::alloc::Global;
 use std::net::SocketAddr;
 use ua_client::ClientFault;
 use ua_server::{
     Asked, ConstantClock, Counted, Door, HistoryWords, Host, ImportWords, Line, LineFault,
-    Listening, PerformWord, ProgramFault, ServeFault, SyncWords, read_line, report, run,
+    Listening, PerformWord, ProgramFault, ServeFault, StoreTerms, SyncWords, read_line, report,
+    run,
 };
 use ua_settings::SettingsFault;
-use uuid::Uuid;
 
 /// Command lines, and what they are.
 static LINES: [(&[&str], Result<Line<'static>, LineFault>); 69] = [
@@ -1970,23 +1969,18 @@ impl Host for Machine {
         path != "none.db"
     }
 
-    fn open_file(
-        &mut self,
-        path: &str,
-        id: Uuid,
-        number: ReplicaNo,
-    ) -> Result<ListArchive, StoreFault> {
+    fn open_file(&mut self, path: &str, terms: StoreTerms) -> Result<ListArchive, StoreFault> {
         if path == "other.db" {
             return Err(StoreFault::WrongArchive);
         }
         if path == "none.db" {
             return Err(StoreFault::Refused);
         }
-        Ok(ListArchive::new(self.0, id, number))
+        Ok(ListArchive::new(self.0, terms.archive, terms.replica))
     }
 
-    fn open_in_memory(&self, id: Uuid, number: ReplicaNo) -> Result<ListArchive, StoreFault> {
-        Ok(ListArchive::new(self.0, id, number))
+    fn open_in_memory(&self, terms: StoreTerms) -> Result<ListArchive, StoreFault> {
+        Ok(ListArchive::new(self.0, terms.archive, terms.replica))
     }
 
     fn close(&mut self, archive: ListArchive) {

@@ -5,10 +5,20 @@ use Rattle.counted_io.specs.Tally.{Tally}
 use Rattle.archive.specs.declared.fault.StoreFault.{StoreFault}
 use Rattle.archive.specs.Store.{Store}
 use Rattle.conversation.specs.declared.door.Door.{Door}
+use Rattle.ua_settings.specs.Settings.{SettingsValues}
+use Rattle.ua_server.specs.declared.host.StoreTerms.{StoreTerms}
 use Rattle.ua_server.specs.declared.listening.Listening.{Listening}
 use Rattle.multiplex.specs.Effects.{Effects}
 use Rattle.multiplex.specs.Input.{Input}
 use Rattle.multiplex.specs.Output.{Output}
+
+-- by which terms the store of settings is opened: whose archive it is, and whether it is indexed
+abbrev pub store_terms : SettingsValues → StoreTerms
+store_terms settings = record {
+  archive = settings.archive;
+  replica = settings.replica;
+  is_indexed = settings.is_indexed;
+}
 
 -- what a machine does in a call, from its state before to that after
 pub record Machine (H A L R W I : Type 0) : Type 1 where
@@ -20,10 +30,10 @@ pub record Machine (H A L R W I : Type 0) : Type 1 where
   pub opens_rows : H → List ℕ → Option I → H → Type 0
   -- a store stands at a path, or none does
   pub stands : H → List ℕ → Bool → Type 0
-  -- the file at a path was opened as the store of this replica of this archive
-  pub opens : H → List ℕ → List ℕ → ℕ → Result A StoreFault → H → Type 0
-  -- an archive of this replica in memory, which is begun; no file is opened
-  pub opens_in_memory : H → List ℕ → ℕ → Result A StoreFault → Type 0
+  -- the file at a path was opened as a store by these terms
+  pub opens : H → List ℕ → StoreTerms → Result A StoreFault → H → Type 0
+  -- an archive in memory by these terms, which is begun; no file is opened
+  pub opens_in_memory : H → StoreTerms → Result A StoreFault → Type 0
   -- an archive was closed
   pub closes : H → A → H → Type 0
   -- what gives the connections that come to these addresses, and calls these peers; Err with the
@@ -41,8 +51,8 @@ unknown_machine = record {
   modes = λ now path mode. Unit {0};
   opens_rows = λ old path rows new. Unit {0};
   stands = λ now path is_there. Unit {0};
-  opens = λ old path id replica opening new. Unit {0};
-  opens_in_memory = λ now id replica opening. Unit {0};
+  opens = λ old path terms opening new. Unit {0};
+  opens_in_memory = λ now terms opening. Unit {0};
   closes = λ old archive new. Unit {0};
   listens = λ old listening listener new. Unit {0};
   calls = λ old address came new. Unit {0};

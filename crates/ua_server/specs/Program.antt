@@ -44,7 +44,7 @@ use Rattle.ua_server.specs.Serving.{ServesMany}
 use Rattle.conversation.specs.declared.door.Door.{Door}
 use Rattle.ua_server.specs.declared.listening.Listening.{Listening}
 use Rattle.ua_server.specs.Listening.{IsListening, HasNoAddress, door_fault}
-use Rattle.ua_server.specs.Host.{Machine, KnownMachine}
+use Rattle.ua_server.specs.Host.{Machine, KnownMachine, store_terms}
 use Rattle.clap.specs.Words.{Row, Text, subcommand_of}
 use Rattle.clap.specs.Takes.{takes}
 use Rattle.clap.specs.Faults.{fault_of as fault_kinds}
@@ -141,7 +141,7 @@ OpensNothing held settings opening old new =
 abbrev pub OpensStore : {H A L R W I : Type 0} → Machine H A L R W I → (A → Store) → StoreUse
     → SettingsValues → (path : List ℕ) → Result A StoreFault → (old new : H) → Type 0
 OpensStore machine held uses settings path opening old new =
-    let opens = machine.opens old path settings.archive settings.replica opening new in
+    let opens = machine.opens old path (store_terms settings) opening new in
     let opens_nothing = OpensNothing held settings opening old new in
     elim uses [
       | Leaves ↦ opens_nothing

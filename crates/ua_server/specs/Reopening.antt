@@ -8,14 +8,13 @@ use Rattle.ua_settings.specs.declared.after_break.AfterBreak.TheVariants.{Reopen
 use Rattle.ua_settings.specs.Settings.{SettingsValues}
 use Rattle.ua_server.specs.declared.log.ErrorLog.{ErrorLog}
 use Rattle.ua_server.specs.declared.reopening.StoreFile.{StoreFile}
-use Rattle.ua_server.specs.Host.{KnownMachine}
+use Rattle.ua_server.specs.Host.{KnownMachine, store_terms}
 use Rattle.ua_server.specs.Network.{ServingLoop}
 use Rattle.ua_server.specs.Telling.{Known, LogsLine, told_line}
 
 -- the file at a path, as the store of these settings
 abbrev pub file_at : SettingsValues → (path : List ℕ) → StoreFile
-file_at settings path =
-    record { path = path; archive = settings.archive; replica = settings.replica }
+file_at settings path = record { path = path; terms = store_terms settings }
 
 -- the file that is opened anew once the store is broken: that of the settings, if they say so
 abbrev pub file_anew : SettingsValues → Option StoreFile
@@ -33,16 +32,16 @@ pub record OpensAnew (known : KnownMachine) (file : StoreFile)
     : Type 0 where
   pub stand_in : known.Archive
   pub closed : known.Host
-  pub empty : HoldsNothing file.archive file.replica (known.held stand_in)
+  pub empty : HoldsNothing file.terms.archive file.terms.replica (known.held stand_in)
   pub closes : known.machine.closes old.host old.archive closed
-  pub opens : known.machine.opens closed file.path file.archive file.replica opening new.host
+  pub opens : known.machine.opens closed file.path file.terms opening new.host
   pub placed : new.archive ≡ result_unwrap_or opening stand_in
 
 -- no archive in memory could be had to take the place of a broken one, and nothing was done
 abbrev pub LacksStandIn : (known : KnownMachine) → StoreFile → StoreFault
     → (old new : Keeping known.Host known.Archive) → Type 0
 LacksStandIn known file fault old new =
-    known.machine.opens_in_memory old.host file.archive file.replica (Err fault) × (new ≡ old)
+    known.machine.opens_in_memory old.host file.terms (Err fault) × (new ≡ old)
 
 -- the file of a broken archive was opened anew; or it was refused, or nothing was done
 abbrev pub TriesAnew : (known : KnownMachine) → StoreFile

@@ -12,7 +12,35 @@ use multiplex::Source;
 use stamp::ReplicaNo;
 use std::io::{Read, Write};
 use std::net::SocketAddr;
+use ua_settings::Settings;
 use uuid::Uuid;
+
+/// Whose archive a store holds, and how it is kept.
+#[derive(Clone, Copy, Debug)]
+pub struct StoreTerms {
+    /// The id of the archive.
+    pub archive: Uuid,
+    /// The number of the replica.
+    pub replica: ReplicaNo,
+    /// Whether it has an index of live values.
+    pub is_indexed: bool,
+}
+
+impl StoreTerms {
+    ghost use Rattle.std.specs.Prelude.{◌≡◌};
+    ghost use Rattle.ua_server.specs.Host.{store_terms};
+
+    /// By which terms the store of these settings is opened.
+    pub(crate) fn of(settings: &Settings) -> StoreTerms
+        ensures { result ≡ store_terms settings.now }
+    {
+        StoreTerms {
+            archive: settings.archive(),
+            replica: settings.replica(),
+            is_indexed: settings.is_indexed(),
+        }
+    }
+}
 
 /// What a run asks of the machine that it runs on.
 pub trait Host {
@@ -50,19 +78,15 @@ pub trait Host {
     fn has_store(&self, path: &str) -> bool
         ensures { means.stands self.now path.now result };
 
-    /// The archive of this id and replica that the file at a path holds.
-    fn open_file(
-        &mut self,
-        path: &str,
-        id: Uuid,
-        number: ReplicaNo,
-    ) -> Result<Self::Archive, StoreFault>
-        ensures { means.opens self.old path.now id number result self.new };
+    /// The archive that the file at a path holds, by these terms.
+    fn open_file(&mut self, path: &str, terms: StoreTerms) -> Result<Self::Archive, StoreFault>
+        ensures { means.opens self.old path.now terms result self.new };
 
-    /// An archive of this id and replica in memory, which holds nothing. No file is opened.
-    fn open_in_memory(&self, id: Uuid, number: ReplicaNo) -> Result<Self::Archive, StoreFault>
-        ensures begins { means.opens_in_memory self.now id number result }
-        ensures empty { IfOk result (λ first. HoldsNothing id number (Self.Archive.state first)) };
+    /// An archive in memory by these terms, which holds nothing. No file is opened.
+    fn open_in_memory(&self, terms: StoreTerms) -> Result<Self::Archive, StoreFault>
+        ensures begins { means.opens_in_memory self.now terms result }
+        ensures empty { IfOk result (λ first.
+            HoldsNothing terms.archive terms.replica (Self.Archive.state first)) };
 
     /// Closes an archive.
     fn close(&mut self, archive: Self::Archive)

@@ -36,7 +36,7 @@ pub use either::{Served, serve};
 pub use hexed::{HexFault, answer_hex};
 pub use historian::Server;
 pub use histories::OptionFault;
-pub use host::Host;
+pub use host::{Host, StoreTerms};
 pub use laws::{a_calls_fault_is_told_alike, connections_are_updates};
 pub use listening::{Callee, Listening, WebDoor};
 pub use multiplex::{Limits, Slot, each_connection_is_alone};

@@ -20,7 +20,7 @@ use crate::dumps::{DumpFault, dump};
 use crate::files::settings_at;
 use crate::hexed::HexFault;
 use crate::histories::{OptionFault, history_over};
-use crate::host::Host;
+use crate::host::{Host, StoreTerms};
 use crate::imports::{import_from, import_refusal};
 use crate::log::ErrorLog;
 use crate::single::{AnswerTerms, answer_at};
@@ -280,8 +280,9 @@ fn open_archive<H: Host>(
     ensures { OpensArchive H.means H.Archive.state store_use settings.now settings.now.store result
         host.old host.new }
 {
+    let terms = StoreTerms::of(settings);
     let Some(path) = settings.store() else {
-        return host.open_in_memory(settings.archive(), settings.replica());
+        return host.open_in_memory(terms);
     };
     let opens = match store_use {
         StoreUse::Leaves => false,
@@ -289,9 +290,9 @@ fn open_archive<H: Host>(
         StoreUse::Makes => true,
     };
     if opens {
-        host.open_file(path, settings.archive(), settings.replica())
+        host.open_file(path, terms)
     } else {
-        host.open_in_memory(settings.archive(), settings.replica())
+        host.open_in_memory(terms)
     }
 }
 

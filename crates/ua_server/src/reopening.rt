@@ -4,29 +4,25 @@ ghost use Rattle.std.specs.Prelude.{◌≡◌, IfOk};
 ghost use Rattle.ua_server.specs.Host.{known_machine};
 ghost use Rattle.ua_server.specs.Reopening.{TriesAnew, LogsReopening, file_anew, with_archive};
 
-use crate::host::Host;
+use crate::host::{Host, StoreTerms};
 use crate::log::ErrorLog;
 use crate::program::tell;
 use archive::{Archive, StoreFault};
 use conversation::World;
-use stamp::ReplicaNo;
 use std::alloc::{AllocError, Global};
 use std::io::Write;
 use std::mem;
 use ua_binary::Text;
 use ua_connection::Clock;
 use ua_settings::{AfterBreak, Settings};
-use uuid::Uuid;
 
-/// The file of a store, and whose archive it holds.
+/// The file of a store, and by which terms it is opened.
 #[derive(Drop)]
 pub(crate) struct StoreFile {
     /// Where it stands.
     pub path: Text,
-    /// The id of its archive.
-    pub archive: Uuid,
-    /// The number of the replica.
-    pub replica: ReplicaNo,
+    /// Whose archive it holds, and how.
+    pub terms: StoreTerms,
 }
 
 /// The file that is opened anew once the store is broken; none where the settings don't say so, or the archive is in memory.
@@ -42,8 +38,7 @@ pub(crate) fn file_anew(alloc: Global, settings: &Settings) -> Result<Option<Sto
     };
     Ok(Some(StoreFile {
         path: Text::from_str(alloc, path)?,
-        archive: settings.archive(),
-        replica: settings.replica(),
+        terms: StoreTerms::of(settings),
     }))
 }
 
@@ -61,13 +56,13 @@ fn open_anew<H: Host>(
         (record { host = host.old; archive = archive.old })
         (record { host = host.new; archive = archive.new }) result }
 {
-    let stand_in = match host.open_in_memory(file.archive, file.replica) {
+    let stand_in = match host.open_in_memory(file.terms) {
         Ok(stand_in) => stand_in,
         Err(fault) => return Err(fault),
     };
     let broken = mem::replace(archive, stand_in);
     host.close(broken);
-    match host.open_file(file.path.as_str(), file.archive, file.replica) {
+    match host.open_file(file.path.as_str(), file.terms) {
         Ok(opened) => {
             *archive = opened;
             Ok(())

@@ -3,12 +3,12 @@
 use crate::causes;
 use archive::StoreFault;
 use sql_archive::{FileArchive, SqlArchive};
-use stamp::ReplicaNo;
+use sqlite::Alter;
 use std::fs::{File, OpenOptions};
 use std::io::{ErrorKind, Write};
 use std::os::unix::fs::{MetadataExt, OpenOptionsExt, PermissionsExt};
 use std::{fs, io};
-use uuid::Uuid;
+use ua_server::StoreTerms;
 
 /// The least bytes of a log that has a record: its header, a frame's, and the smallest page.
 const LEAST_LOG: u64 = 568;
@@ -106,15 +106,29 @@ fn prepare(rt: &HostRuntime, path: &str) -> Result<(), StoreFault> {
     Ok(())
 }
 
+/// An archive that was opened, with an index of live values where the terms want one. Where none can be made it is refused.
+pub fn indexed<S: Alter>(
+    opened: Result<SqlArchive<S>, StoreFault>,
+    terms: StoreTerms,
+) -> Result<SqlArchive<S>, StoreFault> {
+    let mut archive = opened?;
+    if !terms.is_indexed {
+        return Ok(archive);
+    }
+    match archive.index_live_values() {
+        Ok(()) => Ok(archive),
+        Err(StoreFault::Broken) => Err(StoreFault::Refused),
+        Err(fault) => Err(fault),
+    }
+}
+
 /// The archive of the store at a path, which is made where none stands.
-pub fn open(
-    rt: &HostRuntime,
-    path: &str,
-    id: Uuid,
-    number: ReplicaNo,
-) -> Result<FileArchive, StoreFault> {
+pub fn open(rt: &HostRuntime, path: &str, terms: StoreTerms) -> Result<FileArchive, StoreFault> {
     prepare(rt, path)?;
-    SqlArchive::open(rt, path, id, number)
+    indexed(
+        SqlArchive::open(rt, path, terms.archive, terms.replica),
+        terms,
+    )
 }
 
 /// Closes the archive of a store that broke, and says why it broke, as far as its files tell.
