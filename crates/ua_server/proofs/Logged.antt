@@ -1,14 +1,17 @@
 -- That what was written is the line of an event, for the calls of a log.
-use Rattle.std.proofs.Common.{◌≡◌, ◌∙◌, ℕ, ℤ, Bool, true, false, List, [], ◌∷◌, ◌++◌, refl, sym, ap, subst}
+use Rattle.std.proofs.Common.{◌≡◌, ◌∙◌, ℕ, ℤ, Bool, true, false, List, [], ◌∷◌, ◌++◌, Some, inr, refl, sym, ap, subst}
 use Rattle.std.specs.declared.net.socket_addr.SocketAddr.{SocketAddr}
-use Rattle.std.specs.Prelude.{Option}
+use Rattle.std.specs.Prelude.{◌⊎◌, Option}
 use Rattle.counted_io.specs.Tally.{Tally}
 use Rattle.ua_session.specs.declared.audit.UpdateAudit.{UpdateAudit}
 use Rattle.event_lines.specs.Lines.{update_text}
+use Rattle.peer_check.specs.declared.comparing.Clash.{Clash}
+use Rattle.ua_server.specs.Calls.{PrintsClash}
 use Rattle.ua_server.specs.declared.log.ErrorLog.{ErrorLog}
+use Rattle.ua_server.specs.declared.log.ClashName.{ClashName}
 use Rattle.ua_server.specs.declared.recent.Recent.{Recent}
-use Rattle.ua_server.specs.Telling.{Known, Readings, LogsLine, told_line}
-use Rattle.ua_server.specs.Logging.{IsToldAs, LogsTimed, LogsCounted, LogsLimited, LogsUpdates, LogsWhere, Whether, is_second_full, with_left_out, with_told}
+use Rattle.ua_server.specs.Telling.{KeepsLast, Known, Readings, LogsLine, told_line}
+use Rattle.ua_server.specs.Logging.{IsClashTold, IsToldAs, LogsTable, clash_name, LogsTimed, LogsCounted, LogsLimited, LogsUpdates, LogsWhere, Whether, is_second_full, with_left_out, with_told}
 
 -- it was written, by the time that the clock gave
 pub timed : {E C : Type 0} (contents : Known E) (gave : Readings C) (event : List ℕ)
@@ -87,3 +90,20 @@ pub where-untold : {E C : Type 0} (old new : ErrorLog E C) (so : Type 0) → old
     → new ≡ old → LogsWhere old new so
 where-untold old new so events is =
     subst (λ (b : Bool). Whether b so (new ≡ old)) (sym events) is
+
+-- a table was told, where the last call of that peer ended otherwise
+pub table-logged : {E C : Type 0} (contents : Known E) (old new : ErrorLog E C) (callee : ℕ)
+    (clash : Clash) (name : Option ClashName) → name ≡ Some (clash_name clash)
+    → (IsClashTold old callee name → ⊥)
+    → new ≡ record old { errors = new.errors; clashes = new.clashes }
+    → KeepsLast old.clashes new.clashes callee name
+    → PrintsClash clash (contents old.errors.inner) (contents new.errors.inner)
+    → LogsTable contents callee clash old new
+table-logged contents old new callee clash name e denies set keeps prints =
+    let P : Option ClashName → Type 0 = λ n.
+    (IsClashTold old callee n × (new ≡ old))
+    ⊎ ((IsClashTold old callee n → ⊥)
+    × (new ≡ record old { errors = new.errors; clashes = new.clashes })
+    × KeepsLast old.clashes new.clashes callee n
+    × PrintsClash clash (contents old.errors.inner) (contents new.errors.inner)) in
+    subst P e (inr (denies, set, keeps, prints))

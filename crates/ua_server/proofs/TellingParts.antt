@@ -125,6 +125,43 @@ between-text left right t0 t1 t2 t3 digits n short brief none is few one two thr
     ∙ (ap (λ (l : List ℕ). (left ++ decimal n) ++ l) (cut-fits 10 right brief)
     ∙ append_assoc left (decimal n) right))
 
+-- a piece that fits was put behind what was written, whose length is known
+grown : (room limit most : ℕ) (old new piece whole : List ℕ) → old ≡ whole
+    → length whole ≤ most → length piece ≤ room → most + room < limit
+    → (length old + room < limit → new ≡ old ++ cut_to room piece)
+    → (new ≡ whole ++ piece) × (length (whole ++ piece) ≤ most + room)
+grown room limit most old new piece whole is short few free says = (
+  says (omega (arith, ap length is, short, free))
+      ∙ (ap (λ (l : List ℕ). l ++ cut_to room piece) is
+      ∙ ap (λ (l : List ℕ). whole ++ l) (cut-fits room piece few)),
+  omega (arith, length-append whole piece, short, few),
+)
+
+-- two numbers between three texts
+pub two-numbers : (left middle right t0 t1 t2 t3 t4 t5 first second : List ℕ) (m n : ℕ)
+    → length left ≤ 40 → length middle ≤ 40 → length right ≤ 30 → t0 ≡ [] → first ≡ decimal m
+    → length first ≤ 40 → second ≡ decimal n → length second ≤ 40
+    → (length t0 + 40 < 200 → t1 ≡ t0 ++ cut_to 40 left)
+    → (length t1 + 40 < 200 → t2 ≡ t1 ++ cut_to 40 first)
+    → (length t2 + 40 < 200 → t3 ≡ t2 ++ cut_to 40 middle)
+    → (length t3 + 40 < 200 → t4 ≡ t3 ++ cut_to 40 second)
+    → (length t4 + 30 < 200 → t5 ≡ t4 ++ cut_to 30 right)
+    → t5 ≡ left ++ (decimal m ++ (middle ++ (decimal n ++ right)))
+two-numbers
+    left middle right t0 t1 t2 t3 t4 t5 first second m n short brief few none is fits also suits
+    one two three four five =
+    let a = grown 40 200 0 t0 t1 left [] none (omega arith) short (omega arith) one in
+    let b = grown 40 200 40 t1 t2 first left a.0 a.1 fits (omega arith) two in
+    let c = grown 40 200 80 t2 t3 middle (left ++ first) b.0 b.1 brief (omega arith) three in
+    let most = (left ++ first) ++ middle in
+    let d = grown 40 200 120 t3 t4 second most c.0 c.1 suits (omega arith) four in
+    let e = grown 30 200 160 t4 t5 right (most ++ second) d.0 d.1 few (omega arith) five in
+    e.0 ∙ (append_assoc most second right
+    ∙ (append_assoc (left ++ first) middle (second ++ right)
+    ∙ (append_assoc left first (middle ++ (second ++ right))
+    ∙ (ap (λ (l : List ℕ). left ++ (l ++ (middle ++ (second ++ right)))) is
+    ∙ ap (λ (l : List ℕ). left ++ (decimal m ++ (middle ++ (l ++ right)))) also))))
+
 -- where settings are refused
 abbrev pub place_of : ProgramFault → Option (List ℕ)
 place_of fault = elim fault [ Settings fault place ↦ place | _ ↦ None ]

@@ -113,9 +113,15 @@ IsClashTable clash table =
     × IsClashRow (codes "there") clash.brought brought
     × (table ≡ clash_names ++ (held ++ brought))
 
--- such a table was printed, or a first part of it; nothing where memory for it was wanting, or a
--- value has no text
+-- the line that says of which records no table can be made
+abbrev pub unshown_line : Clash → List ℕ
+unshown_line clash =
+    codes "two records of replica " ++ (decimal clash.held.origin ++ (codes ", number "
+    ++ (decimal clash.held.number ++ (codes ", which can't be shown" ++ 10 ∷ []))))
+
+-- such a table was printed; or, where memory for it was wanting or a value has no text, a line that
+-- says of which records: all of it, or a first part
 abbrev pub PrintsClash : Clash → (before after : Option (List ℕ)) → Type 0
 PrintsClash clash before after =
-    (after ≡ before)
-    ⊎ ((table : List ℕ) × IsClashTable clash table × AppendsPart before after table)
+    ((table : List ℕ) × IsClashTable clash table × AppendsPart before after table)
+    ⊎ AppendsPart before after (unshown_line clash)

@@ -37,8 +37,9 @@ use Rattle.conversation.specs.Events.{LogEvent, Telling, Connected, Audited, Den
 use Rattle.conversation.specs.OtherEnds.{ConversationEnding}
 use Rattle.ua_server.specs.Calls.{PrintsClash}
 use Rattle.ua_server.specs.declared.log.ErrorLog.{ErrorLog}
+use Rattle.ua_server.specs.declared.log.ClashName.{ClashName}
 use Rattle.ua_server.specs.declared.recent.Recent.{Recent}
-use Rattle.ua_server.specs.Telling.{Known, Readings, LogsLine, LogsFault, LogsFailed, LogsCall, LogsTurn, told_line, numbered, fault_text, sync_fault}
+use Rattle.ua_server.specs.Telling.{KeepsLast, Known, Readings, LogsLine, LogsFault, LogsFailed, LogsCall, LogsTurn, told_line, numbered, fault_text, sync_fault}
 
 -- ---- how often
 
@@ -256,14 +257,28 @@ LogsCalled {E} {C} contents gave callee address outcome moved old new =
     × LogsWhere between new
     (LogsTimed contents gave (call_text address (call_reason outcome) (moved_of moved)) between new)
 
--- two records of one number that a call found were told by their table, as far as that could be
--- written; not where the last call of that peer ended by such too
+-- of which records a clash is
+abbrev pub clash_name : Clash → ClashName
+clash_name clash = record { replica = clash.held.origin; number = clash.held.number }
+
+-- the last call of a peer ended by a clash, and the last table that was told of it is of these
+-- records
+abbrev pub IsClashTold : {E C : Type 0} → ErrorLog E C → (callee : ℕ) → Option ClashName
+    → Type 0
+IsClashTold log callee name =
+    (slice_get log.calls callee ≡ Some (Some (Exchange GivenTwice)))
+    × (slice_get log.clashes callee ≡ Some name)
+
+-- two records of one number that a call found are told by their table, and it is kept which they
+-- were; not where the last call of that peer ended by these too
 abbrev pub LogsTable : {E C : Type 0} → Known E → (callee : ℕ) → Clash → (old new : ErrorLog E C)
     → Type 0
 LogsTable contents callee clash old new =
-    let last : Option SyncFault = Some (Exchange GivenTwice) in
-    ((slice_get old.calls callee ≡ Some last) × (new ≡ old))
-    ⊎ ((slice_get old.calls callee ≢ Some last) × (new ≡ record old { errors = new.errors })
+    let name : Option ClashName = Some (clash_name clash) in
+    (IsClashTold old callee name × (new ≡ old))
+    ⊎ ((IsClashTold old callee name → ⊥)
+    × (new ≡ record old { errors = new.errors; clashes = new.clashes })
+    × KeepsLast old.clashes new.clashes callee name
     × PrintsClash clash (contents old.errors.inner) (contents new.errors.inner))
 
 -- what is told on standard error of what comes about on connections

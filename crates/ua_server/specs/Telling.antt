@@ -171,6 +171,7 @@ fresh_log alloc events clock errors = record {
   told_at = None;
   missed = 0;
   calls = replicate 64 None;
+  clashes = replicate 64 None;
   longest = 0;
   alloc = alloc;
   events = events;
@@ -235,11 +236,10 @@ behind_name address text = address ++ behind_peer text
 abbrev pub call_lines : List ℕ → List ℕ → List ℕ
 call_lines address text = codes "uahist: peer " ++ behind_name address text
 
--- of the first 64 peers the end of the last call is kept
-abbrev pub KeepsLast : (old new : List (Option SyncFault)) → (callee : ℕ) → Option SyncFault
-    → Type 0
-KeepsLast old new callee fault =
-    (callee < 64 → new ≡ slice_set old callee fault) × (64 ≤ callee → new ≡ old)
+-- of the first 64 peers this is kept of their last call
+abbrev pub KeepsLast : {A : Type 0} → (old new : List A) → (callee : ℕ) → A → Type 0
+KeepsLast old new callee last =
+    (callee < 64 → new ≡ slice_set old callee last) × (64 ≤ callee → new ≡ old)
 
 -- how a call of a peer ended: as the last one, and nothing is told; or otherwise, which is told and
 -- kept; of the peers after the 64th it is told each time

@@ -1,9 +1,10 @@
 //! A peer that is called by hand, and compared with before where that is asked for.
 
 ghost use Rattle.std.specs.Prelude.{◌≡◌, ◌++◌, ℕ, List, IsErrOf, IfOk, OnOk, string_bytes};
+ghost use Rattle.std.specs.Fmt.InlineText.{inline_text};
 ghost use Rattle.std.specs.Result.{result_map_both};
 ghost use Rattle.counted_io.specs.Bytes.{CountsWhere};
-ghost use Rattle.ua_server.specs.Calls.{compared_before, Exchanges, dialog_fault, entry_of, row_front, IsClashRow, IsClashTable, PrintsClash};
+ghost use Rattle.ua_server.specs.Calls.{compared_before, Exchanges, dialog_fault, entry_of, row_front, IsClashRow, IsClashTable, PrintsClash, unshown_line};
 
 use archive::Archive;
 use command_line::SyncWords;
@@ -11,10 +12,11 @@ use counted_io::{Counted, ServeFault};
 use historian::Server;
 use history_csv::put_change_row;
 use history_text::TextFault;
+use itoa::Buffer;
 use peer_check::{Clash, Extent, compare};
 use records::{Entry, HistoryUpdateType, Record};
 use std::alloc::{AllocError, Global};
-use std::fmt::Write as _;
+use std::fmt::{InlineText, Write as _};
 use std::io::{Read, Write};
 use ua_binary::TryClone;
 use ua_peers::{SyncFault, Synced, sync};
@@ -132,7 +134,21 @@ fn clash_table(alloc: Global, clash: &Clash) -> Result<Vec<u8>, TextFault>
     Ok(table)
 }
 
-/// Prints such a table, as far as the writer takes it; nothing where there is none.
+/// The line that stands for a table that memory is wanting for, or in which a value would have no text.
+fn unshown_line(clash: &Clash) -> InlineText<200>
+    ensures { inline_text result ≡ unshown_line clash.now }
+{
+    let mut replica = Buffer::new();
+    let mut number = Buffer::new();
+    InlineText::new()
+        .and_str("two records of replica ", 40)
+        .and_str(replica.format(clash.held.origin.get()), 40)
+        .and_str(", number ", 40)
+        .and_str(number.format(clash.held.number), 40)
+        .and_str(", which can't be shown\n", 30)
+}
+
+/// Prints such a table, as far as the writer takes it; where there is none, a line that says of which records.
 pub(crate) fn print_clash<W: Write>(alloc: Global, clash: &Clash, output: &mut Counted<W>)
     ensures { PrintsClash clash.now (W.contents output.old.inner) (W.contents output.new.inner) }
 {
@@ -140,6 +156,8 @@ pub(crate) fn print_clash<W: Write>(alloc: Global, clash: &Clash, output: &mut C
         Ok(table) => {
             let _ = output.send(table.as_slice());
         }
-        Err(_) => {}
+        Err(_) => {
+            let _ = output.send(unshown_line(clash).as_str().as_bytes());
+        }
     }
 }

@@ -5,6 +5,7 @@ ghost use Rattle.std.specs.Fmt.InlineText.{inline_text};
 ghost use Rattle.std.specs.Io.KnownBytes.{Appends};
 ghost use Rattle.counted_io.specs.Bytes.{counted, AppendsPart};
 ghost use Rattle.ua_server.specs.Telling.{failed_line, failed_text, turn_text, fault_text, sync_fault, outcome_text, behind_peer, behind_name, call_lines};
+ghost use Rattle.ua_server.specs.Logging.{clash_name};
 
 use crate::calls::print_clash;
 use crate::program::{ProgramFault, numbered, report, tell};
@@ -28,6 +29,25 @@ const QUIET: u64 = 1_000;
 /// Of how many peers the end of the last call is kept: as many as one replica can have.
 pub(crate) const MOST_CALLED: usize = 64;
 
+/// What two records of one number have in common: their replica, and the number.
+#[derive(Clone, Copy, Debug, PartialEq, Eq)]
+pub(crate) struct ClashName {
+    /// The number of the replica.
+    pub replica: u8,
+    /// The number of both records.
+    pub number: u64,
+}
+
+/// Of which records a clash is.
+fn clash_name(clash: &Clash) -> ClashName
+    ensures { result ≡ clash_name clash.now }
+{
+    ClashName {
+        replica: clash.held.origin.get(),
+        number: clash.held.number,
+    }
+}
+
 /// Standard error, what was told of late of connections, and how calls ended last.
 #[derive(Drop)]
 pub(crate) struct ErrorLog<E, C> {
@@ -38,6 +58,8 @@ pub(crate) struct ErrorLog<E, C> {
     pub missed: u64,
     /// The fault by which the last call of each of the first peers ended; none: it came to its end, or there was none.
     pub calls: [Option<SyncFault>; MOST_CALLED],
+    /// The records of the last table that was told of a call of each of these peers; none: none was.
+    pub clashes: [Option<ClashName>; MOST_CALLED],
     /// How many milliseconds the longest turn of a connection took that was told.
     pub longest: u64,
     /// Where lines are made.
@@ -65,6 +87,7 @@ impl<E, C> ErrorLog<E, C> {
             told_at: None,
             missed: 0,
             calls: [None; MOST_CALLED],
+            clashes: [None; MOST_CALLED],
             longest: 0,
             alloc,
             events,
@@ -125,17 +148,39 @@ impl<E: Write, C: Clock> ErrorLog<E, C> {
 }
 
 impl<E: Write, C: Clock> ErrorLog<E, C> {
-    ghost use Rattle.ua_server.specs.Logging.{LogsTable};
+    ghost use Rattle.std.specs.Prelude.{◌≡◌, ◌↔◌, Some, IsTrue, slice_get};
+    ghost use Rattle.ua_server.specs.Logging.{IsClashTold, LogsTable};
 
-    /// Writes a table of two records of one number, where the last call of the peer didn't end by such.
+    /// Whether these are the records of the last table that was told of a call of a peer.
+    fn is_last_clash(&self, callee: usize, name: Option<ClashName>) -> bool
+        ensures { IsTrue result ↔ (slice_get self.now.clashes callee ≡ Some name) }
+    {
+        match self.clashes.get(callee) {
+            Some(last) => *last == name,
+            None => false,
+        }
+    }
+
+    /// Whether the last call of a peer ended by a clash of these records too.
+    fn is_clash_told(&self, callee: usize, name: Option<ClashName>) -> bool
+        ensures { IsTrue result ↔ IsClashTold self.now callee name }
+    {
+        let twice = Some(SyncFault::Exchange(ExchangeFault::GivenTwice));
+        self.is_told(callee, twice) && self.is_last_clash(callee, name)
+    }
+
+    /// Writes a table of two records of one number, where the last call of the peer didn't end by these too.
     fn log_clash(&mut self, callee: usize, clash: &Clash)
         ensures { LogsTable E.contents callee clash.now self.old self.new }
     {
-        let twice = Some(SyncFault::Exchange(ExchangeFault::GivenTwice));
-        if self.is_told(callee, twice) {
+        let name = Some(clash_name(clash));
+        if self.is_clash_told(callee, name) {
             return;
         }
         print_clash(self.alloc, clash, &mut self.errors);
+        if callee < MOST_CALLED {
+            self.clashes[callee] = name;
+        }
     }
 }
 
@@ -199,8 +244,8 @@ impl<E: Write, C: Clock> Log for ErrorLog<E, C> {
         }
     }
 
-    /// Tells by a table of CSV the two records of one number that a call found, where the last call of that peer didn't end so;
-    /// nothing where memory is wanting or a value has no text.
+    /// Tells by a table of CSV the two records of one number that a call found, where the last call of that peer didn't end by
+    /// these too; by a line where memory is wanting or a value has no text.
     fn tell_clash(&mut self, callee: usize, clash: &Clash) {
         self.log_clash(callee, clash);
     }
