@@ -309,6 +309,55 @@ def long_turns():
     server.stop()
 
 
+def deleted_values():
+    """100,000 deleted values before the one that lives, without an index of live values and with one."""
+    count, server = 100_000, Server().start()
+    writer = server.line()
+    updated(writer, [insert(U, [value_at(int32(7), NOW - 1)])])
+    for k in range(0, count, 10_000):
+        updated(writer, [insert(U, [value_at(int32(n), NOW + k + n) for n in range(10_000)])])
+    updated(writer, [opcua.extension(688, U + u8(0) + i64(NOW) + i64(NOW + count))])
+
+    def read(server):
+        """How long the latest value takes, the least of five times; a page of the node; and the record of all."""
+        line, times = server.line(), []
+        for _ in range(5):
+            begin = time.monotonic()
+            value = message(line, line.client.read([(U, 13)]))[0]
+            times.append(time.monotonic() - begin)
+        begin = time.monotonic()
+        page = message(line, line.client.history_read([U], NOW - 10, NOW + count, 100))[0]
+        return min(times), time.monotonic() - begin, value[24:], page[24:]
+
+    took, paged, value, page = read(server)
+    note(f"without an index a Read behind {count} deleted values takes {took * 1000:.1f} ms, and a page over them {paged * 1000:.1f} ms")
+    server.stop()
+    dump, bytes_before = server.dump(), os.path.getsize(server.store)
+    text = open(server.settings).read()
+    open(server.settings, "w").write(text.replace("replica = 1\n", "replica = 1\nindex = true\n"))
+    begin = time.monotonic()
+    server.start()
+    note(f"an index over {count} deleted values is made, and the store opened, within {time.monotonic() - begin:.1f} s")
+    took, paged, again, page_again = read(server)
+    tell(took < 0.01, f"with [archive] index a Read behind {count} deleted values takes {took * 1000:.2f} ms", took)
+    tell(paged < 0.01, f"and a page over them {paged * 1000:.2f} ms", paged)
+    tell((value[12:], page[12:]) == (again[12:], page_again[12:]), "both are answered the same", (value, again))
+    line = server.line()
+    inserted = updated(line, [insert(U, [value_at(int32(n), NOW + n) for n in range(1000)])])
+    tell(inserted == [[INSERTED] * 1000], "values are written there anew", inserted[0][:3])
+    updated(line, [opcua.extension(688, U + u8(0) + i64(NOW) + i64(NOW + count))])
+    server.stop()
+    note(f"the store had {bytes_before} bytes, and has {os.path.getsize(server.store)}")
+    indexes = run(["sqlite3", server.store, "SELECT name, sql FROM sqlite_schema WHERE type = 'index' AND sql IS NOT NULL; PRAGMA integrity_check"]).out.decode()
+    tell(indexes.count("CREATE INDEX") == 1 and indexes.endswith("\nok\n"), "sqlite3 sees one index more, and finds the store whole", indexes)
+    tell(server.dump().startswith(dump), "the records before are what they were", "")
+    open(server.settings, "w").write(text)
+    server.start()
+    took = read(server)[0]
+    tell(took < 0.01, f"without the key the index stays: {took * 1000:.2f} ms", took)
+    server.stop()
+
+
 def deep():
     """Values in values, tables in tables: what is read by calls in calls would run out of its stack."""
     server = Server(store=False).start()
@@ -982,7 +1031,7 @@ def a_limit_of_files():
 
 
 resource.setrlimit(resource.RLIMIT_NOFILE, (4096, max(4096, resource.getrlimit(resource.RLIMIT_NOFILE)[1])))
-checks = [small_requests, large_exchange, a_wide_folder, long_turns, deep, large_requests, a_flood_of_chunks, places, unread_answers, taken_answers, browsers, descriptors,
+checks = [small_requests, large_exchange, a_wide_folder, long_turns, deleted_values, deep, large_requests, a_flood_of_chunks, places, unread_answers, taken_answers, browsers, descriptors,
           guesses, guesses_from_many, sessions, secrets, copies, lying_peers, a_limit_of_files]
 checks = [check for check in checks if not sys.argv[2:] or check.__name__ in sys.argv[2:]]
 for check in checks:
