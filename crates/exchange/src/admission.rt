@@ -1,6 +1,6 @@
 //! Which records are taken from peers.
 
-ghost use Rattle.std.specs.Prelude.{◌≡◌, ◌==◌, ◌&&◌, nat_lt, false, Ok, Err, IfErr};
+ghost use Rattle.std.specs.Prelude.{◌≡◌, ◌==◌, ◌&&◌, false, Ok, Err, IfErr};
 ghost use Rattle.std.specs.List.{list_any};
 ghost use Rattle.records.specs.Spelling.{GivesUnless};
 ghost use Rattle.exchange.specs.declared.fault.ExchangeFault.TheVariants as fault;

@@ -1,6 +1,6 @@
 //! Frames that are written.
 
-ghost use Rattle.std.specs.Prelude.{◌≡◌, ◌<◌, ◌≤◌, ◌+◌, ◌↔◌, ◌^◌, IsTrue, IfOk, IfErr, ℕ, length};
+ghost use Rattle.std.specs.Prelude.{◌≡◌, ◌<◌, ◌≤◌, ◌+◌, ◌↔◌, IsTrue, IfOk, IfErr, length};
 ghost use Rattle.std.specs.List.{flat_map, All, AllByRecursion};
 ghost use Rattle.stamp.specs.Vector.{vector};
 ghost use Rattle.records.specs.Spelling.{record_form};
@@ -11,7 +11,7 @@ ghost use Rattle.exchange.specs.Frames.{title, length_prefixed_record, frame_let
 ghost use Rattle.exchange.specs.Batches.{records_length, frame_length, longest_frame};
 
 use crate::fault::ExchangeFault;
-use crate::message::{FrameKind, Message, Title};
+use crate::message::{Message, Title};
 use records::{Record, put_record};
 use stamp::GREATEST_TICK;
 use std::alloc::Global;

@@ -1,4 +1,4 @@
-use Rattle.std.proofs.Common.{◌≡◌, ◌≤◌, ◌-◌, ℕ, true, false, Ok, length}
+use Rattle.std.proofs.Common.{◌≡◌, ◌≤◌, ◌-◌, false, Ok, length}
 use Rattle.std.specs.Prelude.{if◌then◌else◌}
 use Rattle.ua_binary.specs.Format.{saturated}
 use Rattle.stamp.specs.Numbers.{number_of}

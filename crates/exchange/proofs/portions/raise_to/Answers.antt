@@ -1,4 +1,4 @@
-use Rattle.std.proofs.Common.{refl, ◌≡◌, ℕ, List, arith, subst}
+use Rattle.std.proofs.Common.{refl, ◌≡◌, ℕ, List, subst}
 use Rattle.std.proofs.lemmas.List.{take_all}
 use Rattle.stamp.specs.Numbers.{number_of}
 use Rattle.records.specs.declared.record.Record.{Record}
