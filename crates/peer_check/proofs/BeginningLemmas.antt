@@ -7,7 +7,6 @@ use Rattle.records.specs.Contents.{vec}
 use Rattle.archive.specs.Store.{Store, Asks, CountsFaults}
 use Rattle.ua_binary.specs.Format.{Puts}
 use Rattle.exchange.specs.Batches.{IsOfAnswer}
-use Rattle.exchange.specs.Dialogs.{party_of}
 use Rattle.exchange.specs.Fault.{store_fault_of}
 use Rattle.exchange.specs.Frames.{frame_of}
 use Rattle.exchange.specs.declared.fault.ExchangeFault.{ExchangeFault}

@@ -29,8 +29,7 @@ fn number_before(number: u64) -> u64
     number.saturating_sub(1)
 }
 
-/// The numbers behind which the last record of each replica stands of which these are the last ones' numbers; 0 where there is
-/// none.
+/// For each replica one less than its number here, 0 of 0: a vector that lacks the last record of each.
 fn vector_before_last(held: &Vector) -> Vector
     ensures { (replica : ℕ) → IsReplica replica
         → number_of result replica ≡ number_of held.now replica - 1 }
@@ -86,7 +85,8 @@ fn first_brought(
 
 /// Compares the records of the frame that stands first, if it is whole, with those of the same names that are held: the first that
 /// isn't equal, with that one, or none. What is no frame, or no message to this replica, brings no records, and the frame stays
-/// where it is. Nothing is learned; one record is read at a time, one for each that came. Errors are `OutOfMemory` and `Store`.
+/// where it is. Nothing is learned. One record is read at a time, one for each whose name is held, up to the first that isn't
+/// equal; a frame has at most 1,000 records, in 2 MiB, which bounds the reads of a call. Errors are `OutOfMemory` and `Store`.
 pub fn find_first_clash<A: Archive>(
     alloc: Global,
     replica: &mut Replica<A>,

@@ -111,8 +111,9 @@ fn clash_of<A: Archive>(
 
 /// Compares records that came from a peer with those of the same names that are held, one after the other, up to the first that
 /// isn't equal: that clash, or none where each of them is equal to the one that is held by its name, or none is held by it. What
-/// is held stays. One record is read at a time. Errors are `OutOfMemory` and `Store`. The condition is `Record::is_lawful` of
-/// each record, which holds of those that a frame brings.
+/// is held stays. One record is read at a time, one for each whose name is held: of the others the numbers that are held tell it.
+/// Errors are `OutOfMemory` and `Store`. The condition is `Record::is_lawful` of each record, which holds of those that a frame
+/// brings.
 pub fn find_clash<A: Archive>(
     alloc: Global,
     archive: &mut A,
