@@ -5,7 +5,6 @@ use Rattle.records.specs.Contents.{Content}
 use Rattle.records.specs.declared.shown.Entry.{Entry}
 use Rattle.archive.specs.Store.{Store}
 use Rattle.history_csv.specs.Rows.{IsTextless, ShowsTextless}
-use Rattle.history_report.specs.declared.fault.ReportFault.{ReportFault}
 use Rattle.history_report.specs.declared.fault.ReportFault.TheVariants as fault
 use Rattle.history_report.specs.declared.fault.PartFault.{PartFault}
 use Rattle.history_report.specs.declared.fault.PartFault.TheVariants as part_fault
@@ -75,11 +74,11 @@ abbrev pub IsPrintedPart : Content → Report → List ℕ → Type 0
 IsPrintedPart R report text =
     (part : Report) × IsFirstPart R report part × IsPrinted R part text
 
--- one of these is such
+-- this holds of one of a list's elements, or of several
 abbrev pub HasOne : {X : Type 0} → (X → Type 0) → List X → Type 0
 HasOne P xs = (n : ℕ) × IsAt P xs n
 
--- a row of a report shows a value that has no text
+-- one of the rows that a report has of a content shows a value that has no text
 abbrev pub HasTextless : Content → Report → Type 0
 HasTextless R report =
     elim report.changes [
@@ -87,9 +86,9 @@ HasTextless R report =
       | false ↦ HasOne (λ h. IsTextless h.value.value) (values_asked R report)
     ]
 
--- a row of the first part of a report does
-abbrev pub LacksText : Content → Report → Type 0
-LacksText R report = (part : Report) × IsFirstPart R report part × HasTextless R part
+-- so does one of the rows of the first part of a report
+abbrev pub PartHasTextless : Content → Report → Type 0
+PartHasTextless R report = (part : Report) × IsFirstPart R report part × HasTextless R part
 
 -- an archive was asked, which stays as it is: this holds of what it held, or it was crowded so, or
 -- a value of it lacked a text so, or its store met the fault that ended this, if that is one of the

@@ -4,7 +4,7 @@ ghost use Rattle.std.specs.Prelude.{◌≡◌, ◌↔◌, ◌++◌, IsTrue, true
 ghost use Rattle.archive.specs.Store.{IsAskedWithin};
 ghost use Rattle.history_report.specs.Reports.{values_asked, changes_asked};
 ghost use Rattle.history_report.specs.Paging.{values_left, changes_left};
-ghost use Rattle.history_report.specs.Parts.{part_up_to, end_between, HasOne, HasTextless, IsFirstPart, LacksText, AreCrowded, AsksForPart, IsPartEnd, AreFirstTimes};
+ghost use Rattle.history_report.specs.Parts.{part_up_to, end_between, HasOne, HasTextless, IsFirstPart, PartHasTextless, AreCrowded, AsksForPart, IsPartEnd, AreFirstTimes};
 
 use crate::fault::{PartFault, ReportFault};
 use crate::pages::{Pages, next_changes, next_values};
@@ -218,7 +218,7 @@ fn part_up_to(report: Report, end: Option<Moment>) -> Report
     part
 }
 
-/// Whether one of some rows has no text.
+/// Whether one of these rows shows a value that has no text.
 fn one_lacks_text<T: Row>(rows: &[T]) -> bool
     ensures { IsTrue result ↔ HasOne T.is_textless rows.now }
 {
@@ -230,7 +230,11 @@ fn one_lacks_text<T: Row>(rows: &[T]) -> bool
     false
 }
 
-/// Sees that all rows of these pages have a text: `NoText` says that one has none.
+/// Sees that each value that the rows of these pages show has a text. It asks for all of them, a
+/// page at a time, and keeps none; the archive stays as it is.
+///
+/// Errors, each in `Report`: `NoText` where a value has none, `Store` where the archive met a fault
+/// of its store, `OutOfMemory` where the pages don't end. So `Ok` says that each value has a text.
 fn check_rows<A: Archive, T: Row + Drop>(
     alloc: Global,
     archive: &mut A,
@@ -258,7 +262,11 @@ fn check_rows<A: Archive, T: Row + Drop>(
     Err(PartFault::Report(ReportFault::OutOfMemory))
 }
 
-/// Sees that all rows of a report have a text: `NoText` says that one has none.
+/// Sees that each value that the rows of a report show has a text, of the records that the archive
+/// holds now; the archive stays as it is. Nothing is made of the rows.
+///
+/// Errors, each in `Report`: `NoText` where a value has none, `Store` where the archive met a fault
+/// of its store, `OutOfMemory` where its pages don't end. So `Ok` says that each value has a text.
 fn check_report<A: Archive>(
     alloc: Global,
     archive: &mut A,
@@ -287,16 +295,21 @@ fn check_report<A: Archive>(
 impl Portions {
     ghost use Rattle.history_report.specs.Portions.{BeginsPart};
 
-    /// Begins the first part of a history, of at most 500 values or modifications: appends its
-    /// header, a page's with the drawing of that part's values. Where the part isn't all of the
-    /// history, it ends before the time of the 501st, and a page leads by a link to the history from
-    /// that moment on. Of which rows it is, is known before its first byte, and each has a text. The
-    /// archive stays as it is. At most eight values are in memory at a time, and the times of 508.
+    /// Begins the first part of a history, of at most 500 values or modifications. Before it
+    /// appends anything it finds where the part ends, and sees that each value that its rows show
+    /// has a text. Then it appends the part's header alone, a page's with the drawing of that
+    /// part's values: the rows and the footer come by `next`, of the records that the archive holds
+    /// now.
     ///
-    /// Errors, after which nothing is appended: `Report` with `Store` where the archive met a fault
-    /// of its store, with `NoText` where a value that the part shows has no text, with `OutOfMemory`
-    /// where memory was wanting, and never with `Write`; `Crowded` where the first 501 modifications
-    /// are of one moment.
+    /// Where there are more than 500, the part ends before the time of the 501st, and a page's
+    /// header has a link to the history from that moment on; else the part is all of the history.
+    /// The archive stays as it is. At most eight values are in memory at a time, and the times of
+    /// 508.
+    ///
+    /// Errors, after which nothing is appended: `Crowded` where the first 501 modifications are of
+    /// one moment, for a part ends between two moments; and `Report` with `NoText` where a value
+    /// that the part shows has no text, with `Store` where the archive met a fault of its store,
+    /// with `OutOfMemory` where memory was wanting. It is never `Report` with `Write`.
     pub fn begin_part<A: Archive>(
         alloc: Global,
         archive: &mut A,
@@ -305,7 +318,7 @@ impl Portions {
     ) -> Result<Portions, PartFault>
         ensures begins { AsksForPart (A.state archive.old) (A.state archive.new) result
             (λ R. (report.changes ≡ true) × AreCrowded (changes_asked R report))
-            (λ R. LacksText R report)
+            (λ R. PartHasTextless R report)
             (λ left R. BeginsPart report left R out.old.items out.new.items) }
         ensures kept { OnErr result (out.new.items ≡ out.old.items) }
         ensures asked { IsAskedWithin 8 (A.asked archive.old) (A.asked archive.new) }

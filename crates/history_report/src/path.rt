@@ -1,6 +1,6 @@
 //! A path through columns, as SVG writes it.
 
-ghost use Rattle.std.specs.Prelude.{◌≡◌, IfOk, OnOk};
+ghost use Rattle.std.specs.Prelude.{IfOk, OnOk};
 ghost use Rattle.history_report.specs.Html.{IsPath};
 
 use crate::trend::{Column, HEIGHT};

@@ -6,7 +6,7 @@ ghost use Rattle.counted_io.specs.Bytes.{counted};
 ghost use Rattle.history_csv.specs.Rows.{IsTextless, ShowsTextless};
 ghost use Rattle.history_report.specs.Html.{IsDrawing};
 ghost use Rattle.history_report.specs.Reports.{Prints, ReadsFor, IsValueLine, IsChangeLine, footer_of};
-ghost use Rattle.history_report.specs.Paging.{Printing, PrintsLines, PrintsRows, SendsHeader, SendsText, values_left, changes_left};
+ghost use Rattle.history_report.specs.Paging.{PrintsLines, PrintsRows, SendsHeader, SendsText, values_left, changes_left};
 
 use crate::drawing::put_drawing;
 use crate::fault::ReportFault;

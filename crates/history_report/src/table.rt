@@ -2,7 +2,7 @@
 
 ghost use Rattle.std.specs.Prelude.{◌≡◌, ◌++◌, ◌∷◌, [], IfOk, OnOk, replicate, if◌then◌else◌};
 ghost use Rattle.history_csv.specs.Rows.{value_names, change_names};
-ghost use Rattle.history_report.specs.Tables.{legible, legible_byte, is_first, characters, cell, last_cell, table_line};
+ghost use Rattle.history_report.specs.Tables.{legible, legible_byte, characters, cell, last_cell, table_line};
 
 use std::alloc::{AllocError, Global};
 

@@ -3,7 +3,7 @@ use Rattle.std.proofs.Common.{◌≡◌, ℕ, Bool, List, [], ◌∷◌, ◌++�
 use Rattle.std.specs.Prelude.{⊤, IfOk, MatchResult}
 use Rattle.std.specs.declared.alloc.AllocError.{AllocError}
 use Rattle.stamp.specs.Numbers.{number_of}
-use Rattle.records.specs.Contents.{Content, vec}
+use Rattle.records.specs.Contents.{Content}
 use Rattle.archive.specs.Store.{Store}
 use Rattle.archive.specs.declared.fault.StoreFault.{StoreFault}
 use Rattle.history_report.specs.declared.fault.PartFault.{PartFault}
@@ -14,7 +14,7 @@ use Rattle.history_report.specs.declared.report.Form.TheVariants as form
 use Rattle.history_report.specs.declared.report.Report.{Report}
 use Rattle.history_report.specs.Paging.{IsPut}
 use Rattle.history_report.specs.Reports.{IsHeader, changes_asked, report_faults}
-use Rattle.history_report.specs.Parts.{AreCrowded, AsksForPart, IsFirstPart, LacksText}
+use Rattle.history_report.specs.Parts.{AreCrowded, AsksForPart, IsFirstPart, PartHasTextless}
 use Rattle.history_report.specs.Portions.{Begins, BeginsPart, Remainder, IsOfSame, IsPortion, IsWhole, ending}
 use Rattle.settings_check.specs.Stored.{IsVectorOf, Reads}
 use Rattle.web_page.specs.declared.fault.PageFault.{PageFault}
@@ -128,7 +128,8 @@ Judged overview R request judged faults text sending =
 
 -- a request that is refused
 pub refused : (overview : Overview) (R : Content) (request : Request) (judged : Option Refusal)
-    (cause : Refusal) (text : List ℕ) → judged ≡ refusal_of overview.settings request → judged ≡ Some cause
+    (cause : Refusal) (text : List ℕ) → judged ≡ refusal_of overview.settings request
+    → judged ≡ Some cause
     → text ≡ refusal_text cause request.head_only → AnswersRequest overview R request [] text None
 refused overview R request judged cause text by is told =
     subst (λ (o : Option Refusal). Judged overview R request o [] text None) (sym is ∙ by)
@@ -141,7 +142,8 @@ pub taken : (overview : Overview) (R : Content) (request : Request) (judged : Op
     → TellsAsked overview R request.page request.head_only request.takes_chunks faults text sending
     → AnswersRequest overview R request faults text sending
 taken overview R request judged faults text sending by is told =
-    subst (λ (o : Option Refusal). Judged overview R request o faults text sending) (sym is ∙ by) told
+    subst (λ (o : Option Refusal). Judged overview R request o faults text sending)
+    (sym is ∙ by) told
 
 -- the page that is asked for
 pub asked-as : (overview : Overview) (R : Content) (asked page : Page) (head_only chunked : Bool)
@@ -149,7 +151,8 @@ pub asked-as : (overview : Overview) (R : Content) (asked page : Page) (head_onl
     → TellsAsked overview R page head_only chunked faults text sending
     → TellsAsked overview R asked head_only chunked faults text sending
 asked-as overview R asked page head_only chunked faults text sending is told =
-    subst (λ (p : Page). TellsAsked overview R p head_only chunked faults text sending) (sym is) told
+    subst (λ (p : Page). TellsAsked overview R p head_only chunked faults text sending)
+    (sym is) told
 
 -- a history that is crowded
 pub crowded-told : (R : Content) (question : Question) (report : Report)
@@ -160,15 +163,17 @@ crowded-told R question report asked crowds =
 
 -- one of which a value has no text
 pub textless-told : (R : Content) (question : Question) (report : Report)
-    → report ≡ report_of question form.Page → LacksText R report
-    → LacksText R (report_of question form.Page)
-textless-told R question report asked lacks = subst (λ (r : Report). LacksText R r) asked lacks
+    → report ≡ report_of question form.Page → PartHasTextless R report
+    → PartHasTextless R (report_of question form.Page)
+textless-told R question report asked lacks =
+    subst (λ (r : Report). PartHasTextless R r) asked lacks
 
 -- what was found where no part of a history was begun
 abbrev pub PartFails : Report → (old new : List ℕ) → Store → Store → PartFault → Type 0
 PartFails report old new s t why =
     AsksForPart {A = Remainder} s t (Err why)
-    (λ R. (report.changes ≡ true) × AreCrowded (changes_asked R report)) (λ R. LacksText R report)
+    (λ R. (report.changes ≡ true) × AreCrowded (changes_asked R report))
+    (λ R. PartHasTextless R report)
     (λ left R. BeginsPart report left R old new)
 
 -- ---- what was asked where nothing is made

@@ -15,7 +15,7 @@ use Rattle.history_report.specs.declared.report.Form.{Form}
 use Rattle.history_report.specs.declared.report.Form.TheVariants as form
 use Rattle.history_report.specs.declared.report.Report.{Report}
 use Rattle.history_report.specs.Reports.{IsHeader, report_faults, changes_asked}
-use Rattle.history_report.specs.Parts.{AreCrowded, HasTextless, IsFirstPart, LacksText}
+use Rattle.history_report.specs.Parts.{AreCrowded, HasTextless, IsFirstPart, PartHasTextless}
 use Rattle.history_report.specs.Portions.{Remainder, IsWhole, IsOfSame, IsPortion, ending}
 use Rattle.settings_check.specs.Stored.{Reads}
 use Rattle.web_page.specs.Calls.{Overview}
@@ -128,7 +128,8 @@ BeginsHistory R kind report head_only chunked text sending =
     (header : List ℕ) × IsHeader report header × (left : Remainder) × IsWhole report left R
     × IsBegun kind head_only header (record { portions = left; chunked = chunked }) text sending
 
--- a page of a history is begun: its first part, which leads to the rest; each of its rows has a text
+-- a page of a history is begun: it is the first part, which leads to the rest, and each value that
+-- it shows has a text
 abbrev pub BeginsPage : Content → Question → (head_only chunked : Bool) → List ℕ → Option Sending
     → Type 0
 BeginsPage R question head_only chunked text sending =
@@ -142,7 +143,7 @@ abbrev pub RefusesPage : Content → Question → (head_only : Bool) → List St
 RefusesPage R question head_only faults text =
     TellsStoreFault head_only faults text
     ⊎ ((IsCrowded R question × TellsRefusal why.Crowded head_only faults text)
-    ⊎ (LacksText R (report_of question form.Page)
+    ⊎ (PartHasTextless R (report_of question form.Page)
     × TellsRefusal why.NoText head_only faults text))
 
 -- a history as a page is begun, or it is told why there is none

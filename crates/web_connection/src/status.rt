@@ -1,7 +1,6 @@
 //! How the server does, as JSON.
 
 ghost use Rattle.std.specs.Prelude.{◌≡◌, ◌++◌, drop, OnOk, IfOk};
-ghost use Rattle.std.specs.Fmt.{decimal};
 ghost use Rattle.stamp.specs.Limits.{IsReplica};
 ghost use Rattle.stamp.specs.Numbers.{number_of};
 ghost use Rattle.web_page.specs.Calls.{overview_of};

@@ -4,7 +4,7 @@ use Rattle.archive.specs.declared.fault.StoreFault.{StoreFault}
 use Rattle.settings_check.specs.Stored.{Reads}
 use Rattle.history_report.specs.declared.fault.ReportFault.{ReportFault}
 use Rattle.history_report.specs.declared.fault.ReportFault.TheVariants as ended
-use Rattle.history_report.specs.Parts.{AreCrowded, LacksText}
+use Rattle.history_report.specs.Parts.{AreCrowded, PartHasTextless}
 use Rattle.history_report.specs.Portions.{BeginsPart, Remainder}
 use Rattle.history_report.specs.Reports.{changes_asked, report_faults}
 use Rattle.web_request.specs.Refusals.{refusal_text}
@@ -66,14 +66,14 @@ returns-in-Err-Report-Store-clause-answers g c =
     let fault = c.in-Err-Report-Store.field-0-0-0 in
     told-by c.refused-in-Err-Report-Store.result
     (λ text sending. (text ≡ refusal_text why.Store head_only) × (sending ≡ None)) s t (fault ∷ [])
-    (λ R. ended.Store fault ≡ ended.NoText → LacksText R report)
+    (λ R. ended.Store fault ≡ ended.NoText → PartHasTextless R report)
     (λ (R : Content) (faults : List StoreFault) (text : List ℕ) (sending : Option Sending).
     TellsHistory R question head_only chunked faults text sending)
     (λ R text sending p told. page-refused R question head_only chunked (fault ∷ []) text sending
     (inl (store-refused head_only fault text told.0)) told.1)
     c.refused-in-Err-Report-Store.ensures.told
     (subst (λ (w : ReportFault). Reads s t (report_faults (Err w))
-    (λ R. w ≡ ended.NoText → LacksText R report)) c.in-Err-Report-Store.field-0-0-is
+    (λ R. w ≡ ended.NoText → PartHasTextless R report)) c.in-Err-Report-Store.field-0-0-is
     (subst (PartFails report c.new-header.result.items c.begin_part.new.out.items s t)
     c.in-Err-Report-Store.field-0-is c.in-Err-Report-Store.ensures.begins).1)
 
@@ -87,14 +87,14 @@ returns-in-Err-Report-NoText-clause-answers g c =
     let report = c.report_of.result in
     told-by c.refused-in-Err-Report-NoText.result
     (λ text sending. (text ≡ refusal_text why.NoText head_only) × (sending ≡ None)) s t []
-    (λ R. ended.NoText ≡ ended.NoText → LacksText R report)
+    (λ R. ended.NoText ≡ ended.NoText → PartHasTextless R report)
     (λ (R : Content) (faults : List StoreFault) (text : List ℕ) (sending : Option Sending).
     TellsHistory R question head_only chunked faults text sending)
     (λ R text sending p told. page-refused R question head_only chunked [] text sending
     (inr (inr (textless-told R question report c.report_of.ensures (p refl), (refl, told.0))))
     told.1) c.refused-in-Err-Report-NoText.ensures.told
     (subst (λ (w : ReportFault). Reads s t (report_faults (Err w))
-    (λ R. w ≡ ended.NoText → LacksText R report)) c.in-Err-Report-NoText.field-0-0-is
+    (λ R. w ≡ ended.NoText → PartHasTextless R report)) c.in-Err-Report-NoText.field-0-0-is
     (subst (PartFails report c.new-header.result.items c.begin_part.new.out.items s t)
     c.in-Err-Report-NoText.field-0-is c.in-Err-Report-NoText.ensures.begins).1)
 
@@ -104,7 +104,7 @@ returns-clause-answers g c =
     let report = c.report_of.result in
     part-asks (state c.args.archive.now) (state c.begin_part.new.archive) c.begin_part.result
     (λ R. (report.changes ≡ true) × AreCrowded (changes_asked R report))
-    (λ R. LacksText R report)
+    (λ R. PartHasTextless R report)
     (λ (left : Remainder) R.
     BeginsPart report left R c.new-header.result.items c.begin_part.new.out.items)
     c.begin_part.ensures.begins

@@ -1,4 +1,4 @@
-use Rattle.std.proofs.Common.{◌≡◌, List, ℕ, None, Option, refl}
+use Rattle.std.proofs.Common.{List, ℕ, None, Option, refl}
 use Rattle.records.specs.Contents.{Content}
 use Rattle.archive.specs.declared.fault.StoreFault.{StoreFault}
 use Rattle.web_page.specs.Front.{IsFront}

@@ -2,7 +2,7 @@ use Rattle.std.proofs.Common.{◌≡◌, ℤ, Option, Err, Ok, true, ap, subst, 
 use Rattle.history_report.specs.declared.fault.ReportFault.{ReportFault}
 use Rattle.history_report.specs.declared.report.Report.{Report}
 use Rattle.history_report.specs.Reports.{ReadsFor, changes_asked}
-use Rattle.history_report.specs.Parts.{part_up_to, AreCrowded, HasTextless, IsFirstPart, LacksText}
+use Rattle.history_report.specs.Parts.{part_up_to, AreCrowded, HasTextless, IsFirstPart, PartHasTextless}
 use Rattle.history_report.specs.Portions.{BeginsPart, Remainder}
 use Rattle.history_report.proofs.ReadingLemmas.{IsChecked, part-begun, part-checked, part-ends, part-stopped, part-then, part-unbegun}
 use Rattle.history_report.proofs.portions.Portions.begin_part.Goals as goal
@@ -13,7 +13,8 @@ returns-in-Err-clause-begins g c =
     let report = c.args.report in
     let old = c.args.out.now.items in
     part-ends (state c.args.archive.now) (state c.end_of.new.archive) c.in-Err.fault
-    (λ R. (report.changes ≡ true) × AreCrowded (changes_asked R report)) (λ R. LacksText R report)
+    (λ R. (report.changes ≡ true) × AreCrowded (changes_asked R report))
+    (λ R. PartHasTextless R report)
     (λ (end : Option ℤ) R. IsFirstPart R report (part_up_to report end))
     (λ (left : Remainder) R. BeginsPart report left R old old) c.in-Err.ensures.reads
 
@@ -30,7 +31,7 @@ returns-in-Err-check_report-clause-begins g c =
     part-then (state c.args.archive.now) t u (Err fault)
     (λ R. IsFirstPart R report (part_up_to report end))
     (λ R. (report.changes ≡ true) × AreCrowded (changes_asked R report))
-    (λ R. HasTextless R part) (λ R. LacksText R report)
+    (λ R. HasTextless R part) (λ R. PartHasTextless R report)
     (λ (left : Remainder) R. BeginsPart report left R old old)
     (λ (left : Remainder) R. BeginsPart report left R old old) (λ left R first begins. begins)
     (λ R first lacks. (
@@ -67,7 +68,8 @@ returns-in-Err-begin-clause-begins g c =
     let t = state c.end_of.new.archive in
     let u = state c.check_report.new.archive in
     part-unbegun part s u c.in-Err-begin.fault
-    (λ R. (report.changes ≡ true) × AreCrowded (changes_asked R report)) (λ R. LacksText R report)
+    (λ R. (report.changes ≡ true) × AreCrowded (changes_asked R report))
+    (λ R. PartHasTextless R report)
     (IsChecked report part)
     (λ (left : Remainder) R. BeginsPart report left R c.args.out.now.items new)
     (λ e. c.in-Err-begin.ensures.own (ap (λ (w : ReportFault). Err w) e))
