@@ -8,7 +8,7 @@ connections are closed, the turn in which it broke is told with `slow`, and once
 broke it. With `"reopen"` a sync that fails once is told, the same connections go on in their sessions, also that of another
 client, and `--connections` counts on; a second one ends the program by `store broken`, and a disk that stays ill, as it is opened
 anew, by that or by `store refused`. Without the key it goes on, and answers 80040000 to each insert, till it is started again;
-with events one line tells once that the store broke.
+with events two lines tell once that the store broke, and why.
 Needs gcc. A line a round.
 """
 import os, re, socket, struct, subprocess, sys, tempfile, time
@@ -189,10 +189,10 @@ def main():
     server.wait()
     told = [re.sub(r"^uahist: \S+Z ", "", line) for line in server.stderr.read().splitlines()]
     refused = [k for k, line in enumerate(told) if line.endswith(": 80040000")]
-    assert len(refused) == len(answers) and told.count("store broken") == 1 and told[refused[0] + 1] == "store broken", told
+    assert len(refused) == len(answers) and told.count("store broken") == 1 and told[refused[0] + 1:refused[0] + 3] == ["store broken", WHY.strip()], told
     found = dumped()
     assert held + 1 <= found <= held + 2, (held, found)
-    print(f"without the key it goes on, and answers 80040000 to each of {len(answers)} inserts, also once the disk is well, and one line tells that the store broke; started again it has {found - held} records more")
+    print(f"without the key it goes on, and answers 80040000 to each of {len(answers)} inserts, also once the disk is well, and two lines tell that the store broke, and why; started again it has {found - held} records more")
 
 
 if __name__ == "__main__":

@@ -72,14 +72,14 @@ static ROWS: [Row; 9] = [
         openings: &[Some(1)],
         said: "uahist: 1970-01-01T00:00:00.0000000Z started: version 0.1.0, archive 00000000-0000-0000-0000-000000000000, replica 1; clients and peers at 127.0.0.1:4840\nuahist: 1970-01-01T00:00:00.0000000Z store broken\nuahist: 1970-01-01T00:00:00.0000000Z somebody connected to clients and peers\nuahist: 1970-01-01T00:00:00.0000000Z somebody connected to clients and peers\nuahist: 1970-01-01T00:00:00.0000000Z somebody ended after 0 ms and 1 answer: exchange ended (6)\nuahist: 1970-01-01T00:00:00.0000000Z somebody ended after 0 ms and 1 answer: exchange ended (6)\n",
         status: 0,
-        closed: &[(true, false)],
+        closed: &[(true, false), (true, false)],
     },
     Row {
         settings: "tells",
         openings: &[Some(2)],
         said: "uahist: 1970-01-01T00:00:00.0000000Z started: version 0.1.0, archive 00000000-0000-0000-0000-000000000000, replica 1; clients and peers at 127.0.0.1:4840; 0 records\nuahist: 1970-01-01T00:00:00.0000000Z somebody connected to clients and peers\nuahist: 1970-01-01T00:00:00.0000000Z somebody connected to clients and peers\nuahist: 1970-01-01T00:00:00.0000000Z store broken\nuahist: 1970-01-01T00:00:00.0000000Z somebody ended after 0 ms and 1 answer: exchange ended (6)\nuahist: 1970-01-01T00:00:00.0000000Z somebody ended after 0 ms and 1 answer: exchange ended (6)\n",
         status: 0,
-        closed: &[(true, false)],
+        closed: &[(true, false), (true, false)],
     },
     Row {
         settings: "tells and stops",
@@ -125,8 +125,8 @@ static ROWS: [Row; 9] = [
     },
 ];
 
-/// A machine to which two peers come, and whose archives break: those of the file as a row says, and one in memory at its
-/// first call.
+/// A machine to which two peers come, and whose archives break: those of the file as a row says, one in memory at its first
+/// call, and one that is broken before.
 #[derive(Drop)]
 struct Machine {
     alloc: Global,
@@ -188,6 +188,22 @@ impl Host for Machine {
             1,
             Failure::BrokenBefore,
         ))
+    }
+
+    fn open_broken(&mut self, terms: StoreTerms) -> Result<ScriptedArchive, StoreFault> {
+        let mut archive = ScriptedArchive::new(
+            self.alloc,
+            terms.archive,
+            terms.replica,
+            1,
+            Failure::BrokenBefore,
+        );
+        let _ = archive.top();
+        if archive.is_broken() {
+            Ok(archive)
+        } else {
+            Err(StoreFault::Refused)
+        }
     }
 
     fn close(&mut self, archive: ScriptedArchive) {

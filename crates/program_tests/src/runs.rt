@@ -1983,6 +1983,10 @@ impl Host for Machine {
         Ok(ListArchive::new(self.0, terms.archive, terms.replica))
     }
 
+    fn open_broken(&mut self, _terms: StoreTerms) -> Result<ListArchive, StoreFault> {
+        Err(StoreFault::OutOfMemory)
+    }
+
     fn close(&mut self, archive: ListArchive) {
         drop(archive);
     }

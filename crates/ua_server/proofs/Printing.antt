@@ -49,7 +49,7 @@ use Rattle.ua_server.specs.Host.{Machine, KnownMachine}
 use Rattle.conversation.specs.declared.door.Door.TheVariants.{Both, Clients, Peers, Browsers}
 use Rattle.archive.specs.declared.fault.StoreFault.{StoreFault}
 use Rattle.multiplex.specs.declared.limits.Limits.{Limits}
-use Rattle.ua_server.specs.declared.reopening.StoreFile.{StoreFile}
+use Rattle.ua_server.specs.declared.reopening.Successor.{Successor}
 use Rattle.ua_server.specs.Network.{Serving}
 use Rattle.ua_server.specs.Reopening.{Stage}
 use Rattle.ua_server.specs.Serving.{ServesOn, FollowsRun, run_result}
@@ -383,7 +383,7 @@ on-line known gave told limits old new (Err cause) line (same, is) = absurd cc
 
 -- nor what follows a run
 follows-line : {C E : Type 0} (known : KnownMachine) (gave : Readings C) (told : Known E)
-    (limits : Limits) (broken : Bool) (file : Option StoreFile) (old new : Stage known C E)
+    (limits : Limits) (broken : Bool) (file : Option Successor) (old new : Stage known C E)
     (line : LineFault)
     → FollowsRun known gave told limits broken file old new (Err (Line line)) → ⊥
 follows-line known gave told limits true (Some file) old new line

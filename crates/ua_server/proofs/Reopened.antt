@@ -11,7 +11,7 @@ use Rattle.conversation.specs.OtherEnds.{ConversationEnding}
 use Rattle.ua_server.specs.declared.log.ErrorLog.{ErrorLog}
 use Rattle.ua_server.specs.declared.program.ProgramFault.{ProgramFault}
 use Rattle.ua_server.specs.declared.program.ProgramFault.TheVariants.{Store}
-use Rattle.ua_server.specs.declared.reopening.StoreFile.{StoreFile}
+use Rattle.ua_server.specs.declared.reopening.Successor.{Successor}
 use Rattle.ua_server.specs.Host.{KnownMachine}
 use Rattle.ua_server.specs.Network.{ServingLoop}
 use Rattle.ua_server.specs.Reopening.{Stage, TriesAnew, LogsReopening, Reopens, with_archive}
@@ -19,7 +19,7 @@ use Rattle.ua_server.specs.Serving.{ServesRun, ServesThrough, FollowsRun, limits
 use Rattle.ua_server.specs.Telling.{Known, Readings}
 
 module _ {C E : Type 0} (known : KnownMachine) (gave : Readings C) (told : Known E)
-    (limits : Limits) (file : Option StoreFile) (old : Stage known C E)
+    (limits : Limits) (file : Option Successor) (old : Stage known C E)
     (behind : ServingLoop known C E) (accepted : ℕ) (over : Bool)
     (run : ServesRun known gave told limits old.loop behind accepted over) where
   -- the stage behind the run
@@ -45,12 +45,12 @@ module _ {C E : Type 0} (known : KnownMachine) (gave : Readings C) (told : Known
   served-whole is result ends = through false is here result (refl, ends)
 
   -- what follows a run over a store that broke, whose file is this
-  follows-with : (given : Option StoreFile) → file ≡ given → (new : Stage known C E)
+  follows-with : (given : Option Successor) → file ≡ given → (new : Stage known C E)
       → (result : Result (Unit {0}) ProgramFault)
       → FollowsRun known gave told (limits_behind limits accepted) true given here new result
       → FollowsRun known gave told (limits_behind limits accepted) true file here new result
   follows-with given same new result follows =
-      subst (λ (f : Option StoreFile).
+      subst (λ (f : Option Successor).
       FollowsRun known gave told (limits_behind limits accepted) true f here new result) (sym same)
       follows
 
@@ -60,7 +60,7 @@ module _ {C E : Type 0} (known : KnownMachine) (gave : Readings C) (told : Known
   served-broken is none result ends =
       through true is here result (follows-with None none here result (refl, ends))
 
-  module _ (given : StoreFile) (same : file ≡ Some given) (is : over ≡ true)
+  module _ (given : Successor) (same : file ≡ Some given) (is : over ≡ true)
       (middle : Stage known C E) where
     -- till the store broke, whose file was refused
     pub served-refused : (fault : StoreFault) → Reopens known told given here middle (Err fault)
@@ -92,14 +92,14 @@ module _ {C E : Type 0} (known : KnownMachine) (gave : Readings C) (told : Known
         ))
 
 -- the store of a loop was opened anew, or refused, in the words of the world
-pub reopened : {C E : Type 0} (known : KnownMachine) (told : Known E) (file : StoreFile)
+pub reopened : {C E : Type 0} (known : KnownMachine) (told : Known E) (file : Successor)
     (host left : known.Host) (source : known.Source)
     (slots : List (Option (Slot OtherEnd known.ClientReader known.ClientWriter
     ConversationEnding)))
     (v w : World known.Archive C (ErrorLog E C)) (now : ℕ) (result : Result (Unit {0}) StoreFault)
     → TriesAnew known file (record { host = host; archive = v.server.replica.archive })
     (record { host = left; archive = w.server.replica.archive }) result
-    → LogsReopening told result v.log w.log
+    → LogsReopening told file result v.log w.log
     → w ≡ with_archive v w.server.replica.archive w.log
     → Reopens known told file (record { host = host; loop = state source slots v now })
     (record { host = left; loop = state source slots w now }) result

@@ -34,6 +34,8 @@ pub record Machine (H A L R W I : Type 0) : Type 1 where
   pub opens : H → List ℕ → StoreTerms → Result A StoreFault → H → Type 0
   -- an archive in memory by these terms, which is begun; no file is opened
   pub opens_in_memory : H → StoreTerms → Result A StoreFault → Type 0
+  -- an archive by these terms that is broken
+  pub opens_broken : H → StoreTerms → Result A StoreFault → H → Type 0
   -- an archive was closed
   pub closes : H → A → H → Type 0
   -- what gives the connections that come to these addresses, and calls these peers; Err with the
@@ -53,6 +55,7 @@ unknown_machine = record {
   stands = λ now path is_there. Unit {0};
   opens = λ old path terms opening new. Unit {0};
   opens_in_memory = λ now terms opening. Unit {0};
+  opens_broken = λ old terms opening new. Unit {0};
   closes = λ old archive new. Unit {0};
   listens = λ old listening listener new. Unit {0};
   calls = λ old address came new. Unit {0};

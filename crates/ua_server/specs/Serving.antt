@@ -11,12 +11,12 @@ use Rattle.web_page.specs.Calls.{uncalled}
 use Rattle.ua_server.specs.declared.log.ErrorLog.{ErrorLog}
 use Rattle.ua_server.specs.declared.program.ProgramFault.{ProgramFault}
 use Rattle.ua_server.specs.declared.program.ProgramFault.TheVariants.{Store, StoreBroken}
-use Rattle.ua_server.specs.declared.reopening.StoreFile.{StoreFile}
+use Rattle.ua_server.specs.declared.reopening.Successor.{Successor}
 use Rattle.ua_server.specs.Host.{KnownMachine}
 use Rattle.ua_server.specs.Listening.{IsFrom, networks_at}
 use Rattle.ua_server.specs.Logging.{logs_to}
 use Rattle.ua_server.specs.Network.{Serving, ServingLoop, IsAround, limits_of, refusals_kept}
-use Rattle.ua_server.specs.Reopening.{Stage, Reopens, file_anew}
+use Rattle.ua_server.specs.Reopening.{Stage, Reopens, successor}
 use Rattle.ua_server.specs.Starting.{LogsStart, CountsRecords}
 use Rattle.ua_server.specs.Telling.{Known, Readings, fresh_log}
 use Rattle.ua_server.specs.Watching.{TellsBreak, conversations}
@@ -48,7 +48,7 @@ abbrev pub run_result : (broken : Bool) → Result (Unit {0}) ProgramFault
 run_result broken = elim broken [ true ↦ Err StoreBroken | false ↦ Ok tt ]
 
 module _ {C E : Type 0} (known : KnownMachine) (gave : Readings C) (told : Known E) where
-  -- over a store that was opened anew the connections that are open are served on, and no more are
+  -- over what took a store's place the connections that are open are served on, and no more are
   -- accepted than were left; where it was refused, none is served
   abbrev pub ServesOn : Limits → (old new : Stage known C E) → Result (Unit {0}) StoreFault
       → Result (Unit {0}) ProgramFault → Type 0
@@ -58,24 +58,24 @@ module _ {C E : Type 0} (known : KnownMachine) (gave : Readings C) (told : Known
       × (new.host ≡ old.host) × (result ≡ run_result broken)
   ServesOn limits old new (Err fault) result = (new ≡ old) × (result ≡ Err (Store fault))
 
-  -- after a run that ended otherwise, or where no file is opened anew, nothing follows; where its
-  -- store is broken, the file is opened anew, and the connections served on
-  abbrev pub FollowsRun : Limits → (broken : Bool) → Option StoreFile → (old new : Stage known C E)
+  -- after a run that ended otherwise, or where nothing takes the store's place, nothing follows;
+  -- where the store is broken, what takes its place is opened, and the connections served on
+  abbrev pub FollowsRun : Limits → (broken : Bool) → Option Successor → (old new : Stage known C E)
       → Result (Unit {0}) ProgramFault → Type 0
-  FollowsRun limits true (Some file) old new result =
+  FollowsRun limits true (Some next) old new result =
       (middle : Stage known C E) × (reopening : Result (Unit {0}) StoreFault)
-      × Reopens known told file old middle reopening
+      × Reopens known told next old middle reopening
       × ServesOn limits middle new reopening result
-  FollowsRun limits broken file old new result = (new ≡ old) × (result ≡ run_result broken)
+  FollowsRun limits broken next old new result = (new ≡ old) × (result ≡ run_result broken)
 
   -- a run, and what followed it
-  pub record ServesThrough (limits : Limits) (file : Option StoreFile) (old new : Stage known C E)
+  pub record ServesThrough (limits : Limits) (next : Option Successor) (old new : Stage known C E)
       (result : Result (Unit {0}) ProgramFault) : Type 0 where
     pub behind : ServingLoop known C E
     pub accepted : ℕ
     pub broken : Bool
     pub run : ServesRun known gave told limits old.loop behind accepted broken
-    pub follows : FollowsRun (limits_behind limits accepted) broken file
+    pub follows : FollowsRun (limits_behind limits accepted) broken next
         (record { host = old.host; loop = behind }) new result
 
   -- it was told that the server begins, and how many records it holds, where events are told;
@@ -101,5 +101,5 @@ module _ {C E : Type 0} (known : KnownMachine) (gave : Readings C) (told : Known
     pub restoring : first.world.restoring ≡ false
     pub peers_from : IsFrom (networks_at settings) first.world.from
     pub free : AreAllFree first.slots
-    pub served : ServesThrough (limits_of settings count) (file_anew settings)
+    pub served : ServesThrough (limits_of settings count) (successor settings)
         (record { host = old.host; loop = first }) (record { host = new.host; loop = last }) result

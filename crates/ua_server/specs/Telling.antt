@@ -178,6 +178,7 @@ fresh_log alloc events clock errors = record {
   clock = clock;
   recent = none_recent;
   is_break_told = false;
+  is_cause_told = false;
 }
 
 -- it was told by its lines that a connection ended by this fault

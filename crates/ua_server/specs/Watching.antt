@@ -1,5 +1,5 @@
 -- A store that breaks while it is served, and is served on.
-use Rattle.std.specs.Prelude.{◌≡◌, ℕ, ◌&&◌, Bool, true, not}
+use Rattle.std.specs.Prelude.{◌≡◌, ℕ, ◌&&◌, ◌||◌, Bool, true, is_some, not}
 use Rattle.archive.specs.Store.{Store}
 use Rattle.event_lines.specs.Lines.{broken_text}
 use Rattle.multiplex.specs.Behavior.{Behavior}
@@ -8,7 +8,7 @@ use Rattle.conversation.specs.declared.world.World.{World}
 use Rattle.conversation.specs.Closing.{TellsTurn, with_now}
 use Rattle.conversation.specs.Conversing.{behavior_over}
 use Rattle.conversation.specs.OtherEnds.{ConversationEnding}
-use Rattle.ua_settings.specs.Settings.{ends_serving}
+use Rattle.ua_settings.specs.Settings.{SettingsValues, ends_serving}
 use Rattle.ua_server.specs.declared.log.ErrorLog.{ErrorLog}
 use Rattle.ua_server.specs.Telling.{Known, Readings}
 use Rattle.ua_server.specs.Logging.{LogsTimed, Whether, logs_to}
@@ -18,6 +18,17 @@ abbrev pub is_break_news : {A C E : Type 0} → (A → Store) → World A C (Err
 is_break_news state w =
     w.log.events && not w.log.is_break_told && not (ends_serving w.server.settings.after_break)
     && (state w.server.replica.archive).broken
+
+-- by these settings it is served on over a store in a file that broke
+abbrev pub are_served_on : SettingsValues → Bool
+are_served_on settings = not (ends_serving settings.after_break) && is_some settings.store
+
+-- the store is broken, and it is to be told why, which wasn't told yet: events are told, and by the
+-- settings it is served on
+abbrev pub is_cause_due : {A C E : Type 0} → (A → Store) → World A C (ErrorLog E C) → Bool
+is_cause_due state w =
+    (state w.server.replica.archive).broken && w.log.events && not w.log.is_cause_told
+    && are_served_on w.server.settings
 
 -- where that is so, its line was written, and it is known that it was told; else all stays
 abbrev pub TellsBreak : {A C E : Type 0} → (A → Store) → Readings C → Known E
@@ -38,8 +49,11 @@ module _ {A C E : Type 0} (state : A → Store) (gave : Readings C) (told : Know
       × TellsBreak state gave told between new
 
   -- what is said on connections over an archive, and told of them on standard error; in each round
-  -- it is told where it is news that the store broke
+  -- it is told where it is news that the store broke; and nobody is served where it is to be told why
   abbrev pub conversations : Behavior OtherEnd (World A C (ErrorLog E C)) ConversationEnding
   conversations =
       let behavior = behavior_over state gave (logs_to told gave) in
-      record behavior { passes = PassesWatched }
+      record behavior {
+        passes = PassesWatched;
+        is_over = λ w. behavior.is_over w || is_cause_due state w;
+      }

@@ -1,6 +1,6 @@
 //! The machine around a run: its files, its stores, and its network.
 
-ghost use Rattle.std.specs.Prelude.{Option, IfOk, option_map, string_bytes};
+ghost use Rattle.std.specs.Prelude.{◌≡◌, true, Option, IfOk, option_map, string_bytes};
 ghost use Rattle.archive.specs.Beginning.{HoldsNothing};
 ghost use Rattle.ua_server.specs.Host.{Machine};
 
@@ -87,6 +87,11 @@ pub trait Host {
         ensures begins { means.opens_in_memory self.now terms result }
         ensures empty { IfOk result (λ first.
             HoldsNothing terms.archive terms.replica (Self.Archive.state first)) };
+
+    /// An archive by these terms that is broken.
+    fn open_broken(&mut self, terms: StoreTerms) -> Result<Self::Archive, StoreFault>
+        ensures opens { means.opens_broken self.old terms result self.new }
+        ensures broken { IfOk result (λ archive. (Self.Archive.state archive).broken ≡ true) };
 
     /// Closes an archive.
     fn close(&mut self, archive: Self::Archive)

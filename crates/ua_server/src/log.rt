@@ -72,6 +72,8 @@ pub(crate) struct ErrorLog<E, C> {
     pub recent: Recent,
     /// Whether it was told that the store broke.
     pub is_break_told: bool,
+    /// Whether it was told why it broke.
+    pub is_cause_told: bool,
 }
 
 impl<E, C> ErrorLog<E, C> {
@@ -94,6 +96,7 @@ impl<E, C> ErrorLog<E, C> {
             clock,
             recent: Recent::none(),
             is_break_told: false,
+            is_cause_told: false,
         }
     }
 

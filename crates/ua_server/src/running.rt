@@ -9,7 +9,7 @@ ghost use Rattle.ua_server.specs.Serving.{ServesRun, ServesThrough, limits_behin
 use crate::host::Host;
 use crate::log::ErrorLog;
 use crate::program::ProgramFault;
-use crate::reopening::{StoreFile, reopen};
+use crate::reopening::{Successor, reopen};
 use crate::watched::{Watched, tell_break};
 use archive::Archive;
 use conversation::{Ended, World, tell_turn};
@@ -31,8 +31,8 @@ pub(crate) type Place<H, C, E> = Slot<
 pub(crate) struct Course {
     /// What is taken at most.
     pub limits: Limits,
-    /// The file that is opened anew once the store is broken; none: none is.
-    pub file: Option<StoreFile>,
+    /// What takes the place of the store once it is broken; none: nothing does.
+    pub successor: Option<Successor>,
 }
 
 /// What is left of limits once so many connections were accepted.
@@ -82,8 +82,8 @@ fn serve_run<H: Host, C: Clock, E: Write>(
     report
 }
 
-/// Serves connections till all have ended, or the store is broken and nobody is served then. Where a file is to be opened anew
-/// that is done then, once, and the connections that are open are served on, with those that are left.
+/// Serves connections till all have ended, or the store is broken and nobody is served then. Where something takes its place
+/// that is opened then, once, and the connections that are open are served on, with those that are left.
 pub(crate) fn serve_through<H: Host, C: Clock, E: Write>(
     source: &mut H::Source,
     world: &mut World<H::Archive, C, ErrorLog<E, C>>,
@@ -94,7 +94,7 @@ pub(crate) fn serve_through<H: Host, C: Clock, E: Write>(
     ensures through { (first : ℕ) → (last : ℕ) × ServesThrough
         (known_machine H.means H.Archive.state H.Source.effects H.Source.Reader.input
         H.Source.Writer.output H.Reader.remaining H.Writer.contents H.Rows.remaining)
-        C.gave E.contents course.now.limits course.now.file
+        C.gave E.contents course.now.limits course.now.successor
         (record { host = host.old; loop = state source.old slots.old world.old first })
         (record { host = host.new; loop = state source.new slots.new world.new last }) result }
     ensures fault { IfErr result IsServingFault }
@@ -103,10 +103,10 @@ pub(crate) fn serve_through<H: Host, C: Clock, E: Write>(
     if !report.is_over {
         return run_result(false);
     }
-    let Some(file) = &course.file else {
+    let Some(successor) = &course.successor else {
         return run_result(true);
     };
-    match reopen(world, file, host) {
+    match reopen(world, successor, host) {
         Ok(()) => {}
         Err(fault) => return Err(ProgramFault::Store(fault)),
     }

@@ -1,7 +1,7 @@
 //! What is said on one connection, where it is watched whether the store breaks.
 
 ghost use Rattle.std.specs.Prelude.{◌≡◌};
-ghost use Rattle.ua_server.specs.Watching.{is_break_news, TellsBreak};
+ghost use Rattle.ua_server.specs.Watching.{are_served_on, is_break_news, is_cause_due, TellsBreak};
 
 use crate::log::ErrorLog;
 use archive::Archive;
@@ -12,6 +12,7 @@ use std::alloc::Global;
 use std::io::Write;
 use std::marker::Model;
 use ua_connection::Clock;
+use ua_settings::Settings;
 
 /// What is said on one connection, of which standard error is told.
 type Told<A, C, E> = Conversation<A, C, ErrorLog<E, C>>;
@@ -38,6 +39,23 @@ fn is_break_news<A: Archive, C, E>(world: &World<A, C, ErrorLog<E, C>>) -> bool
         && !world.log.is_break_told
         && !world.server.settings.after_break().ends_serving()
         && world.server.replica.archive.is_broken()
+}
+
+/// Whether these settings serve on over a store in a file that broke.
+fn are_served_on(settings: &Settings) -> bool
+    ensures { result ≡ are_served_on settings.now }
+{
+    !settings.after_break().ends_serving() && settings.store().is_some()
+}
+
+/// Whether it is to be told why the store broke.
+fn is_cause_due<A: Archive, C, E>(world: &World<A, C, ErrorLog<E, C>>) -> bool
+    ensures { result ≡ is_cause_due A.state world.entry.now }
+{
+    world.server.replica.archive.is_broken()
+        && world.log.events
+        && !world.log.is_cause_told
+        && are_served_on(&world.server.settings)
 }
 
 /// Tells that the store broke, where events are told and the settings say that it is served on. What was told the log knows.
@@ -69,8 +87,9 @@ impl<A: Archive, C: Clock, E: Write> Handler for Watched<A, C, E> {
         tell_break(world);
     }
 
+    /// Also where it is to be told why the store broke, until that was told.
     fn is_over(world: &World<A, C, ErrorLog<E, C>>) -> bool {
-        Told::<A, C, E>::is_over(world)
+        Told::<A, C, E>::is_over(world) || is_cause_due(world)
     }
 
     fn begin(alloc: Global, origin: Origin, world: &mut World<A, C, ErrorLog<E, C>>) -> Self {

@@ -12,7 +12,7 @@ use Rattle.ua_server.specs.Listening.{IsFrom, networks_at}
 use Rattle.ua_server.specs.Network.{IsServingFault, serving_of}
 use Rattle.ua_server.specs.Program.{Listens}
 use Rattle.ua_server.specs.Serving.{ServesThrough}
-use Rattle.ua_server.specs.declared.reopening.StoreFile.{StoreFile}
+use Rattle.ua_server.specs.declared.reopening.Successor.{Successor}
 use Rattle.ua_server.proofs.Begun.{from-fresh, counts-by}
 use Rattle.ua_server.proofs.Refused.{unheard, unheard-serving}
 use Rattle.ua_server.proofs.connections.serve_at.Goals as goal
@@ -68,7 +68,7 @@ returns-clause-listens g c =
         peers_from = subst (IsFrom (networks_at c.args.world.now.server.settings)) (sym from)
             is.from;
         free = subst AreAllFree (sym c.as_mut_slice.ensures.value) c.in-Ok-free_slots.ensures.0;
-        served = subst₂ (λ (l : Limits) (f : Option StoreFile).
+        served = subst₂ (λ (l : Limits) (f : Option Successor).
             ServesThrough known g.C.Clock.gave g.E.Write.contents l f
             (record { host = c.listen_at.new.host; loop = begun })
             (record { host = c.serve_through.new.host; loop = ended }) c.serve_through.result)

@@ -16,7 +16,7 @@ returns-then-not-report-clause-through g c first =
     let (last, run) = c.serve_run-report.ensures first in (
       last,
       served-whole known g.C.Clock.gave g.E.Write.contents c.args.course.now.limits
-          c.args.course.now.file
+          c.args.course.now.successor
           (record {
             host = c.args.host.now;
             loop = state c.args.source.now c.args.slots.now c.args.world.now first;
@@ -36,7 +36,7 @@ returns-in_default-clause-through g c first =
     let (last, run) = c.serve_run-report.ensures first in (
       last,
       served-broken known g.C.Clock.gave g.E.Write.contents c.args.course.now.limits
-          c.args.course.now.file
+          c.args.course.now.successor
           (record {
             host = c.args.host.now;
             loop = state c.args.source.now c.args.slots.now c.args.world.now first;
@@ -57,7 +57,7 @@ returns-in-Err-clause-through g c first =
     let (last, run) = c.serve_run-report.ensures first in (
       last,
       served-refused known g.C.Clock.gave g.E.Write.contents c.args.course.now.limits
-          c.args.course.now.file
+          c.args.course.now.successor
           (record {
             host = c.args.host.now;
             loop = state c.args.source.now c.args.slots.now c.args.world.now first;
@@ -65,7 +65,7 @@ returns-in-Err-clause-through g c first =
           (state c.serve_run-report.new.source c.serve_run-report.new.slots
           c.serve_run-report.new.world last)
           c.serve_run-report.result.accepted c.serve_run-report.result.is_over run
-          c.in-Some.file c.in-Some.is
+          c.in-Some.successor c.in-Some.is
           (not-false c.serve_run-report.result.is_over c.if-not-report.false)
           (record {
             host = c.reopen.new.host;
@@ -73,7 +73,7 @@ returns-in-Err-clause-through g c first =
                 c.reopen.new.world last;
           })
           c.in-Err.fault
-          (reopened known g.E.Write.contents c.in-Some.file c.args.host.now c.reopen.new.host
+          (reopened known g.E.Write.contents c.in-Some.successor c.args.host.now c.reopen.new.host
           c.serve_run-report.new.source c.serve_run-report.new.slots c.serve_run-report.new.world
           c.reopen.new.world last (Err c.in-Err.fault) c.in-Err.ensures.tries c.in-Err.ensures.tells
           c.in-Err.ensures.others),
@@ -89,7 +89,7 @@ returns-clause-through g c first =
     let (end, second) = c.serve_run-again.ensures last in (
       end,
       served-on known g.C.Clock.gave g.E.Write.contents c.args.course.now.limits
-          c.args.course.now.file
+          c.args.course.now.successor
           (record {
             host = c.args.host.now;
             loop = state c.args.source.now c.args.slots.now c.args.world.now first;
@@ -97,7 +97,7 @@ returns-clause-through g c first =
           (state c.serve_run-report.new.source c.serve_run-report.new.slots
           c.serve_run-report.new.world last)
           c.serve_run-report.result.accepted c.serve_run-report.result.is_over run
-          c.in-Some.file c.in-Some.is
+          c.in-Some.successor c.in-Some.is
           (not-false c.serve_run-report.result.is_over c.if-not-report.false)
           (record {
             host = c.reopen.new.host;
@@ -105,7 +105,7 @@ returns-clause-through g c first =
                 c.reopen.new.world last;
           })
           c.in-Ok.field-0
-          (reopened known g.E.Write.contents c.in-Some.file c.args.host.now c.reopen.new.host
+          (reopened known g.E.Write.contents c.in-Some.successor c.args.host.now c.reopen.new.host
           c.serve_run-report.new.source c.serve_run-report.new.slots c.serve_run-report.new.world
           c.reopen.new.world last (Ok c.in-Ok.field-0) c.in-Ok.ensures.tries c.in-Ok.ensures.tells
           c.in-Ok.ensures.others)
