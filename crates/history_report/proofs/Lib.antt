@@ -9,4 +9,4 @@ pub mod PrintingLemmas
 pub mod ReadingLemmas
 pub mod TextlessLemmas
 pub mod WalkLemmas
-mod WholeLemmas
+pub mod WholeLemmas

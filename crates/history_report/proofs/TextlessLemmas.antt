@@ -153,7 +153,7 @@ TextlessBy R report changes =
       | false ↦ HasOne (λ h. IsTextless h.value.value) (values_asked R report)
     ]
 
-textless-is : (R : Content) (report : Report) (b : Bool) → report.changes ≡ b
+pub textless-is : (R : Content) (report : Report) (b : Bool) → report.changes ≡ b
     → TextlessBy R report b → HasTextless R report
 textless-is R report b is = subst (λ (c : Bool). TextlessBy R report c) (sym is)
 

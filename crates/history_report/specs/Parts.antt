@@ -1,5 +1,5 @@
 -- One page of a history, which leads to the rest.
-use Rattle.std.specs.Prelude.{◌≡◌, ℕ, ◌≤◌, ℤ, int_lt, true, false, List, map, take, length, slice_get, Option, Some, None, Result, Ok, Err, if◌then◌else◌}
+use Rattle.std.specs.Prelude.{◌≡◌, ℕ, ◌≤◌, ℤ, int_lt, true, false, List, ◌++◌, map, take, length, slice_get, Option, Some, None, Result, Ok, Err, if◌then◌else◌}
 use Rattle.std.specs.Ordering.{int_eq}
 use Rattle.records.specs.Contents.{Content}
 use Rattle.records.specs.declared.shown.Entry.{Entry}
@@ -9,7 +9,7 @@ use Rattle.history_report.specs.declared.fault.ReportFault.TheVariants as fault
 use Rattle.history_report.specs.declared.fault.PartFault.{PartFault}
 use Rattle.history_report.specs.declared.fault.PartFault.TheVariants as part_fault
 use Rattle.history_report.specs.declared.report.Report.{Report}
-use Rattle.history_report.specs.Reports.{OfWhole, IsAt, ReadsFor, IsHeader, IsValueLine, IsChangeLine, footer_of, values_asked, changes_asked}
+use Rattle.history_report.specs.Reports.{AreLines, OfWhole, IsAt, ReadsFor, IsHeader, IsValueLine, IsChangeLine, footer_of, values_asked, changes_asked}
 
 -- ---- parts of a report
 
@@ -67,6 +67,21 @@ IsPrinted R report text =
           (λ whole. text ≡ whole)
       | false ↦ OfWhole (IsValueLine report) header (footer_of report) (values_asked R report)
           (λ whole. text ≡ whole)
+    ]
+
+-- the text is this header, and behind it a line for each of the first of these
+abbrev pub HasFirstLines : {X : Type 0} → (X → List ℕ → Type 0) → (header : List ℕ) → List X
+    → (text : List ℕ) → Type 0
+HasFirstLines {X} IsLine header xs text =
+    (first : List X) × (rest : List X) × (first ++ rest ≡ xs)
+    × (lines : List ℕ) × AreLines IsLine first lines × (text ≡ header ++ lines)
+
+-- the text is a report up to a line of it: its header, and a line for each of its first rows
+abbrev pub IsPrintedStart : Content → Report → List ℕ → Type 0
+IsPrintedStart R report text =
+    (header : List ℕ) × IsHeader report header × elim report.changes [
+      | true ↦ HasFirstLines (IsChangeLine report) header (changes_asked R report) text
+      | false ↦ HasFirstLines (IsValueLine report) header (values_asked R report) text
     ]
 
 -- the text is the first part of a report

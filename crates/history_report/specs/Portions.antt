@@ -157,12 +157,24 @@ TakesPortion was now before after old new result =
 abbrev pub MayFollow : (R S : Content) → Type 0
 MayFollow R S = IsClosed S × IsWithin R S
 
--- These are all portions of what is left of a content, one behind the other: each was made of what
--- an archive held then, and more is to come behind each but the last.
+-- this portion was made of what was left of a content, or was broken off so; it was made of what an
+-- archive held then
+abbrev pub IsNextPortion : Content → (was now : Remainder) → (portion : List ℕ)
+    → Result Bool ReportFault → Type 0
+IsNextPortion R was now portion result =
+    (S : Content) × MayFollow R S × IsPortion was now S [] portion result × IsOfSame was now
+
+-- these are the first portions of what was left of a content, one behind the other, and more is to
+-- come behind each; this is left behind them
+abbrev pub AreFirstPortions : Content → (was now : Remainder) → List (List ℕ) → Type 0
+AreFirstPortions R was now [] = now ≡ was
+AreFirstPortions R was now (portion ∷ portions) =
+    (next : Remainder) × IsNextPortion R was next portion (Ok true)
+    × AreFirstPortions R next now portions
+
+-- these are all portions of what is left of a content: the first ones, and the last
 abbrev pub ArePortions : Content → Remainder → List (List ℕ) → Type 0
-ArePortions R left [] = ⊥
-ArePortions R left (last ∷ []) =
-    (S : Content) × MayFollow R S × (now : Remainder) × IsPortion left now S [] last (Ok false)
-ArePortions R left (portion ∷ portions) =
-    (S : Content) × MayFollow R S × (now : Remainder) × IsPortion left now S [] portion (Ok true)
-    × IsOfSame left now × ArePortions R now portions
+ArePortions R left portions =
+    (first : List (List ℕ)) × (last : List ℕ) × (portions ≡ first ++ last ∷ [])
+    × (now : Remainder) × AreFirstPortions R left now first
+    × (next : Remainder) × IsNextPortion R now next last (Ok false)

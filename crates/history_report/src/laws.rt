@@ -1,13 +1,15 @@
 //! What holds of all pages: a law is the contract of a function that does nothing.
 
-ghost use Rattle.std.specs.Prelude.{◌≡◌, ◌≤◌, ◌∷◌, ◌++◌, [], ℕ, ℤ, int_lt, List, filter, take, length, Some, true, false};
+ghost use Rattle.std.specs.Prelude.{◌≡◌, ◌≤◌, ◌∷◌, ◌++◌, [], ℕ, ℤ, int_lt, List, filter, take, length, Some, Err, true, false};
 ghost use Rattle.std.specs.List.{concat, list_any};
 ghost use Rattle.history_report.specs.Html.{escaped, is_markup, IsPath, has_forbidden, printable_after, said, page_row, texts_in};
 ghost use Rattle.records.specs.Contents.{Content, IsClosed};
+ghost use Rattle.history_report.specs.declared.fault.ReportFault.{ReportFault};
+ghost use Rattle.history_report.specs.declared.fault.ReportFault.TheVariants.{NoText};
 ghost use Rattle.history_report.specs.declared.report.Report.{Report};
 ghost use Rattle.history_report.specs.Reports.{IsHeader, is_in_stretch, values_asked, changes_asked};
-ghost use Rattle.history_report.specs.Parts.{IsPartEnd, IsPrinted, IsPrintedPart, part_before, rest_from, row_times};
-ghost use Rattle.history_report.specs.Portions.{ArePortions, BeginsPart, IsWhole, Remainder};
+ghost use Rattle.history_report.specs.Parts.{HasTextless, IsPartEnd, IsPrinted, IsPrintedPart, IsPrintedStart, part_before, rest_from, row_times};
+ghost use Rattle.history_report.specs.Portions.{AreFirstPortions, ArePortions, BeginsPart, IsNextPortion, IsWhole, Remainder};
 
 /// No text in a page has a byte that begins or ends a tag, or an attribute's value, and neither has
 /// a drawing's path.
@@ -70,8 +72,8 @@ pub fn a_first_part_has_the_first_rows()
 {}
 
 /// The header of a report and all its portions, one behind the other, are the whole report of what
-/// an archive held when it was begun, whatever the archive learned in between; and so are those of its
-/// first part that part.
+/// an archive held when it was begun, whatever the archive learned in between; and so are those of
+/// its first part that part.
 pub fn all_portions_are_the_whole()
     ensures whole { (report : Report) (R : Content) (left : Remainder) (header : List ℕ)
         (portions : List (List ℕ)) → IsClosed R → IsHeader report header → IsWhole report left R
@@ -79,4 +81,36 @@ pub fn all_portions_are_the_whole()
     ensures part { (report : Report) (R : Content) (left : Remainder) (header : List ℕ)
         (portions : List (List ℕ)) → IsClosed R → BeginsPart report left R [] header
         → ArePortions R left portions → IsPrintedPart R report (header ++ concat portions) }
+{}
+
+/// The header of a report and its first portions are the report up to a line of it, of what an
+/// archive held when it was begun; and so they are with what was made of the next one, whatever
+/// broke that off. There are as many of them as rows at most, so a last one comes.
+pub fn first_portions_are_the_first_lines()
+    ensures first { (report : Report) (R : Content) (left now : Remainder) (header : List ℕ)
+        (portions : List (List ℕ)) → IsClosed R → IsHeader report header → IsWhole report left R
+        → AreFirstPortions R left now portions
+        → IsPrintedStart R report (header ++ concat portions) }
+    ensures broken { (report : Report) (R : Content) (left now next : Remainder) (header : List ℕ)
+        (portions : List (List ℕ)) (portion : List ℕ) (why : ReportFault) → IsClosed R
+        → IsHeader report header → IsWhole report left R → AreFirstPortions R left now portions
+        → IsNextPortion R now next portion (Err why)
+        → IsPrintedStart R report (header ++ concat portions ++ portion) }
+    ensures few { (report : Report) (R : Content) (left now : Remainder)
+        (portions : List (List ℕ)) → IsClosed R → IsWhole report left R
+        → AreFirstPortions R left now portions
+        → length portions ≤ length (row_times R report) }
+{}
+
+/// A report is never broken off by `NoText` where each value that its rows show had a text when it
+/// was begun, whatever the archive learned in between. So no part is that was begun.
+pub fn no_portion_lacks_a_text()
+    ensures whole { (report : Report) (R : Content) (left now next : Remainder)
+        (portions : List (List ℕ)) (portion : List ℕ) → IsClosed R → ¬ HasTextless R report
+        → IsWhole report left R → AreFirstPortions R left now portions
+        → ¬ IsNextPortion R now next portion (Err NoText) }
+    ensures part { (report : Report) (R : Content) (left now next : Remainder) (header : List ℕ)
+        (portions : List (List ℕ)) (portion : List ℕ) → IsClosed R
+        → BeginsPart report left R [] header → AreFirstPortions R left now portions
+        → ¬ IsNextPortion R now next portion (Err NoText) }
 {}

@@ -25,6 +25,7 @@ pub use fault::{PartFault, ReportFault};
 pub use laws::{
     a_first_part_has_the_first_rows, a_pages_text_holds_no_markup, a_pages_text_is_read_again,
     a_part_and_the_rest_are_the_whole, a_rows_texts_are_its_fields, all_portions_are_the_whole,
+    first_portions_are_the_first_lines, no_portion_lacks_a_text,
 };
 pub use portions::Portions;
 pub use printing::print_report;
