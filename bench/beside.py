@@ -1,12 +1,13 @@
 #!/usr/bin/env python3
 """Measures the built program's work over a store beside the C library: instructions a piece, and their ratio.
 
-    bench/beside.py PROGRAM [RECORDS ..]
+    bench/beside.py PROGRAM [--index] [RECORDS ..]
 
 The peer (peer/peer.c) does the same over the same tables with prepared statements and the same commits. For each number of
 records (1,000 and 10,000 where none is given) in a file, and for the first in memory, both do a piece of work a few times and
 more times; what is told is the difference, by valgrind's callgrind, so that starts don't count. An opening is told a record, as the
-difference between openings of two stores. Needs gcc, libsqlite3-dev and valgrind.
+difference between openings of two stores. With --index the stores have an index of live values, and only files are measured.
+Needs gcc, libsqlite3-dev, valgrind and sqlite3.
 """
 import os, re, shutil, subprocess, sys, tempfile
 
@@ -18,7 +19,8 @@ from opcua import Client, int32, node, value_at
 if len(sys.argv) < 2 or sys.argv[1].startswith("-"):
     sys.exit(__doc__)
 program = os.path.abspath(sys.argv[1])
-sizes = [int(word) for word in sys.argv[2:]] or [1000, 10_000]
+is_indexed = "--index" in sys.argv
+sizes = [int(word) for word in sys.argv[2:] if word != "--index"] or [1000, 10_000]
 folder = tempfile.mkdtemp()
 peer = os.path.join(folder, "peer")
 TAG, FIRST, STEP = node("T", 1), opcua.EPOCH, 10
@@ -42,6 +44,8 @@ def filled(count):
     path = os.path.join(folder, f"filled-{count}.db")
     if not os.path.exists(path):
         subprocess.run([peer, path, "meta", f"group:{count}:1000"], stdout=subprocess.DEVNULL, check=True)
+        if is_indexed:
+            subprocess.run(["sqlite3", path, "CREATE INDEX currents2_live ON currents2 (node, live, time, pico)"], check=True)
     return path
 
 
@@ -99,7 +103,7 @@ def main():
     subprocess.run(["gcc", "-O2", "-w", "-o", peer, os.path.join(top, "bench", "peer", "peer.c"), "-lsqlite3"], check=True)
     print("| What | where | of records | uahist | C library | ratio |\n|---|---|---|---|---|---|")
     for count in sizes:
-        for is_file in (True, False) if count == sizes[0] else (True,):
+        for is_file in (True, False) if count == sizes[0] and not is_indexed else (True,):
             for name, few, more, pieces, make, word in works(count):
                 uahist = ours(is_file, count, make(more)) - ours(is_file, count, make(few))
                 c = peers(is_file, count, word.format(more)) - peers(is_file, count, word.format(few))
