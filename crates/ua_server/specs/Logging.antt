@@ -269,17 +269,20 @@ IsClashTold log callee name =
     (slice_get log.calls callee ≡ Some (Some (Exchange GivenTwice)))
     × (slice_get log.clashes callee ≡ Some name)
 
--- two records of one number that a call found are told by their table, and it is kept which they
--- were; not where the last call of that peer ended by these too
+-- the table of two records of one number that a call found was told, and it is kept which they were
+abbrev pub PrintsTable : {E C : Type 0} → Known E → (callee : ℕ) → Clash → (old new : ErrorLog E C)
+    → Type 0
+PrintsTable contents callee clash old new =
+    (new ≡ record old { errors = new.errors; clashes = new.clashes })
+    × KeepsLast old.clashes new.clashes callee (Some (clash_name clash))
+    × PrintsClash clash (contents old.errors.inner) (contents new.errors.inner)
+
+-- so it is; not where the last call of that peer ended by these records too
 abbrev pub LogsTable : {E C : Type 0} → Known E → (callee : ℕ) → Clash → (old new : ErrorLog E C)
     → Type 0
 LogsTable contents callee clash old new =
-    let name : Option ClashName = Some (clash_name clash) in
-    (IsClashTold old callee name × (new ≡ old))
-    ⊎ ((IsClashTold old callee name → ⊥)
-    × (new ≡ record old { errors = new.errors; clashes = new.clashes })
-    × KeepsLast old.clashes new.clashes callee name
-    × PrintsClash clash (contents old.errors.inner) (contents new.errors.inner))
+    let is_told = IsClashTold old callee (Some (clash_name clash)) in
+    (is_told × (new ≡ old)) ⊎ ((is_told → ⊥) × PrintsTable contents callee clash old new)
 
 -- what is told on standard error of what comes about on connections
 abbrev pub logs_to : {E C : Type 0} → Known E → Readings C → Telling (ErrorLog E C)
