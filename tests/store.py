@@ -5,7 +5,8 @@
 
 In each round a client inserts value after value, and the program is killed (SIGKILL) while it answers. Then `dump` has to
 show each insert that was answered Good, in order, and at most one more; and Debian's sqlite3, on a copy of the files, has to
-say that the database is whole, with a current value for each record, each at a time of its own, and the last number. Then the files' rights are looked at, and that a
+say that the database is whole, with a current value for each record, each at a time of its own, and the last number. In the second half
+of the rounds the store has an index of live values; then that is taken out, and the program killed while it makes it anew. Then the files' rights are looked at, and that a
 store which is gone or empty beside its log is refused. Needs sqlite3. Prints a line a round and a check; the first that fails ends the script by an error.
 """
 import os, random, shutil, socket, struct, subprocess, sys, tempfile, threading, time
@@ -30,9 +31,10 @@ def free_port():
         return probe.getsockname()[1]
 
 
-def write_settings(port):
+def write_settings(port, indexed=False):
     text = open(os.path.join(here, "settings.toml")).read().replace("127.0.0.1:4840", f"127.0.0.1:{port}")
-    open(settings, "w").write(text.replace("[server]", f"store = '{store}'\n[server]", 1))
+    index = "index = true\n" if indexed else ""
+    open(settings, "w").write(text.replace("[server]", f"store = '{store}'\n{index}[server]", 1))
 
 
 def connect(port):
@@ -107,7 +109,7 @@ def rounds_of_kills():
     before = 0
     for k in range(rounds):
         port = free_port()
-        write_settings(port)
+        write_settings(port, k >= rounds // 2)
         server = subprocess.Popen([program, "serve", "--settings", settings, "--connections", "1"], stderr=subprocess.DEVNULL)
         line = connect(port)
         threading.Timer(chance.uniform(0.02, 0.6), server.kill).start()
@@ -120,6 +122,29 @@ def rounds_of_kills():
         print(f"round {k + 1}: {good} inserts answered Good, {len(found) - before} found again, {len(found)} in all", flush=True)
         before = len(found)
     print("nothing that was answered Good is missing")
+
+
+def has_index():
+    done = subprocess.run(["sqlite3", store, "SELECT name FROM sqlite_schema WHERE name = 'currents2_live'"], stdout=subprocess.PIPE, text=True, check=True)
+    return done.stdout == "currents2_live\n"
+
+
+def index_of_kills():
+    """Kills the program while it makes the index of live values; the one or the other stands then, and the records as they were."""
+    found, stood = dumped(), 0
+    assert has_index(), "the key made none"
+    for _ in range(rounds):
+        subprocess.run(["sqlite3", store, "DROP INDEX IF EXISTS currents2_live"], check=True)
+        write_settings(free_port(), True)
+        server = subprocess.Popen([program, "serve", "--settings", settings], stderr=subprocess.DEVNULL)
+        time.sleep(chance.uniform(0, 0.2))
+        server.kill()
+        server.wait()
+        assert whole() == ["ok"] + [str(len(found))] * 3
+        stood += has_index()
+        write_settings(free_port())
+        assert dumped() == found, "the records changed"
+    print(f"killed {rounds} times as it began, it had made the index of live values {stood} times; the records were what they were")
 
 
 def files_alone():
@@ -152,4 +177,5 @@ def files_alone():
 if __name__ == "__main__":
     os.umask(0o022)
     rounds_of_kills()
+    index_of_kills()
     files_alone()
