@@ -6,7 +6,7 @@
 In each round a client inserts value after value, and the program is killed (SIGKILL) while it answers. Then `dump` has to
 show each insert that was answered Good, in order, and at most one more; and Debian's sqlite3, on a copy of the files, has to
 say that the database is whole, with a current value for each record, each at a time of its own, and the last number. In the second half
-of the rounds the store has an index of live values; then that is taken out, and the program killed while it makes it anew. Then the files' rights are looked at, and that a
+of the rounds the store has an index of live values; before it the program is killed while it makes that. Then the files' rights are looked at, and that a
 store which is gone or empty beside its log is refused. Needs sqlite3. Prints a line a round and a check; the first that fails ends the script by an error.
 """
 import os, random, shutil, socket, struct, subprocess, sys, tempfile, threading, time
@@ -105,11 +105,11 @@ def whole():
     return said.stdout.split()
 
 
-def rounds_of_kills():
-    before = 0
-    for k in range(rounds):
+def rounds_of_kills(numbers, indexed):
+    before = len(dumped()) if os.path.exists(store) else 0
+    for k in numbers:
         port = free_port()
-        write_settings(port, k >= rounds // 2)
+        write_settings(port, indexed)
         server = subprocess.Popen([program, "serve", "--settings", settings, "--connections", "1"], stderr=subprocess.DEVNULL)
         line = connect(port)
         threading.Timer(chance.uniform(0.02, 0.6), server.kill).start()
@@ -121,7 +121,7 @@ def rounds_of_kills():
         assert whole() == ["ok"] + [str(len(found))] * 3
         print(f"round {k + 1}: {good} inserts answered Good, {len(found) - before} found again, {len(found)} in all", flush=True)
         before = len(found)
-    print("nothing that was answered Good is missing")
+    print("nothing that was answered Good is missing", "over an index of live values" if indexed else "")
 
 
 def has_index():
@@ -132,7 +132,6 @@ def has_index():
 def index_of_kills():
     """Kills the program while it makes the index of live values; the one or the other stands then, and the records as they were."""
     found, stood = dumped(), 0
-    assert has_index(), "the key made none"
     for _ in range(rounds):
         subprocess.run(["sqlite3", store, "DROP INDEX IF EXISTS currents2_live"], check=True)
         write_settings(free_port(), True)
@@ -176,6 +175,10 @@ def files_alone():
 
 if __name__ == "__main__":
     os.umask(0o022)
-    rounds_of_kills()
+    rounds_of_kills(range(rounds // 2), False)
     index_of_kills()
+    rounds_of_kills(range(rounds // 2, rounds), True)
+    assert has_index(), "the key made no index"
+    write_settings(free_port())
+    rounds_of_kills(range(rounds, rounds + 1), False)
     files_alone()
