@@ -5,3 +5,4 @@ mod DenialLemmas
 mod PageLemmas
 mod StepLemmas
 mod PeerLemmas
+mod SentLemmas

@@ -4,6 +4,7 @@
 mod access;
 mod connection;
 mod history;
+mod laws;
 mod pages;
 mod peers;
 mod requests;
@@ -13,4 +14,5 @@ mod step;
 mod texts;
 
 pub use connection::WebConnection;
+pub use laws::{a_history_ends, a_history_is_sent_whole};
 pub use step::WebStep;
