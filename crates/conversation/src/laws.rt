@@ -1,6 +1,6 @@
 //! What holds of every connection.
 
-ghost use Rattle.std.specs.Prelude.{◌≡◌, []};
+ghost use Rattle.std.specs.Prelude.{[]};
 ghost use Rattle.conversation.specs.Alone.{ClientAloneIsAnswered};
 ghost use Rattle.conversation.specs.ClientsDoors.{IsAtClientsDoor, NoPeerComes, NoPeerIsAnswered};
 ghost use Rattle.conversation.specs.Strangers.{StrangersAreTurnedAway, StrangersAreUnread};
