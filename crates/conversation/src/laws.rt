@@ -1,11 +1,22 @@
 //! What holds of every connection.
 
-ghost use Rattle.std.specs.Prelude.{[]};
+ghost use Rattle.std.specs.Prelude.{◌≡◌, ℕ, Bool, true, List, [], Some, Ok};
+ghost use Rattle.records.specs.Lists.{Has};
+ghost use Rattle.records.specs.Contents.{HasName};
+ghost use Rattle.records.specs.declared.record.Record.{Record};
+ghost use Rattle.exchange.specs.Dialogs.{party_of};
+ghost use Rattle.multiplex.specs.declared.stay.Party.{Party};
+ghost use Rattle.peer_check.specs.Beginning.{first_brought};
+ghost use Rattle.peer_check.specs.Clashes.{IsClash};
+ghost use Rattle.peer_check.specs.declared.comparing.Clash.{Clash};
 ghost use Rattle.conversation.specs.Alone.{ClientAloneIsAnswered};
 ghost use Rattle.conversation.specs.ClientsDoors.{IsAtClientsDoor, NoPeerComes, NoPeerIsAnswered};
+ghost use Rattle.conversation.specs.Comparing.{compares_first, ComparesFirst, FindsNone};
 ghost use Rattle.conversation.specs.Strangers.{StrangersAreTurnedAway, StrangersAreUnread};
 ghost use Rattle.conversation.specs.declared.door.Door.TheVariants.{Clients};
 ghost use Rattle.conversation.specs.declared.other_end.OtherEnd.TheVariants.{Unknown};
+ghost use Rattle.conversation.specs.declared.other_end.PeerDialog.{PeerDialog};
+ghost use Rattle.conversation.specs.declared.world.World.{World};
 
 use crate::log::Log;
 use archive::Archive;
@@ -38,4 +49,23 @@ pub fn a_clients_door_takes_no_peer<A: Archive, C: Clock, L: Log>()
 pub fn a_stranger_is_not_heard<A: Archive, C: Clock, L: Log>()
     ensures turned_away { StrangersAreTurnedAway A.state C.gave L.told }
     ensures unread { StrangersAreUnread A.state C.gave L.told }
+{}
+
+/// What a call that looks for numbers that were given twice finds in the first frame that comes, over a store that returned what
+/// was written to it. Where it found nothing, and so goes on, each record of the frame whose name is held is the one that is
+/// held. Where it found two records, the one is of the frame and the other one is held, and they have one name and differ; only
+/// a call that compares finds any.
+pub fn a_first_frame_agrees<A: Archive, C, L>()
+    ensures agrees { (party : Party) (peer : PeerDialog) (v w : World A C L) (r : Record)
+        → FindsNone A.state party peer v w
+        → compares_first v.server.settings party peer ≡ true
+        → (A.state w.server.replica.archive).honest
+        → Has (first_brought (party_of (A.state v.server.replica.archive)) peer.frames.waiting) r
+        → HasName (A.state v.server.replica.archive).content r.origin r.number
+        → Has (A.state v.server.replica.archive).content r }
+    ensures differs { (compares : Bool) (waiting : List ℕ) (old new : A) (clash : Clash)
+        → ComparesFirst A.state compares waiting old new (Ok (Some clash))
+        → (A.state new).honest
+        → (compares ≡ true) × IsClash (A.state old).content clash
+        × Has (first_brought (party_of (A.state old)) waiting) clash.brought }
 {}

@@ -21,7 +21,10 @@ pub use closing::{connection_fault, tell_turn};
 pub use conversation::Conversation;
 pub use door::Door;
 pub use ended::Ended;
-pub use laws::{a_client_alone_is_answered, a_clients_door_takes_no_peer, a_stranger_is_not_heard};
+pub use laws::{
+    a_client_alone_is_answered, a_clients_door_takes_no_peer, a_first_frame_agrees,
+    a_stranger_is_not_heard,
+};
 pub use log::{Log, Parting};
 pub use logins::{Logins, RefusedLogin};
 pub use networks::Network;
