@@ -35,8 +35,8 @@ successor_at settings path =
     ]
 
 -- what takes the place of a broken store, if anything does
-abbrev pub successor : SettingsValues → Option Successor
-successor settings = option_and_then (successor_at settings) settings.store
+abbrev pub successor_of : SettingsValues → Option Successor
+successor_of settings = option_and_then (successor_at settings) settings.store
 
 -- by which terms it is opened
 abbrev pub terms_of : Successor → StoreTerms

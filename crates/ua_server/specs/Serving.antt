@@ -16,7 +16,7 @@ use Rattle.ua_server.specs.Host.{KnownMachine}
 use Rattle.ua_server.specs.Listening.{IsFrom, networks_at}
 use Rattle.ua_server.specs.Logging.{logs_to}
 use Rattle.ua_server.specs.Network.{Serving, ServingLoop, IsAround, limits_of, refusals_kept}
-use Rattle.ua_server.specs.Reopening.{Stage, Reopens, successor}
+use Rattle.ua_server.specs.Reopening.{Stage, Reopens, successor_of}
 use Rattle.ua_server.specs.Starting.{LogsStart, CountsRecords}
 use Rattle.ua_server.specs.Telling.{Known, Readings, fresh_log}
 use Rattle.ua_server.specs.Watching.{TellsBreak, conversations}
@@ -101,5 +101,5 @@ module _ {C E : Type 0} (known : KnownMachine) (gave : Readings C) (told : Known
     pub restoring : first.world.restoring ≡ false
     pub peers_from : IsFrom (networks_at settings) first.world.from
     pub free : AreAllFree first.slots
-    pub served : ServesThrough (limits_of settings count) (successor settings)
+    pub served : ServesThrough (limits_of settings count) (successor_of settings)
         (record { host = old.host; loop = first }) (record { host = new.host; loop = last }) result

@@ -10,7 +10,7 @@ ghost use Rattle.conversation.specs.Logins.{no_refusals};
 ghost use Rattle.web_page.specs.Calls.{uncalled};
 ghost use Rattle.ua_server.specs.Host.{known_machine};
 ghost use Rattle.ua_server.specs.Program.{Listens};
-ghost use Rattle.ua_server.specs.Reopening.{successor};
+ghost use Rattle.ua_server.specs.Reopening.{successor_of};
 ghost use Rattle.ua_server.specs.Listening.{IsListening, HasNoAddress, door_fault};
 ghost use Rattle.ua_server.specs.declared.listening.Listening.{Listening};
 ghost use Rattle.ua_server.specs.declared.program.ProgramFault.TheVariants.{Connection};
@@ -19,7 +19,7 @@ use crate::host::Host;
 use crate::listening::listening_of;
 use crate::log::ErrorLog;
 use crate::program::ProgramFault;
-use crate::reopening::successor;
+use crate::reopening::successor_of;
 use crate::running::{Course, serve_through};
 use crate::starting::count_records;
 use conversation::{Door, Logins, Network, World};
@@ -53,11 +53,11 @@ fn limits_of(settings: &Settings, connections: u32) -> Limits
 /// What serving so many connections by these settings goes by.
 fn course_of(alloc: Global, settings: &Settings, connections: u32) -> Result<Course, AllocError>
     ensures { IfOk result (λ course. (course.limits ≡ limits_of settings.now connections)
-        × (course.successor ≡ successor settings.now)) }
+        × (course.successor ≡ successor_of settings.now)) }
 {
     Ok(Course {
         limits: limits_of(settings, connections),
-        successor: successor(alloc, settings)?,
+        successor: successor_of(alloc, settings)?,
     })
 }
 

@@ -2,7 +2,7 @@
 
 ghost use Rattle.std.specs.Prelude.{◌≡◌, IfOk};
 ghost use Rattle.ua_server.specs.Host.{known_machine, store_terms};
-ghost use Rattle.ua_server.specs.Reopening.{OpensNext, TriesAnew, LogsReopening, LogsSuccessor, broken_where, file_at, successor, terms_of, with_archive};
+ghost use Rattle.ua_server.specs.Reopening.{OpensNext, TriesAnew, LogsReopening, LogsSuccessor, broken_where, file_at, successor_of, terms_of, with_archive};
 
 use crate::host::{Host, StoreTerms};
 use crate::log::ErrorLog;
@@ -57,8 +57,11 @@ fn broken_where(settings: &Settings) -> Option<Successor>
 
 /// What takes the place of a broken store; none where the settings end serving then, or nothing is told, or the archive is in
 /// memory.
-pub(crate) fn successor(alloc: Global, settings: &Settings) -> Result<Option<Successor>, AllocError>
-    ensures { IfOk result (λ next. next ≡ successor settings.now) }
+pub(crate) fn successor_of(
+    alloc: Global,
+    settings: &Settings,
+) -> Result<Option<Successor>, AllocError>
+    ensures { IfOk result (λ next. next ≡ successor_of settings.now) }
 {
     let Some(path) = settings.store() else {
         return Ok(None);
