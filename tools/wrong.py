@@ -104,7 +104,8 @@ class Work:
         for place, text in places.items():
             open(place, "w").write(text)
         words = [os.path.join(self.path, "tools", "check"), self.crate]
-        told = subprocess.run(words + (["--only", *functions] if functions else []), capture_output=True, text=True)
+        only = [word for function in functions for word in ("--only", function)]
+        told = subprocess.run(words + only, capture_output=True, text=True)
         for place, text in before.items():
             open(place, "w").write(text)
         return told.stdout + told.stderr
@@ -201,6 +202,7 @@ def main():
     sys.exit(0 if refused == len(ends) else 1)
 
 
-if "--help" in sys.argv[1:]:
-    sys.exit(print(__doc__.strip()))
-main()
+if __name__ == "__main__":
+    if "--help" in sys.argv[1:]:
+        sys.exit(print(__doc__.strip()))
+    main()
