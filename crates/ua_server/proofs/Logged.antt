@@ -103,7 +103,7 @@ table-logged contents old new callee clash name e denies set keeps prints =
     let P : Option ClashName → Type 0 = λ n.
     (IsClashTold old callee n × (new ≡ old))
     ⊎ ((IsClashTold old callee n → ⊥)
-    × (new ≡ record old { errors = new.errors; clashes = new.clashes })
+    × ((new ≡ record old { errors = new.errors; clashes = new.clashes })
     × KeepsLast old.clashes new.clashes callee n
-    × PrintsClash clash (contents old.errors.inner) (contents new.errors.inner)) in
-    subst P e (inr (denies, set, keeps, prints))
+    × PrintsClash clash (contents old.errors.inner) (contents new.errors.inner))) in
+    subst P e (inr (denies, (set, keeps, prints)))
