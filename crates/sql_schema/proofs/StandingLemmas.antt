@@ -1,6 +1,8 @@
 -- The tables of an archive, written out.
-use Rattle.std.proofs.Common.{◌≡◌, refl, List, [], ◌∷◌, ◌++◌, length, slice_index_or, arith}
+use Rattle.std.proofs.Common.{◌≡◌, Bool, refl, List, [], ◌∷◌, ◌++◌, length, slice_index_or, arith}
 use Rattle.sqlite_schema.specs.declared.schema.Schema.{Schema}
+use Rattle.sqlite_value.specs.Order.{Row}
+use Rattle.sqlite_catalog.specs.Listing.{Lists}
 use Rattle.sqlite_tied.specs.Compute.{everything}
 use Rattle.std.proofs.Common.{ℕ, suc, zero, Some, slice_get, pos, sym, ap, subst, ◌∙◌, inl, inr, rules, unwrap_or}
 use Rattle.std.proofs.lemmas.Option.{get_or_from_slice_get, slice_get_cases, unwrap_or-slice_get}
@@ -13,22 +15,20 @@ use Rattle.sqlite_sql.specs.declared.expr.Node.{Node}
 use Rattle.sqlite_sql.specs.declared.expr.Node.TheVariants as node
 use Rattle.sqlite_sql.specs.Term.{Term, lit, col, op2}
 use Rattle.sqlite_sql.specs.Syntax.{node_term, term_at, term_of}
-use Rattle.sql_schema.specs.Tables.{HasMeta, first_table, second_table, third_table, fourth_table, second_table1, third_table1, key_indexes, indexes1, indexes_beside, records_beside, currents_beside, schema1, archive_schema, beside_schema}
+use Rattle.sql_schema.specs.Tables.{HasMeta, IsArchiveSchema, ListsArchive, first_table, second_table, third_table, fourth_table, second_table1, third_table1, key_indexes, live_indexes, indexes1, indexes_beside, records_beside, currents_beside, schema1, archive_schema, beside_schema}
 
-pub written_out : archive_schema ≡ record {
-  tables =
-      first_table ∷ second_table ∷ third_table ∷ fourth_table ∷ [];
-  indexes = key_indexes;
-  views =
-      [];
+pub written_out : (indexed : Bool) → archive_schema indexed ≡ record {
+  tables = first_table ∷ second_table ∷ third_table ∷ fourth_table ∷ [];
+  indexes = key_indexes ++ live_indexes indexed;
+  views = [];
 }
 unfolding everything
-written_out = refl
+written_out indexed = refl
 
-pub is_whole : (s : Schema) → s.tables
-    ≡ first_table ∷ second_table ∷ third_table ∷ fourth_table ∷ [] → s.indexes ≡ key_indexes
-    → s.views ≡ [] → s ≡ archive_schema
-is_whole s tables indexes views = rw (written_out, tables, indexes, views) refl
+pub is_whole : (indexed : Bool) (s : Schema)
+    → s.tables ≡ first_table ∷ second_table ∷ third_table ∷ fourth_table ∷ []
+    → s.indexes ≡ key_indexes ++ live_indexes indexed → s.views ≡ [] → s ≡ archive_schema indexed
+is_whole indexed s tables indexes views = rw (written_out indexed, tables, indexes, views) refl
 
 pub first_written_out : schema1 ≡ record {
   tables =
@@ -210,10 +210,21 @@ check_parts (x ∷ nodes) at l r here e =
     let b = node_there (x ∷ nodes) (length nodes) r _ right (λ e. search rules) in
     (a.1 ∙ ap Some (column_node a.2 a.0 a.3), b.1 ∙ ap Some (number_node b.2 b.0 b.3))
 
+-- ---- which tables are an archive's
+
+-- the same tables are an archive's too
+pub archive_as : {s t : Schema} → s ≡ t → IsArchiveSchema t → IsArchiveSchema s
+archive_as same has = (has.0, same ∙ has.1)
+
+-- and the same rows list an archive's too
+pub lists_archive : (objects : List Row) (s : Schema) → IsArchiveSchema s → Lists objects s
+    → ListsArchive objects
+lists_archive objects s has lists = (has.0, subst (Lists objects) has.1 lists)
+
 -- ---- whose first table is meta
 
-pub archive_has_meta : (s : Schema) → s ≡ archive_schema → HasMeta s
-archive_has_meta s is = (_, ap (λ (x : Schema). x.tables) (is ∙ written_out))
+pub archive_has_meta : (s : Schema) → IsArchiveSchema s → HasMeta s
+archive_has_meta s is = (_, ap (λ (x : Schema). x.tables) (is.1 ∙ written_out is.0))
 
 pub first_has_meta : (s : Schema) → s ≡ schema1 → HasMeta s
 first_has_meta s is = (_, ap (λ (x : Schema). x.tables) (is ∙ first_written_out))

@@ -1,5 +1,5 @@
 -- The tables of the archive.
-use Rattle.std.specs.Prelude.{◌≡◌, true, false, [], ◌∷◌, Some, None, codes, List, ℕ, pos, Bool}
+use Rattle.std.specs.Prelude.{◌≡◌, true, false, [], ◌∷◌, ◌++◌, Some, None, codes, List, ℕ, pos, Bool}
 use Rattle.sqlite_value.specs.declared.keys.Collation.TheVariants.{Binary}
 use Rattle.sqlite_value.specs.declared.value.Value.TheVariants.{Null, Int}
 use Rattle.sqlite_value.specs.Keys.{plain}
@@ -12,7 +12,9 @@ use Rattle.sqlite_schema.specs.declared.schema.Kind.TheVariants.{Integer, Blob}
 use Rattle.sqlite_sql.specs.declared.ops.BinaryOp.TheVariants.{Compare}
 use Rattle.sqlite_sql.specs.declared.ops.CompareOp.TheVariants.{Eq}
 use Rattle.sqlite_sql.specs.Term.{lit, col, op2}
+use Rattle.sqlite_value.specs.Order.{Row}
 use Rattle.sqlite_catalog.specs.Change.{created}
+use Rattle.sqlite_catalog.specs.Listing.{Lists}
 
 abbrev pub strict : List ℕ → Kind → Bool → Column
 strict name kind needed =
@@ -130,8 +132,36 @@ with_records = created with_meta records2
 abbrev pub with_currents : Schema
 with_currents = created with_records currents2
 
-abbrev pub archive_schema : Schema
-archive_schema = created with_currents vectors
+abbrev pub with_vectors : Schema
+with_vectors = created with_currents vectors
+
+abbrev pub index_of : List ℕ → ℕ → ℕ → List ℕ → Index
+index_of name tree table columns =
+    record
+    { name = name; tree = tree; table = table; columns = columns; order = plain; is_unique = true }
+
+-- the index of currents2 that has the live values of a node side by side: node, live, time, pico
+abbrev pub live_index : Index
+live_index =
+    record (index_of (codes "currents2_live") 7 4 (1 ∷ 6 ∷ 2 ∷ 3 ∷ [])) { is_unique = false }
+
+-- what stands behind the indexes of the keys: that index, or none
+abbrev pub live_indexes : Bool → List Index
+live_indexes true = live_index ∷ []
+live_indexes false = []
+
+-- the tables of an archive, with the index over live values or without it
+abbrev pub archive_schema : Bool → Schema
+archive_schema indexed =
+    record with_vectors { indexes = with_vectors.indexes ++ live_indexes indexed }
+
+-- they are the tables of an archive, with that index or without it, and nothing else
+abbrev pub IsArchiveSchema : Schema → Type 0
+IsArchiveSchema schema = (indexed : Bool) × (schema ≡ archive_schema indexed)
+
+-- these rows of sqlite_schema list them
+abbrev pub ListsArchive : List Row → Type 0
+ListsArchive objects = (indexed : Bool) × Lists objects (archive_schema indexed)
 
 abbrev pub with_records1 : Schema
 with_records1 = created with_meta records1
@@ -155,11 +185,6 @@ third_table = record currents2 { tree = 4 }
 
 abbrev pub fourth_table : Table
 fourth_table = record vectors { tree = 6 }
-
-abbrev pub index_of : List ℕ → ℕ → ℕ → List ℕ → Index
-index_of name tree table columns =
-    record
-    { name = name; tree = tree; table = table; columns = columns; order = plain; is_unique = true }
 
 abbrev pub first_index : Index
 first_index = index_of (codes "sqlite_autoindex_records2_1") 2 1 (1 ∷ 2 ∷ [])
@@ -189,7 +214,7 @@ indexes1 =
 
 -- the tables of an archive, and behind them those of records and current values of format 1
 abbrev pub with_records_beside : Schema
-with_records_beside = created archive_schema records1
+with_records_beside = created (archive_schema false) records1
 
 abbrev pub beside_schema : Schema
 beside_schema = created with_records_beside currents1

@@ -5,4 +5,4 @@ mod recognize;
 mod standing_beside;
 mod standing_first;
 
-pub use recognize::{Standing, layout_of};
+pub use recognize::{Standing, is_indexed, layout_of};

@@ -1,8 +1,8 @@
 //! Which tables a store has.
 
-ghost use Rattle.std.specs.Prelude.{◌≡◌, false, true, [], ◌∷◌, codes, ◌↔◌, Some, pos, slice_get, IfOk, IsTrue};
+ghost use Rattle.std.specs.Prelude.{◌≡◌, false, true, [], ◌∷◌, ◌++◌, codes, ◌↔◌, Bool, Some, pos, slice_get, IfOk, IsTrue};
 ghost use Rattle.sqlite_sql.specs.Syntax.{term_of};
-ghost use Rattle.sql_schema.specs.Tables.{HasMeta, strict, meta, records2, currents2, vectors, no_schema, schema1, archive_schema, beside_schema, first_table, second_table, third_table, fourth_table, index_of, first_index, second_index, key_indexes};
+ghost use Rattle.sql_schema.specs.Tables.{HasMeta, strict, meta, records2, currents2, vectors, no_schema, schema1, with_vectors, archive_schema, IsArchiveSchema, beside_schema, first_table, second_table, third_table, fourth_table, index_of, first_index, second_index, third_index, key_indexes, live_index, live_indexes};
 
 use crate::standing_beside::is_beside;
 use crate::standing_first::is_first;
@@ -20,7 +20,7 @@ use std::alloc::{AllocError, Global};
 pub enum Standing {
     /// None.
     Empty,
-    /// Those of an archive, and nothing else.
+    /// Those of an archive, with the index over live values or without it, and nothing else.
     Archive,
     /// Those of an archive, and behind them those of records and current values of format 1.
     Beside,
@@ -372,7 +372,7 @@ pub(crate) fn is_index(index: &Index, name: &[u8], tree: u32, table: u32, column
 
 /// Whether these are the tables of an archive.
 fn are_tables(alloc: Global, tables: &[Table]) -> Result<bool, AllocError>
-    ensures { IfOk result (λ same. IsTrue same ↔ (tables.now ≡ archive_schema.tables)) }
+    ensures { IfOk result (λ same. IsTrue same ↔ (tables.now ≡ with_vectors.tables)) }
 {
     match tables {
         [meta, records, currents, vectors] => Ok(
@@ -399,28 +399,76 @@ pub(crate) fn are_of_records(names: &Index, moments: &Index) -> bool
         )
 }
 
-/// Whether these are the indexes of an archive.
-fn are_indexes(indexes: &[Index]) -> bool
-    ensures { IsTrue result ↔ (indexes.now ≡ key_indexes) }
+/// Whether these are the indexes of an archive's keys.
+pub(crate) fn are_of_keys(names: &Index, moments: &Index, currents: &Index) -> bool
+    ensures { IsTrue result
+        ↔
+        ((names.now ≡ first_index) × (moments.now ≡ second_index) × (currents.now ≡ third_index)) }
+{
+    are_of_records(names, moments)
+        && is_index(currents, b"sqlite_autoindex_currents2_1", 5, 4, &[1, 2, 3])
+}
+
+/// Whether it is the index over live values.
+fn is_live(index: &Index) -> bool
+    ensures { IsTrue result ↔ (index.now ≡ live_index) }
+{
+    index.name.as_slice() == b"currents2_live".as_slice()
+        && index.tree == 7
+        && index.table == 4
+        && index.columns.as_slice() == [1, 6, 2, 3].as_slice()
+        && index.order.digits == 0
+        && !index.is_unique
+}
+
+/// Whether these are the indexes of an archive's keys, and no other.
+fn are_plain_indexes(indexes: &[Index]) -> bool
+    ensures { IsTrue result ↔ (indexes.now ≡ key_indexes ++ live_indexes false) }
 {
     match indexes {
-        [names, moments, currents] => {
-            are_of_records(names, moments)
-                && is_index(currents, b"sqlite_autoindex_currents2_1", 5, 4, &[1, 2, 3])
+        [names, moments, currents] => are_of_keys(names, moments, currents),
+        _ => false,
+    }
+}
+
+/// Whether these are the indexes of an archive's keys, and behind them the one over live values.
+fn are_live_indexes(indexes: &[Index]) -> bool
+    ensures { IsTrue result ↔ (indexes.now ≡ key_indexes ++ live_indexes true) }
+{
+    match indexes {
+        [names, moments, currents, live] => {
+            are_of_keys(names, moments, currents) && is_live(live)
         }
         _ => false,
     }
 }
 
+/// Whether these are the indexes of an archive, with the one over live values or without it.
+fn are_indexes(indexes: &[Index]) -> bool
+    ensures { IsTrue result
+        ↔ ((indexed : Bool) × (indexes.now ≡ key_indexes ++ live_indexes indexed)) }
+{
+    are_plain_indexes(indexes) || are_live_indexes(indexes)
+}
+
 /// Whether the tables are those of an archive, and nothing else is there.
-#[tactic(auto, using(crate::proofs::StandingLemmas::is_whole))]
 fn is_archive(alloc: Global, schema: &Schema) -> Result<bool, AllocError>
-    ensures { IfOk result (λ same. IsTrue same ↔ (schema.now ≡ archive_schema)) }
+    ensures { IfOk result (λ same. IsTrue same ↔ IsArchiveSchema schema.now) }
 {
     if !are_tables(alloc, schema.tables.as_slice())? {
         return Ok(false);
     }
     Ok(are_indexes(schema.indexes.as_slice()) && schema.views.is_empty())
+}
+
+/// Of the tables of an archive, whether they have the index over live values.
+pub fn is_indexed(schema: &Schema) -> bool
+    ensures { (indexed : Bool) → schema.now ≡ archive_schema indexed → result ≡ indexed }
+{
+    match schema.indexes.as_slice() {
+        [_, _, _, _] => true,
+        _ => false,
+    }
 }
 
 /// Whether the first table is `meta`, as an archive has it.
@@ -439,11 +487,11 @@ fn is_empty(schema: &Schema) -> bool
     schema.tables.is_empty() && schema.indexes.is_empty() && schema.views.is_empty()
 }
 
-/// Which tables a database has: none, an archive's as they are, with those of an earlier form beside them, or in an earlier form, or others, behind a table `meta` or not. Each column, key and index is
+/// Which tables a database has: none, an archive's as they are, with the index over live values or without it, with those of an earlier form beside them, or in an earlier form, or others, behind a table `meta` or not. Each column, key and index is
 /// compared with those that an archive's have. The only error is want of memory.
 pub fn layout_of(alloc: Global, schema: &Schema) -> Result<Standing, AllocError>
     ensures empty { IfOk result (λ s. (s ≡ Standing.Empty) ↔ (schema.now ≡ no_schema)) }
-    ensures archive { IfOk result (λ s. (s ≡ Standing.Archive) ↔ (schema.now ≡ archive_schema)) }
+    ensures archive { IfOk result (λ s. (s ≡ Standing.Archive) ↔ IsArchiveSchema schema.now) }
     ensures beside { IfOk result (λ s. (s ≡ Standing.Beside) ↔ (schema.now ≡ beside_schema)) }
     ensures first { IfOk result (λ s. (s ≡ Standing.First) ↔ (schema.now ≡ schema1)) }
     ensures begun { IfOk result (λ s. s ≡ Standing.Begun → HasMeta schema.now) }

@@ -1,9 +1,9 @@
 //! Whether a store has the tables of an archive, and behind them those of records and current values of format 1.
 
 ghost use Rattle.std.specs.Prelude.{◌≡◌, ◌++◌, ◌↔◌, IfOk, IsTrue};
-ghost use Rattle.sql_schema.specs.Tables.{first_index, second_index, third_index, names_beside, times_beside, values_beside, key_indexes, indexes_beside, beside_schema};
+ghost use Rattle.sql_schema.specs.Tables.{names_beside, times_beside, values_beside, key_indexes, indexes_beside, beside_schema};
 
-use crate::recognize::{are_of_records, is_currents, is_index, is_meta, is_records, is_vectors};
+use crate::recognize::{are_of_keys, is_currents, is_index, is_meta, is_records, is_vectors};
 use crate::standing_first;
 use sqlite_schema::schema::{Index, Schema, Table};
 use std::alloc::{AllocError, Global};
@@ -25,16 +25,6 @@ fn are_tables(alloc: Global, tables: &[Table]) -> Result<bool, AllocError>
     }
 }
 
-/// Whether these are the indexes of an archive's keys.
-fn are_of_archive(names: &Index, moments: &Index, currents: &Index) -> bool
-    ensures { IsTrue result
-        ↔
-        ((names.now ≡ first_index) × (moments.now ≡ second_index) × (currents.now ≡ third_index)) }
-{
-    are_of_records(names, moments)
-        && is_index(currents, b"sqlite_autoindex_currents2_1", 5, 4, &[1, 2, 3])
-}
-
 /// Whether these are the indexes of the other keys.
 fn are_of_first(names: &Index, times: &Index, currents: &Index) -> bool
     ensures { IsTrue result
@@ -52,7 +42,7 @@ fn are_indexes(indexes: &[Index]) -> bool
 {
     match indexes {
         [names2, moments2, currents2, names, times, currents] => {
-            are_of_archive(names2, moments2, currents2) && are_of_first(names, times, currents)
+            are_of_keys(names2, moments2, currents2) && are_of_first(names, times, currents)
         }
         _ => false,
     }
