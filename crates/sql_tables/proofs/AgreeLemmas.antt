@@ -45,7 +45,7 @@ use Rattle.std.proofs.lemmas.List.{map-append, length-append}
 use Rattle.sql_tables.specs.declared.integrity.Ids.{Ids}
 use Rattle.sqlite_catalog.specs.Listing.{IsSound}
 use Rattle.sqlite_schema.specs.declared.schema.Constraint.TheVariants.{Datatype, NotNull}
-use Rattle.sql_schema.specs.Tables.{archive_schema, third_table, fourth_table}
+use Rattle.sql_schema.specs.Tables.{archive_schema, IsArchiveSchema, third_table, fourth_table}
 use Rattle.sql_tables.specs.Derived.{AreNumbered, same}
 use Rattle.sql_tables.specs.Agreeing.{command_in, AreUncountable, ShowsOf, AreRising, HasCounted, HasRisen}
 use Rattle.sqlite_schema.specs.declared.schema.Schema.{Schema}
@@ -157,15 +157,17 @@ rising_numbered rows ids rise = go rows ids rise.are rise.rising
 abbrev pub held_in : ℕ → Query
 held_in t = listing (inner t end) [] (col 1 0 ∷ []) by_id all_of_them
 
-pub currents_held_is : command_in (understood archive_schema currents_held_text)
+pub currents_held_is : (indexed : Bool)
+    → command_in (understood (archive_schema indexed) currents_held_text)
     ≡ Select (record { lets = []; body = held_in 4 }) (codes "rowid" ∷ [])
 unfolding understood everything
-currents_held_is = refl
+currents_held_is indexed = refl
 
-pub vectors_held_is : command_in (understood archive_schema vectors_held_text)
+pub vectors_held_is : (indexed : Bool)
+    → command_in (understood (archive_schema indexed) vectors_held_text)
     ≡ Select (record { lets = []; body = held_in 6 }) (codes "origin" ∷ [])
 unfolding understood everything
-vectors_held_is = refl
+vectors_held_is indexed = refl
 
 -- ---- the rows that are held
 
@@ -338,10 +340,11 @@ pub record HasNumbers (c : Row) : Type 0 where
 
 -- ---- what a database that obeys its schema has in their columns
 
-pub typed_currents : (db : Trees) → IsSound archive_schema db → AllByRecursion HasInts (db 4)
-typed_currents db sound =
-    all_both (λ row. passes Datatype archive_schema db third_table row ≡ true)
-    (λ row. passes NotNull archive_schema db third_table row ≡ true) HasInts one (db 4)
+pub typed_currents : (indexed : Bool) (db : Trees) → IsSound (archive_schema indexed) db
+    → AllByRecursion HasInts (db 4)
+typed_currents indexed db sound =
+    all_both (λ row. passes Datatype (archive_schema indexed) db third_table row ≡ true)
+    (λ row. passes NotNull (archive_schema indexed) db third_table row ≡ true) HasInts one (db 4)
     (sound.obeys.rules Datatype).1.1.0 (sound.obeys.rules NotNull).1.1.0
   where
     seventh : (a b c d e f g h : Bool)
@@ -371,12 +374,14 @@ typed_currents db sound =
               at 4 _ refl refl;
           live = at 5 _ refl refl;
           extra = at 6 _ refl refl;
-          told = seventh (not (is_null (column r 1))) (not (is_null (column r 2))) (not (is_null (column r 3))) (not (is_null (column r 4))) (not (is_null (column r 5))) (not (is_null (column r 6))) (is_null (column r 7)) (not (is_null (column r 8))) some;
+          told = seventh (not (is_null (column r 1))) (not (is_null (column r 2)))
+              (not (is_null (column r 3))) (not (is_null (column r 4))) (not (is_null (column r 5)))
+              (not (is_null (column r 6))) (is_null (column r 7)) (not (is_null (column r 8))) some;
         }
 
-pub typed_vectors : (db : Trees) → IsSound archive_schema db → AreNumbered (db 6)
-    → AllByRecursion HasNumbers (db 6)
-typed_vectors db sound ids = go (db 6) (sound.obeys.rules Datatype).1.1.1.0 ids.keyed
+pub typed_vectors : (indexed : Bool) (db : Trees) → IsSound (archive_schema indexed) db
+    → AreNumbered (db 6) → AllByRecursion HasNumbers (db 6)
+typed_vectors indexed db sound ids = go (db 6) (sound.obeys.rules Datatype).1.1.1.0 ids.keyed
   where
     int_kind : (v : Value) → is_int v ≡ true → is_of kind.Integer v ≡ true
     int_kind Null e = refl
@@ -401,28 +406,32 @@ typed_vectors db sound ids = go (db 6) (sound.obeys.rules Datatype).1.1.1.0 ids.
               at 2 _ refl refl;
         }
 
-    go : (rs : List Row) → AllByRecursion (λ row. passes Datatype archive_schema db fourth_table row
+    go : (rs : List Row) → AllByRecursion (λ row.
+        passes Datatype (archive_schema indexed) db fourth_table row
         ≡ true) rs → AllByRecursion (λ r. is_int (rowid r) ≡ true) rs → AllByRecursion HasNumbers rs
     go [] all ids = tt
     go (r ∷ rs) all ids = (one r all.0 ids.0, go rs all.1 ids.1)
 
 -- ---- all of it
 
-pub shown_is : (sql : List ℕ) (q : Query) (names : List (List ℕ)) (db : Trees) (rows : List Row)
-    → command_in (understood archive_schema sql) ≡ Select (record { lets = []; body = q }) names
-    → ShowsOf sql (record { schema = archive_schema; trees = db }) rows
+pub shown_is : (indexed : Bool) (sql : List ℕ) (q : Query) (names : List (List ℕ)) (db : Trees)
+    (rows : List Row)
+    → command_in (understood (archive_schema indexed) sql)
+    ≡ Select (record { lets = []; body = q }) names
+    → ShowsOf sql (record { schema = archive_schema indexed; trees = db }) rows
     → IsAnswer q (overlay db []) [] rows
-shown_is sql q names db rows is shown =
-    (subst (λ c. Reads c (record { schema = archive_schema; trees = db }) [] rows) is shown).answer
-    Null
+shown_is indexed sql q names db rows is shown =
+    (subst (λ c. Reads c (record { schema = archive_schema indexed; trees = db }) [] rows) is
+    shown).answer Null
 
 -- a database with the tables of an archive
-module _ (d : Database) (has : d.schema ≡ archive_schema) where
+module _ (d : Database) (has : IsArchiveSchema d.schema) where
   abbrev whole : Database
-  whole = record { schema = archive_schema; trees = d.trees }
+  whole = record { schema = archive_schema has.0; trees = d.trees }
 
   whole_is : d ≡ whole
-  whole_is = ap (λ (s : Schema). let w : Database = record { schema = s; trees = d.trees } in w) has
+  whole_is =
+      ap (λ (s : Schema). let w : Database = record { schema = s; trees = d.trees } in w) has.1
 
   counted_in : (sql : List ℕ) (n : ℕ) → HasCounted sql d n → HasCounted sql whole n
   counted_in sql n = subst (λ x. HasCounted sql x n) whole_is
@@ -432,8 +441,8 @@ module _ (d : Database) (has : d.schema ≡ archive_schema) where
   currents_held_of n counts =
       let have = counted_in currents_held_text n counts in
       let some = held_rows 4 (overlay d.trees []) have.rows have.numbers
-      (shown_is currents_held_text (held_in 4)
-      (codes "rowid" ∷ []) d.trees have.rows currents_held_is have.shown) have.rise in
+      (shown_is has.0 currents_held_text (held_in 4)
+      (codes "rowid" ∷ []) d.trees have.rows (currents_held_is has.0) have.shown) have.rise in
       (have.many ∙ some.1, some.0)
 
   pub vectors_held_of : (n : ℕ) → HasCounted vectors_held_text d n
@@ -441,8 +450,8 @@ module _ (d : Database) (has : d.schema ≡ archive_schema) where
   vectors_held_of n counts =
       let have = counted_in vectors_held_text n counts in
       let some = held_rows 6 (overlay d.trees []) have.rows have.numbers
-      (shown_is vectors_held_text (held_in 6)
-      (codes "origin" ∷ []) d.trees have.rows vectors_held_is have.shown) have.rise in
+      (shown_is has.0 vectors_held_text (held_in 6)
+      (codes "origin" ∷ []) d.trees have.rows (vectors_held_is has.0) have.shown) have.rise in
       (have.many ∙ some.1, some.0)
 
 -- ---- what a statement shows
@@ -451,26 +460,27 @@ commands_alike : (r : Result Compiled CompileError) → command_of r ≡ command
 commands_alike (Ok c) = refl
 commands_alike (Err e) = refl
 
-pub shows_of : (sql : List ℕ) (old new : State) (rows : List Row) → old.now.schema ≡ archive_schema
-    → IsPlain (understood archive_schema sql) → reads_listing archive_schema sql ≡ false
+pub shows_of : (sql : List ℕ) (old new : State) (rows : List Row)
+    → IsPlain (understood old.now.schema sql) → reads_listing old.now.schema sql ≡ false
     → Shown sql [] old new rows → ShowsOf sql old.now rows
-shows_of sql old new rows has plain unlisted h =
-    subst (λ c. Reads c old.now [] rows) (commands_alike (understood archive_schema sql))
-    (reads_as sql [] old new archive_schema has
-    (command_of (understood archive_schema sql)) refl plain unlisted rows h)
+shows_of sql old new rows plain unlisted h =
+    subst (λ c. Reads c old.now [] rows) (commands_alike (understood old.now.schema sql))
+    (reads_as sql [] old new old.now.schema refl
+    (command_of (understood old.now.schema sql)) refl plain unlisted rows h)
 
-pub begins_of : (sql : List ℕ) (s : State) (rows : List Row) → s.now.schema ≡ archive_schema
-    → IsPlain (understood archive_schema sql) → reads_listing archive_schema sql ≡ false
+pub begins_of : (sql : List ℕ) (s : State) (rows : List Row)
+    → IsPlain (understood s.now.schema sql) → reads_listing s.now.schema sql ≡ false
     → Begins sql [] s rows
-    → ReadsFirst (command_in (understood archive_schema sql)) s.now [] rows
-begins_of sql s rows has plain unlisted h =
-    subst (λ c. ReadsFirst c s.now [] rows) (commands_alike (understood archive_schema sql))
-    (begins_as sql [] s s archive_schema has
-    (command_of (understood archive_schema sql)) refl plain unlisted rows h)
+    → ReadsFirst (command_in (understood s.now.schema sql)) s.now [] rows
+begins_of sql s rows plain unlisted h =
+    subst (λ c. ReadsFirst c s.now [] rows) (commands_alike (understood s.now.schema sql))
+    (begins_as sql [] s s s.now.schema refl
+    (command_of (understood s.now.schema sql)) refl plain unlisted rows h)
 
 -- ---- one row more
 
-pub all_has : {X : Type 0} (P : X → Type 0) (xs : List X) (x : X) → AllByRecursion P xs → Has xs x → P x
+pub all_has : {X : Type 0} (P : X → Type 0) (xs : List X) (x : X) → AllByRecursion P xs → Has xs x
+    → P x
 all_has P [] x all none = absurd none
 all_has P (y ∷ xs) x all (inl e) = subst P (sym e) all.0
 all_has P (y ∷ xs) x all (inr has) = all_has P xs x all.1 has

@@ -103,7 +103,8 @@ one_record (x ∷ R) apart a b (inr h) (inr k) tick origin =
     one_record R apart.1 a b h k tick origin
 
 -- so are their rows
-one_of : (R : Content) → IsApart record_stamp_cmp R → (M : List Row) → IsPermutation (map row_of R) M
+one_of : (R : Content) → IsApart record_stamp_cmp R → (M : List Row)
+    → IsPermutation (map row_of R) M
     → (a b : Row) → Has M a → Has M b → column a 2 ≡ column b 2 → column a 0 ≡ column b 0 → a ≡ b
 one_of R apart M stand a b h k tick origin =
     let back = all_has_permuted M (map row_of R) (IsPermutation-sym _ _ stand) in

@@ -32,8 +32,8 @@ use Rattle.sqlite_value.specs.declared.value.Value.TheVariants.{Int, Blob}
 use Rattle.sqlite_schema.specs.declared.schema.Table.{Table as Stored}
 use Rattle.sqlite_schema.specs.declared.schema.Index.{Index}
 use Rattle.sqlite_schema.specs.declared.schema.View.{View}
-use Rattle.sql_schema.specs.Tables.{archive_schema, schema1, first_table, HasMeta}
-use Rattle.sql_tables.specs.Asking.{IsAnswered}
+use Rattle.sql_schema.specs.Tables.{archive_schema, IsArchiveSchema, schema1, first_table, HasMeta}
+use Rattle.sql_tables.specs.Asking.{IsAnswered, ArchivesAnswer}
 use Rattle.sql_tables.proofs.Texts.{at_text, all_text, whose_text, named_text, last_text, since_text, after_text, before_text, some_at_text, currents_stray_text, currents_alone_text, currents_hide_text, currents_held_text, vectors_stray_text, vectors_behind_text, vectors_held_text, lives_after_text, lives_before_text, records1_text, currents1_text, all_vectors_text}
 
 abbrev pub has_no_table : List Table → Bool
@@ -165,172 +165,198 @@ answered_plain schema sql params a = subst IsPlain (sym a.is) a.plain
 
 -- ---- the texts
 
+-- a text that archives answer is answered over such a schema
+pub answered_in : (schema : Schema) (sql : List ℕ) (params : Row) → IsArchiveSchema schema
+    → ArchivesAnswer sql params → IsAnswered schema sql params
+answered_in schema sql params has answer =
+    subst (λ x. IsAnswered x sql params) (sym has.1) (answer has.0)
+
 abbrev MayAsk : Schema → List ℕ → Row → Type 0
 MayAsk schema sql params =
     (reads_listing schema sql ≡ false) × Suits schema sql params (understood schema sql)
 
-at_suits : (node : List ℕ) (time pico : ℤ)
-    → MayAsk archive_schema at_text (Blob node ∷ Int time ∷ Int pico ∷ [])
+at_suits : (indexed : Bool) (node : List ℕ) (time pico : ℤ)
+    → MayAsk (archive_schema indexed) at_text (Blob node ∷ Int time ∷ Int pico ∷ [])
 unfolding understood everything
-at_suits node time pico = (refl, ((refl, refl), refl, refl, refl))
+at_suits indexed node time pico = (refl, ((refl, refl), refl, refl, refl))
 
 pub at_answered : (node : List ℕ) (time pico : ℤ)
-    → IsAnswered archive_schema at_text (Blob node ∷ Int time ∷ Int pico ∷ [])
-at_answered node time pico =
-    let s = at_suits node time pico in answered_by archive_schema at_text _ s.0 s.1
+    → ArchivesAnswer at_text (Blob node ∷ Int time ∷ Int pico ∷ [])
+at_answered node time pico = λ indexed.
+    let s = at_suits indexed node time pico in
+    answered_by (archive_schema indexed) at_text _ s.0 s.1
 
-some_at_suits : (node : List ℕ) (time pico : ℤ)
-    → MayAsk archive_schema some_at_text (Blob node ∷ Int time ∷ Int pico ∷ [])
+some_at_suits : (indexed : Bool) (node : List ℕ) (time pico : ℤ)
+    → MayAsk (archive_schema indexed) some_at_text (Blob node ∷ Int time ∷ Int pico ∷ [])
 unfolding understood everything
-some_at_suits node time pico = (refl, ((refl, refl), refl, refl, refl))
+some_at_suits indexed node time pico = (refl, ((refl, refl), refl, refl, refl))
 
 pub some_at_answered : (node : List ℕ) (time pico : ℤ)
-    → IsAnswered archive_schema some_at_text (Blob node ∷ Int time ∷ Int pico ∷ [])
-some_at_answered node time pico =
-    let s = some_at_suits node time pico in answered_by archive_schema some_at_text _ s.0 s.1
+    → ArchivesAnswer some_at_text (Blob node ∷ Int time ∷ Int pico ∷ [])
+some_at_answered node time pico = λ indexed.
+    let s = some_at_suits indexed node time pico in
+    answered_by (archive_schema indexed) some_at_text _ s.0 s.1
 
-after_suits : (node : List ℕ) (time pico count : ℤ)
-    → MayAsk archive_schema after_text (Blob node ∷ Int time ∷ Int pico ∷ Int count ∷ [])
+after_suits : (indexed : Bool) (node : List ℕ) (time pico count : ℤ)
+    → MayAsk (archive_schema indexed) after_text (Blob node ∷ Int time ∷ Int pico ∷ Int count ∷ [])
 unfolding understood everything
-after_suits node time pico count = (refl, ((refl, refl), refl, refl, refl))
+after_suits indexed node time pico count = (refl, ((refl, refl), refl, refl, refl))
 
 pub after_answered : (node : List ℕ) (time pico count : ℤ)
-    → IsAnswered archive_schema after_text (Blob node ∷ Int time ∷ Int pico ∷ Int count ∷ [])
-after_answered node time pico count =
-    let s = after_suits node time pico count in answered_by archive_schema after_text _ s.0 s.1
+    → ArchivesAnswer after_text (Blob node ∷ Int time ∷ Int pico ∷ Int count ∷ [])
+after_answered node time pico count = λ indexed.
+    let s = after_suits indexed node time pico count in
+    answered_by (archive_schema indexed) after_text _ s.0 s.1
 
-before_suits : (node : List ℕ) (time pico count : ℤ)
-    → MayAsk archive_schema before_text (Blob node ∷ Int time ∷ Int pico ∷ Int count ∷ [])
+before_suits : (indexed : Bool) (node : List ℕ) (time pico count : ℤ)
+    → MayAsk (archive_schema indexed) before_text (Blob node ∷ Int time ∷ Int pico ∷ Int count ∷ [])
 unfolding understood everything
-before_suits node time pico count = (refl, ((refl, refl), refl, refl, refl))
+before_suits indexed node time pico count = (refl, ((refl, refl), refl, refl, refl))
 
 pub before_answered : (node : List ℕ) (time pico count : ℤ)
-    → IsAnswered archive_schema before_text (Blob node ∷ Int time ∷ Int pico ∷ Int count ∷ [])
-before_answered node time pico count =
-    let s = before_suits node time pico count in answered_by archive_schema before_text _ s.0 s.1
+    → ArchivesAnswer before_text (Blob node ∷ Int time ∷ Int pico ∷ Int count ∷ [])
+before_answered node time pico count = λ indexed.
+    let s = before_suits indexed node time pico count in
+    answered_by (archive_schema indexed) before_text _ s.0 s.1
 
-named_suits : (origin number : ℤ) → MayAsk archive_schema named_text (Int origin ∷ Int number ∷ [])
+named_suits : (indexed : Bool) (origin number : ℤ)
+    → MayAsk (archive_schema indexed) named_text (Int origin ∷ Int number ∷ [])
 unfolding understood everything
-named_suits origin number = (refl, ((refl, refl), refl, refl, refl))
+named_suits indexed origin number = (refl, ((refl, refl), refl, refl, refl))
 
 pub named_answered : (origin number : ℤ)
-    → IsAnswered archive_schema named_text (Int origin ∷ Int number ∷ [])
-named_answered origin number =
-    let s = named_suits origin number in answered_by archive_schema named_text _ s.0 s.1
+    → ArchivesAnswer named_text (Int origin ∷ Int number ∷ [])
+named_answered origin number = λ indexed.
+    let s = named_suits indexed origin number in
+    answered_by (archive_schema indexed) named_text _ s.0 s.1
 
-last_suits : (origin : ℤ) → MayAsk archive_schema last_text (Int origin ∷ [])
+last_suits : (indexed : Bool) (origin : ℤ)
+    → MayAsk (archive_schema indexed) last_text (Int origin ∷ [])
 unfolding understood everything
-last_suits origin = (refl, ((refl, refl), refl, refl, refl))
+last_suits indexed origin = (refl, ((refl, refl), refl, refl, refl))
 
-pub last_answered : (origin : ℤ) → IsAnswered archive_schema last_text (Int origin ∷ [])
-last_answered origin = let s = last_suits origin in answered_by archive_schema last_text _ s.0 s.1
+pub last_answered : (origin : ℤ) → ArchivesAnswer last_text (Int origin ∷ [])
+last_answered origin = λ indexed.
+    let s = last_suits indexed origin in answered_by (archive_schema indexed) last_text _ s.0 s.1
 
-since_suits : (origin number count : ℤ)
-    → MayAsk archive_schema since_text (Int origin ∷ Int number ∷ Int count ∷ [])
+since_suits : (indexed : Bool) (origin number count : ℤ)
+    → MayAsk (archive_schema indexed) since_text (Int origin ∷ Int number ∷ Int count ∷ [])
 unfolding understood everything
-since_suits origin number count = (refl, ((refl, refl), refl, refl, refl))
+since_suits indexed origin number count = (refl, ((refl, refl), refl, refl, refl))
 
 pub since_answered : (origin number count : ℤ)
-    → IsAnswered archive_schema since_text (Int origin ∷ Int number ∷ Int count ∷ [])
-since_answered origin number count =
-    let s = since_suits origin number count in answered_by archive_schema since_text _ s.0 s.1
+    → ArchivesAnswer since_text (Int origin ∷ Int number ∷ Int count ∷ [])
+since_answered origin number count = λ indexed.
+    let s = since_suits indexed origin number count in
+    answered_by (archive_schema indexed) since_text _ s.0 s.1
 
-lives_after_suits : (node : List ℕ) (time pico far far_pico count : ℤ)
-    → MayAsk archive_schema lives_after_text (Blob node ∷ Int time ∷ Int pico ∷ Int far
+lives_after_suits : (indexed : Bool) (node : List ℕ) (time pico far far_pico count : ℤ)
+    → MayAsk (archive_schema indexed) lives_after_text (Blob node ∷ Int time ∷ Int pico ∷ Int far
     ∷ Int far_pico ∷ Int count ∷ [])
 unfolding understood everything
-lives_after_suits node time pico far far_pico count = (refl, ((refl, refl), refl, refl, refl))
+lives_after_suits indexed node time pico far far_pico count =
+    (refl, ((refl, refl), refl, refl, refl))
 
 pub lives_after_answered : (node : List ℕ) (time pico far far_pico count : ℤ)
-    → IsAnswered archive_schema lives_after_text (Blob node ∷ Int time ∷ Int pico ∷ Int far
+    → ArchivesAnswer lives_after_text (Blob node ∷ Int time ∷ Int pico ∷ Int far
     ∷ Int far_pico ∷ Int count ∷ [])
-lives_after_answered node time pico far far_pico count =
-    let s = lives_after_suits node time pico far far_pico count in
-    answered_by archive_schema lives_after_text _ s.0 s.1
+lives_after_answered node time pico far far_pico count = λ indexed.
+    let s = lives_after_suits indexed node time pico far far_pico count in
+    answered_by (archive_schema indexed) lives_after_text _ s.0 s.1
 
-lives_before_suits : (node : List ℕ) (time pico far far_pico count : ℤ)
-    → MayAsk archive_schema lives_before_text (Blob node ∷ Int time ∷ Int pico ∷ Int far
+lives_before_suits : (indexed : Bool) (node : List ℕ) (time pico far far_pico count : ℤ)
+    → MayAsk (archive_schema indexed) lives_before_text (Blob node ∷ Int time ∷ Int pico ∷ Int far
     ∷ Int far_pico ∷ Int count ∷ [])
 unfolding understood everything
-lives_before_suits node time pico far far_pico count = (refl, ((refl, refl), refl, refl, refl))
+lives_before_suits indexed node time pico far far_pico count =
+    (refl, ((refl, refl), refl, refl, refl))
 
 pub lives_before_answered : (node : List ℕ) (time pico far far_pico count : ℤ)
-    → IsAnswered archive_schema lives_before_text (Blob node ∷ Int time ∷ Int pico ∷ Int far
+    → ArchivesAnswer lives_before_text (Blob node ∷ Int time ∷ Int pico ∷ Int far
     ∷ Int far_pico ∷ Int count ∷ [])
-lives_before_answered node time pico far far_pico count =
-    let s = lives_before_suits node time pico far far_pico count in
-    answered_by archive_schema lives_before_text _ s.0 s.1
+lives_before_answered node time pico far far_pico count = λ indexed.
+    let s = lives_before_suits indexed node time pico far far_pico count in
+    answered_by (archive_schema indexed) lives_before_text _ s.0 s.1
 
-all_suits : MayAsk archive_schema all_text []
+all_suits : (indexed : Bool) → MayAsk (archive_schema indexed) all_text []
 unfolding understood everything
-all_suits = (refl, ((refl, refl), refl, refl, refl))
+all_suits indexed = (refl, ((refl, refl), refl, refl, refl))
 
-pub all_answered : IsAnswered archive_schema all_text []
-all_answered = let s = all_suits in answered_by archive_schema all_text _ s.0 s.1
+pub all_answered : ArchivesAnswer all_text []
+all_answered = λ indexed.
+    let s = all_suits indexed in answered_by (archive_schema indexed) all_text _ s.0 s.1
 
-currents_stray_suits : MayAsk archive_schema currents_stray_text []
+currents_stray_suits : (indexed : Bool) → MayAsk (archive_schema indexed) currents_stray_text []
 unfolding understood everything
-currents_stray_suits = (refl, ((refl, refl), refl, refl, refl))
+currents_stray_suits indexed = (refl, ((refl, refl), refl, refl, refl))
 
-pub currents_stray_answered : IsAnswered archive_schema currents_stray_text []
-currents_stray_answered =
-    let s = currents_stray_suits in answered_by archive_schema currents_stray_text _ s.0 s.1
+pub currents_stray_answered : ArchivesAnswer currents_stray_text []
+currents_stray_answered = λ indexed.
+    let s = currents_stray_suits indexed in
+    answered_by (archive_schema indexed) currents_stray_text _ s.0 s.1
 
-currents_alone_suits : MayAsk archive_schema currents_alone_text []
+currents_alone_suits : (indexed : Bool) → MayAsk (archive_schema indexed) currents_alone_text []
 unfolding understood everything
-currents_alone_suits = (refl, ((refl, refl), refl, refl, refl))
+currents_alone_suits indexed = (refl, ((refl, refl), refl, refl, refl))
 
-pub currents_alone_answered : IsAnswered archive_schema currents_alone_text []
-currents_alone_answered =
-    let s = currents_alone_suits in answered_by archive_schema currents_alone_text _ s.0 s.1
+pub currents_alone_answered : ArchivesAnswer currents_alone_text []
+currents_alone_answered = λ indexed.
+    let s = currents_alone_suits indexed in
+    answered_by (archive_schema indexed) currents_alone_text _ s.0 s.1
 
-currents_hide_suits : MayAsk archive_schema currents_hide_text []
+currents_hide_suits : (indexed : Bool) → MayAsk (archive_schema indexed) currents_hide_text []
 unfolding understood everything
-currents_hide_suits = (refl, ((refl, refl), refl, refl, refl))
+currents_hide_suits indexed = (refl, ((refl, refl), refl, refl, refl))
 
-pub currents_hide_answered : IsAnswered archive_schema currents_hide_text []
-currents_hide_answered =
-    let s = currents_hide_suits in answered_by archive_schema currents_hide_text _ s.0 s.1
+pub currents_hide_answered : ArchivesAnswer currents_hide_text []
+currents_hide_answered = λ indexed.
+    let s = currents_hide_suits indexed in
+    answered_by (archive_schema indexed) currents_hide_text _ s.0 s.1
 
-currents_held_suits : MayAsk archive_schema currents_held_text []
+currents_held_suits : (indexed : Bool) → MayAsk (archive_schema indexed) currents_held_text []
 unfolding understood everything
-currents_held_suits = (refl, ((refl, refl), refl, refl, refl))
+currents_held_suits indexed = (refl, ((refl, refl), refl, refl, refl))
 
-pub currents_held_answered : IsAnswered archive_schema currents_held_text []
-currents_held_answered =
-    let s = currents_held_suits in answered_by archive_schema currents_held_text _ s.0 s.1
+pub currents_held_answered : ArchivesAnswer currents_held_text []
+currents_held_answered = λ indexed.
+    let s = currents_held_suits indexed in
+    answered_by (archive_schema indexed) currents_held_text _ s.0 s.1
 
-vectors_stray_suits : MayAsk archive_schema vectors_stray_text []
+vectors_stray_suits : (indexed : Bool) → MayAsk (archive_schema indexed) vectors_stray_text []
 unfolding understood everything
-vectors_stray_suits = (refl, ((refl, refl), refl, refl, refl))
+vectors_stray_suits indexed = (refl, ((refl, refl), refl, refl, refl))
 
-pub vectors_stray_answered : IsAnswered archive_schema vectors_stray_text []
-vectors_stray_answered =
-    let s = vectors_stray_suits in answered_by archive_schema vectors_stray_text _ s.0 s.1
+pub vectors_stray_answered : ArchivesAnswer vectors_stray_text []
+vectors_stray_answered = λ indexed.
+    let s = vectors_stray_suits indexed in
+    answered_by (archive_schema indexed) vectors_stray_text _ s.0 s.1
 
-vectors_behind_suits : MayAsk archive_schema vectors_behind_text []
+vectors_behind_suits : (indexed : Bool) → MayAsk (archive_schema indexed) vectors_behind_text []
 unfolding understood everything
-vectors_behind_suits = (refl, ((refl, refl), refl, refl, refl))
+vectors_behind_suits indexed = (refl, ((refl, refl), refl, refl, refl))
 
-pub vectors_behind_answered : IsAnswered archive_schema vectors_behind_text []
-vectors_behind_answered =
-    let s = vectors_behind_suits in answered_by archive_schema vectors_behind_text _ s.0 s.1
+pub vectors_behind_answered : ArchivesAnswer vectors_behind_text []
+vectors_behind_answered = λ indexed.
+    let s = vectors_behind_suits indexed in
+    answered_by (archive_schema indexed) vectors_behind_text _ s.0 s.1
 
-vectors_held_suits : MayAsk archive_schema vectors_held_text []
+vectors_held_suits : (indexed : Bool) → MayAsk (archive_schema indexed) vectors_held_text []
 unfolding understood everything
-vectors_held_suits = (refl, ((refl, refl), refl, refl, refl))
+vectors_held_suits indexed = (refl, ((refl, refl), refl, refl, refl))
 
-pub vectors_held_answered : IsAnswered archive_schema vectors_held_text []
-vectors_held_answered =
-    let s = vectors_held_suits in answered_by archive_schema vectors_held_text _ s.0 s.1
+pub vectors_held_answered : ArchivesAnswer vectors_held_text []
+vectors_held_answered = λ indexed.
+    let s = vectors_held_suits indexed in
+    answered_by (archive_schema indexed) vectors_held_text _ s.0 s.1
 
-all_vectors_suits : MayAsk archive_schema all_vectors_text []
+all_vectors_suits : (indexed : Bool) → MayAsk (archive_schema indexed) all_vectors_text []
 unfolding understood everything
-all_vectors_suits = (refl, ((refl, refl), refl, refl, refl))
+all_vectors_suits indexed = (refl, ((refl, refl), refl, refl, refl))
 
-pub all_vectors_answered : IsAnswered archive_schema all_vectors_text []
-all_vectors_answered =
-    let s = all_vectors_suits in answered_by archive_schema all_vectors_text _ s.0 s.1
+pub all_vectors_answered : ArchivesAnswer all_vectors_text []
+all_vectors_answered = λ indexed.
+    let s = all_vectors_suits indexed in
+    answered_by (archive_schema indexed) all_vectors_text _ s.0 s.1
 
 records1_suits : MayAsk schema1 records1_text []
 unfolding understood everything

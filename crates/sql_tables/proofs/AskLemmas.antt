@@ -12,6 +12,7 @@ use Rattle.archive.specs.declared.fault.StoreFault.TheVariants.{Refused, Broken}
 use Rattle.archive.specs.Store.{IsOfOpening, fault_in}
 use Rattle.archive.specs.Listed.{is_broken}
 use Rattle.sql_tables.specs.State.{Idles, KeepsState, MayBeStopped, AreWhole, LeavesUnchanged, LeavesUnchangedOr, IsOpenAndIdle, Holds, Found}
+use Rattle.sql_schema.proofs.StandingLemmas.{archive_as}
 use Rattle.sql_tables.proofs.WriteLemmas.{holds_as}
 
 pub survives_itself : (s : State) → Survives s s (λ _. ⊥)
@@ -192,7 +193,7 @@ stays_of a b was h = record {
         autocommit = h.rests.autocommit;
         settled =
             h.rests.settled;
-        tables = ap (λ (d : Database). d.schema) h.same ∙ was.tables;
+        tables = archive_as (ap (λ (d : Database). d.schema) h.same) was.tables;
       };
   same = h.same;
 }

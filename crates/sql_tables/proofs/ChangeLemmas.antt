@@ -84,12 +84,12 @@ put_beside rows (r ∷ news) fresh =
     (put_beside (put_row r rows) news both.1))
 
 -- what an insert of these rows leaves in its table
-pub put_in : (table : Table) (db next : Trees) (sources : List Row)
-    → Applies archive_schema Enforced db (edit_of db table [] Chosen 0 sources) next
+pub put_in : (indexed : Bool) (table : Table) (db next : Trees) (sources : List Row)
+    → Applies (archive_schema indexed) Enforced db (edit_of db table [] Chosen 0 sources) next
     → IsPermutation (numbered Chosen (db table.tree) (map (λ s. cast_row table (drop 0 s)) sources)
     ++ db table.tree) (next table.tree) × (AreNumbered (db table.tree)
     → AreNumbered (next table.tree))
-put_in table db next sources applied =
+put_in indexed table db next sources applied =
     let news = numbered Chosen (db table.tree) (map (λ s. cast_row table (drop 0 s)) sources) in (
       subst (IsPermutation (news ++ db table.tree)) (sym applied.rows)
           (put_beside (db table.tree) news applied.fresh),
@@ -130,29 +130,30 @@ given rows (r ∷ news) all = ap₂ ◌∷◌ one (ap (λ l. numbered Chosen l n
 -- ---- what statements do to the trees
 
 -- rows were put into a table
-pub record PutsIn (table : Table) (from : Source) (params : Row) (db : Trees) (after : Database) :
-    Type 0 where
-  pub rows : List Row
-  pub are : IsSource (record { schema = archive_schema; trees = db })
-      (stamped table params) from rows
-  pub schema : after.schema ≡ archive_schema
-  pub applied : Applies archive_schema Enforced db (edit_of db table [] Chosen 0 rows) after.trees
-
--- rows of a table were put in for others, and counted
-pub record Sets (table : Table) (q : Program) (params : Row) (db : Trees) (tally : Tally)
+pub record PutsIn (indexed : Bool) (table : Table) (from : Source) (params : Row) (db : Trees)
     (after : Database) : Type 0 where
   pub rows : List Row
-  pub are : Answers (record { schema = archive_schema; trees = db }) q params rows
-  pub schema : after.schema ≡ archive_schema
-  pub applied : Applies archive_schema Enforced db
+  pub are : IsSource (record { schema = archive_schema indexed; trees = db })
+      (stamped table params) from rows
+  pub schema : after.schema ≡ archive_schema indexed
+  pub applied : Applies (archive_schema indexed) Enforced db
+      (edit_of db table [] Chosen 0 rows) after.trees
+
+-- rows of a table were put in for others, and counted
+pub record Sets (indexed : Bool) (table : Table) (q : Program) (params : Row) (db : Trees)
+    (tally : Tally) (after : Database) : Type 0 where
+  pub rows : List Row
+  pub are : Answers (record { schema = archive_schema indexed; trees = db }) q params rows
+  pub schema : after.schema ≡ archive_schema indexed
+  pub applied : Applies (archive_schema indexed) Enforced db
       (edit_of db table (ids_of rows) Given 1 rows) after.trees
   pub counted : tally.rows ≡ Some (length (edit_of db table (ids_of rows) Given 1 rows).news)
 
 module _ (old : State) (tally : Tally) (after : Database) (text : List ℕ) (params : Row)
-    (has : old.now.schema ≡ archive_schema) where
+    (indexed : Bool) (has : old.now.schema ≡ archive_schema indexed) where
   pub into_currents : (from : Source)
       → Does old.step_limit (mode_of old) params old.now text None (Insert 2 from)
-      (Ok (tally, after)) → PutsIn third_table from params old.now.trees after
+      (Ok (tally, after)) → PutsIn indexed third_table from params old.now.trees after
   into_currents from changed =
       let db = old.now.trees in
       let done = went (subst (λ s.
@@ -164,7 +165,7 @@ module _ (old : State) (tally : Tally) (after : Database) (text : List ℕ) (par
       let counted_rows = went written.2 in
       let trees : done.0.trees ≡ written.0 =
       ap (λ (it : Written). it.trees) (same_value counted_rows.2) ∙ same_value counted_rows.1 in
-      let applied = one_step archive_schema _ db written.0
+      let applied = one_step (archive_schema indexed) _ db written.0
       (edit_of db third_table [] Chosen 0 given_rows.0) refl written.1 in
       let same : after.trees ≡ written.0 = ap (λ (d : Database). d.trees) now ∙ trees in
       record {
@@ -173,13 +174,13 @@ module _ (old : State) (tally : Tally) (after : Database) (text : List ℕ) (par
         schema =
             ap (λ (d : Database). d.schema) now;
         applied =
-            subst (Applies archive_schema Enforced db
+            subst (Applies (archive_schema indexed) Enforced db
             (edit_of db third_table [] Chosen 0 given_rows.0)) (sym same) applied;
       }
 
   pub into_vectors : (from : Source)
       → Does old.step_limit (mode_of old) params old.now text None (Insert 3 from)
-      (Ok (tally, after)) → PutsIn fourth_table from params old.now.trees after
+      (Ok (tally, after)) → PutsIn indexed fourth_table from params old.now.trees after
   into_vectors from changed =
       let db = old.now.trees in
       let done = went (subst (λ s.
@@ -191,7 +192,7 @@ module _ (old : State) (tally : Tally) (after : Database) (text : List ℕ) (par
       let counted_rows = went written.2 in
       let trees : done.0.trees ≡ written.0 =
       ap (λ (it : Written). it.trees) (same_value counted_rows.2) ∙ same_value counted_rows.1 in
-      let applied = one_step archive_schema _ db written.0
+      let applied = one_step (archive_schema indexed) _ db written.0
       (edit_of db fourth_table [] Chosen 0 given_rows.0) refl written.1 in
       let same : after.trees ≡ written.0 = ap (λ (d : Database). d.trees) now ∙ trees in
       record {
@@ -200,12 +201,12 @@ module _ (old : State) (tally : Tally) (after : Database) (text : List ℕ) (par
         schema =
             ap (λ (d : Database). d.schema) now;
         applied =
-            subst (Applies archive_schema Enforced db
+            subst (Applies (archive_schema indexed) Enforced db
             (edit_of db fourth_table [] Chosen 0 given_rows.0)) (sym same) applied;
       }
 
   pub set_currents : (q : Program) → Does old.step_limit (mode_of old) params old.now text None
-      (Update 2 q) (Ok (tally, after)) → Sets third_table q params old.now.trees tally after
+      (Update 2 q) (Ok (tally, after)) → Sets indexed third_table q params old.now.trees tally after
   set_currents q changed =
       let db = old.now.trees in
       let done = went (subst (λ s.
@@ -219,20 +220,21 @@ module _ (old : State) (tally : Tally) (after : Database) (text : List ℕ) (par
       ap (λ (it : Written). it.trees) (same_value written.2) in
       let rows : done.0.rows ≡ (edit_of db third_table (ids_of found.0) Given 1 found.0).news =
       ap (λ (it : Written). it.rows) (same_value written.2) in
-      let applied = one_step archive_schema _ db written.0
+      let applied = one_step (archive_schema indexed) _ db written.0
       (edit_of db third_table (ids_of found.0) Given 1 found.0) refl written.1 in
       let same : after.trees ≡ written.0 = ap (λ (d : Database). d.trees) now ∙ trees in
       record {
         rows = found.0;
         are = found.1;
         schema = ap (λ (d : Database). d.schema) now;
-        applied = subst (Applies archive_schema Enforced db
+        applied = subst (Applies (archive_schema indexed) Enforced db
             (edit_of db third_table (ids_of found.0) Given 1 found.0)) (sym same) applied;
         counted = ap (λ (p : Tally × Database). p.0.rows) both ∙ ap (λ l. Some (length l)) rows;
       }
 
   pub set_vectors : (q : Program) → Does old.step_limit (mode_of old) params old.now text None
-      (Update 3 q) (Ok (tally, after)) → Sets fourth_table q params old.now.trees tally after
+      (Update 3 q) (Ok (tally, after))
+      → Sets indexed fourth_table q params old.now.trees tally after
   set_vectors q changed =
       let db = old.now.trees in
       let done = went (subst (λ s.
@@ -246,14 +248,14 @@ module _ (old : State) (tally : Tally) (after : Database) (text : List ℕ) (par
       ap (λ (it : Written). it.trees) (same_value written.2) in
       let rows : done.0.rows ≡ (edit_of db fourth_table (ids_of found.0) Given 1 found.0).news =
       ap (λ (it : Written). it.rows) (same_value written.2) in
-      let applied = one_step archive_schema _ db written.0
+      let applied = one_step (archive_schema indexed) _ db written.0
       (edit_of db fourth_table (ids_of found.0) Given 1 found.0) refl written.1 in
       let same : after.trees ≡ written.0 = ap (λ (d : Database). d.trees) now ∙ trees in
       record {
         rows = found.0;
         are = found.1;
         schema = ap (λ (d : Database). d.schema) now;
-        applied = subst (Applies archive_schema Enforced db
+        applied = subst (Applies (archive_schema indexed) Enforced db
             (edit_of db fourth_table (ids_of found.0) Given 1 found.0)) (sym same) applied;
         counted = ap (λ (p : Tally × Database). p.0.rows) both ∙ ap (λ l. Some (length l)) rows;
       }

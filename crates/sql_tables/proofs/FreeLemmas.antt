@@ -1,5 +1,5 @@
 -- Whether a record stands at a node and time.
-use Rattle.std.proofs.Common.{◌≡◌, ℕ, ℤ, not, false, List, [], ◌∷◌, length, map, filter, take, codes, refl, sym, ap, subst, ◌∙◌, IsPermutation}
+use Rattle.std.proofs.Common.{◌≡◌, ℕ, ℤ, Bool, not, false, List, [], ◌∷◌, length, map, filter, take, codes, refl, sym, ap, subst, ◌∙◌, IsPermutation}
 use Rattle.std.specs.List.{list_any, list_all, AllByRecursion}
 use Rattle.std.proofs.lemmas.List.Elements.{recursion_from_All, All-from_recursion}
 use Rattle.std.proofs.lemmas.List.Sorted.{All-permutation, length_permutation}
@@ -15,7 +15,7 @@ use Rattle.sqlite_tied.specs.Compute.{everything}
 use Rattle.sqlite.specs.Listing.{understood, reads_listing}
 use Rattle.sqlite.specs.State.{State, Shown}
 use Rattle.sqlite.proofs.Callers.{IsPlain, command_of, reads_as}
-use Rattle.sql_schema.specs.Tables.{archive_schema}
+use Rattle.sql_schema.specs.Tables.{archive_schema, IsArchiveSchema}
 use Rattle.sql_tables.specs.Words.{cells, columns_of}
 use Rattle.sql_tables.specs.Derived.{AreKept, same, is_of, is_later, is_current_of, current_of, currents_of, current_columns}
 use Rattle.sql_tables.specs.Keeping.{HasNoneOf, HasNoRowAt}
@@ -27,30 +27,31 @@ use Rattle.sql_tables.proofs.AgreeLemmas.{listing, listed, none_first, none_of, 
 abbrev moment_tests : List Term
 moment_tests = eq (col 1 4) (col 0 0) ∷ eq (col 1 5) (col 0 1) ∷ eq (col 1 6) (col 0 2) ∷ []
 
-some_at_is : (command_of (understood archive_schema some_at_text)
+some_at_is : (indexed : Bool) → (command_of (understood (archive_schema indexed) some_at_text)
     ≡ Select (record {
       lets = [];
       body =
           listing (inner 1 end) moment_tests (col 1 1 ∷ []) [] first_only;
     }) (codes "origin" ∷ []))
-    × (reads_listing archive_schema some_at_text ≡ false)
+    × (reads_listing (archive_schema indexed) some_at_text ≡ false)
 unfolding understood everything
-some_at_is = (refl, refl)
+some_at_is indexed = (refl, refl)
 
-pub some_at_plain : IsPlain (understood archive_schema some_at_text)
+pub some_at_plain : (indexed : Bool) → IsPlain (understood (archive_schema indexed) some_at_text)
 unfolding understood everything
-some_at_plain = (refl, refl)
+some_at_plain indexed = (refl, refl)
 
 -- where the query shows no row, none stands there
 pub none_at : (old new : State) (node : List ℕ) (time pico : ℤ) (rows : List Row)
-    → old.now.schema ≡ archive_schema
+    → IsArchiveSchema old.now.schema
     → Shown some_at_text (Blob node ∷ Int time ∷ Int pico ∷ []) old new rows → rows ≡ []
     → HasNoneOf node time pico (cells (old.now.trees 1))
 none_at old new node time pico rows has h none =
     let params = Blob node ∷ Int time ∷ Int pico ∷ [] in
     let db = old.now.trees in
-    let got = reads_as some_at_text params old new archive_schema has _ some_at_is.0 some_at_plain
-    some_at_is.1 rows h in
+    let got = reads_as some_at_text params old new (archive_schema has.0) has.1 _
+    (some_at_is has.0).0 (some_at_plain has.0)
+    (some_at_is has.0).1 rows h in
     let keep = λ (r : Row). list_all (holds (params ∷ r ∷ [])) moment_tests in
     let all = listed (inner 1 end) moment_tests (col 1 1 ∷ []) [] first_only params (overlay db [])
     (db 1) keep (λ r. params ∷ r ∷ []) refl rows (got.answer Null) in
@@ -64,14 +65,15 @@ none_at old new node time pico rows has h none =
 
 -- where none stands there, the query shows no row
 pub none_shown : (old new : State) (node : List ℕ) (time pico : ℤ) (rows : List Row)
-    → old.now.schema ≡ archive_schema
+    → IsArchiveSchema old.now.schema
     → Shown some_at_text (Blob node ∷ Int time ∷ Int pico ∷ []) old new rows
     → HasNoneOf node time pico (cells (old.now.trees 1)) → rows ≡ []
 none_shown old new node time pico rows has h none =
     let params = Blob node ∷ Int time ∷ Int pico ∷ [] in
     let db = old.now.trees in
-    let got = reads_as some_at_text params old new archive_schema has _ some_at_is.0 some_at_plain
-    some_at_is.1 rows h in
+    let got = reads_as some_at_text params old new (archive_schema has.0) has.1 _
+    (some_at_is has.0).0 (some_at_plain has.0)
+    (some_at_is has.0).1 rows h in
     let keep = λ (r : Row). list_all (holds (params ∷ r ∷ [])) moment_tests in
     let all = listed (inner 1 end) moment_tests (col 1 1 ∷ []) [] first_only params (overlay db [])
     (db 1) keep (λ r. params ∷ r ∷ []) refl rows (got.answer Null) in

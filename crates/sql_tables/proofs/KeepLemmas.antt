@@ -40,9 +40,9 @@ use Rattle.sqlite.specs.Effect.{Database}
 use Rattle.sqlite.specs.State.{State, ExecutesInside}
 use Rattle.sqlite.specs.declared.error.Error.{Error}
 use Rattle.sqlite.proofs.Callers.{IsPlain, command_of, statement_of, runs_as}
-use Rattle.sql_schema.specs.Tables.{archive_schema, third_table, fourth_table}
+use Rattle.sql_schema.specs.Tables.{archive_schema, ListsArchive, third_table, fourth_table}
 use Rattle.sql_tables.specs.Words.{cells, cells_of}
-use Rattle.sql_tables.specs.State.{Making}
+use Rattle.sql_tables.specs.State.{Making, MakingArchive}
 use Rattle.sql_tables.specs.Derived.{AreNumbered, IsCells, is_of, is_current_of, current_of, current_columns, same, vectors_of, vector_columns}
 use Rattle.sql_tables.specs.Keeping.{KeepsBesideVectors, ChangesVectors, SetsVectors, KeepsBesideCurrents, PutsCurrents, ChangesCurrents, AddsRecord, HasNoRowAt, IsOnly, currents_where, is_vector_of, DropsVector, PutsVectors, vector_cells}
 use Rattle.sql_tables.proofs.Texts.{first_current_text, fill_currents_text, add_vector_text, set_vector_text, fill_vectors_text}
@@ -103,25 +103,28 @@ fill_currents = record {
       asking currents_from (op1 Not (col 3 0) ∷ []) currents_project nine;
 }
 
-fill_currents_is : command_of (understood archive_schema fill_currents_text)
+fill_currents_is : (indexed : Bool)
+    → command_of (understood (archive_schema indexed) fill_currents_text)
     ≡ Insert 2 (Asks fill_currents)
 unfolding understood everything
-fill_currents_is = refl
+fill_currents_is indexed = refl
 
-fill_currents_plain : IsPlain (understood archive_schema fill_currents_text)
+fill_currents_plain : (indexed : Bool)
+    → IsPlain (understood (archive_schema indexed) fill_currents_text)
 unfolding understood everything
-fill_currents_plain = (refl, refl)
+fill_currents_plain indexed = (refl, refl)
 
 -- what rows that were put into currents2 leave there
-currents_more : (q : Row → Bool) (program : Program) (params : Row) (db : Trees) (after : Database)
+currents_more : (indexed : Bool) (q : Row → Bool) (program : Program) (params : Row) (db : Trees)
+    (after : Database)
     → (AllByRecursion IsCells (cells (db 1)) → (rows : List Row)
     → IsAnswer program.body (overlay db []) params rows
     → IsPermutation (currents_where q (cells (db 1)))
     (map current_columns (map (λ s. cast_row third_table (drop 0 s)) rows)))
-    → (it : PutsIn third_table (Asks program) params db after)
+    → (it : PutsIn indexed third_table (Asks program) params db after)
     → IsAnswer program.body (overlay db []) params it.rows → PutsCurrents q db after.trees
-currents_more q program params db after means it answer =
-    let put = put_in third_table db after.trees it.rows it.applied in
+currents_more indexed q program params db after means it answer =
+    let put = put_in indexed third_table db after.trees it.rows it.applied in
     let made = map (λ s. cast_row third_table (drop 0 s)) it.rows in
     let others = it.applied.tables in record {
       rest = record {
@@ -149,14 +152,16 @@ abbrev first_terms : List Term
 first_terms = lit Null ∷ col 0 0 ∷ col 0 1 ∷ col 0 2 ∷ col 0 3 ∷ col 0 4
     ∷ op2 (Compare Ne Binary) (col 0 5) (lit (Int (pos 4))) ∷ lit (Int (pos 0)) ∷ col 0 6 ∷ []
 
-first_current_is : command_of (understood archive_schema first_current_text)
+first_current_is : (indexed : Bool)
+    → command_of (understood (archive_schema indexed) first_current_text)
     ≡ Insert 2 (Values first_terms 9)
 unfolding understood everything
-first_current_is = refl
+first_current_is indexed = refl
 
-first_current_plain : IsPlain (understood archive_schema first_current_text)
+first_current_plain : (indexed : Bool)
+    → IsPlain (understood (archive_schema indexed) first_current_text)
 unfolding understood everything
-first_current_plain = (refl, refl)
+first_current_plain indexed = (refl, refl)
 
 -- the row of currents2 of a record that is the only one of its node and time is put in beside the
 -- others
@@ -168,11 +173,11 @@ module _ (origin number tick : ℤ) (node : List ℕ) (time pico asked : ℤ) (w
   first_params = Blob node ∷ Int time ∷ Int pico ∷ Int tick ∷ Int origin ∷ Int asked ∷ Blob value
       ∷ []
 
-  first_more : (db : Trees) (after : Database)
-      → PutsIn third_table (Values first_terms 9) first_params db after
+  first_more : (indexed : Bool) (db : Trees) (after : Database)
+      → PutsIn indexed third_table (Values first_terms 9) first_params db after
       → IsPermutation (current_of [] first_row ∷ map current_columns (db 4))
       (map current_columns (after.trees 4))
-  first_more db after it =
+  first_more indexed db after it =
       let made = map (λ s. cast_row third_table (drop 0 s)) it.rows in
       let one : map current_columns made ≡ current_of [] first_row ∷ [] =
       ap (λ rs. map current_columns (map (λ s. cast_row third_table (drop 0 s)) rs)) it.are.1
@@ -189,12 +194,13 @@ module _ (origin number tick : ℤ) (node : List ℕ) (time pico asked : ℤ) (w
       ∙ ap (λ l. l ++ map current_columns (db 4))
       (unnumbered current_columns unnumbered_currents (db 4) made ∙ one))
       (IsPermutation-map current_columns _ _
-      (put_in third_table db after.trees it.rows it.applied).0)
+      (put_in indexed third_table db after.trees it.rows it.applied).0)
 
-  first_changes : (db : Trees) (after : Database) → IsOnly first_row node time pico db
-      → PutsIn third_table (Values first_terms 9) first_params db after
+  first_changes : (indexed : Bool) (db : Trees) (after : Database)
+      → IsOnly first_row node time pico db
+      → PutsIn indexed third_table (Values first_terms 9) first_params db after
       → ChangesCurrents node time pico db after.trees
-  first_changes db after only it =
+  first_changes indexed db after only it =
       let others = it.applied.tables in
       let rest : KeepsBesideCurrents db after.trees =
       record {
@@ -225,57 +231,63 @@ module _ (origin number tick : ℤ) (node : List ℕ) (time pico asked : ℤ) (w
               (IsPermutation-append made (current_of [] first_row ∷ []) held held
               (first_made origin number tick node time pico asked who value only.others
               (cells (db 1)) only.records only.apart) (IsPermutation-refl held))
-              (first_more db after it);
-          numbered = (put_in third_table db after.trees it.rows it.applied).1;
+              (first_more indexed db after it);
+          numbered = (put_in indexed third_table db after.trees it.rows it.applied).1;
         };
       }
 
-  pub adds_first : (old new : State) (r : Result ℕ Error) → Making archive_schema old
+  pub adds_first : (old new : State) (r : Result ℕ Error) → MakingArchive old
       → IsOnly first_row node time pico old.now.trees
       → ExecutesInside 0 first_current_text first_params old new r
-      → OnOk r (Making archive_schema new × (new.committed ≡ old.committed)
+      → OnOk r (MakingArchive new × (new.now.schema ≡ old.now.schema)
+      × (new.committed ≡ old.committed)
       × ChangesCurrents node time pico old.now.trees new.now.trees)
   adds_first old new (Err e) was only h = tt
   adds_first old new (Ok count) was only h =
-      let w = runs_as first_current_text first_params old new archive_schema was.has
-      (Insert 2 (Values first_terms 9)) first_current_is first_current_plain count h.0 in
+      let is = was.has in
+      let w = runs_as first_current_text first_params old new (archive_schema is.0) is.1
+      (Insert 2 (Values first_terms 9)) (first_current_is is.0)
+      (first_current_plain is.0) count h.0 in
       let it = into_currents old w.tally new.now (statement_of first_current_text
-      (understood archive_schema first_current_text)) first_params was.has
+      (understood (archive_schema is.0) first_current_text)) first_params is.0 is.1
       (Values first_terms 9) w.changed in (
-        record { inside = h.1.mode; has = it.schema },
+        record { inside = h.1.mode; has = (is.0, it.schema) },
+        it.schema ∙ sym is.1,
         h.1.committed_is,
-        first_changes old.now.trees new.now only it,
+        first_changes is.0 old.now.trees new.now only it,
       )
 
-pub fills_currents : (old new : State) (r : Result ℕ Error) → Making archive_schema old
+pub fills_currents : (old new : State) (r : Result ℕ Error) → Making (archive_schema false) old
     → ExecutesInside 0 fill_currents_text [] old new r
-    → OnOk r (Making archive_schema new × (new.committed ≡ old.committed)
+    → OnOk r (Making (archive_schema false) new × (new.committed ≡ old.committed)
     × PutsCurrents (λ _. true) old.now.trees new.now.trees)
 fills_currents old new (Err e) was h = tt
 fills_currents old new (Ok count) was h =
     let db = old.now.trees in
-    let w = runs_as fill_currents_text [] old new archive_schema was.has
-    (Insert 2 (Asks fill_currents)) fill_currents_is fill_currents_plain count h.0 in
+    let w = runs_as fill_currents_text [] old new (archive_schema false) was.has
+    (Insert 2 (Asks fill_currents)) (fill_currents_is false)
+    (fill_currents_plain false) count h.0 in
     let it = into_currents old w.tally new.now (statement_of fill_currents_text
-    (understood archive_schema fill_currents_text)) [] was.has (Asks fill_currents) w.changed in (
+    (understood (archive_schema false) fill_currents_text)) [] false was.has
+    (Asks fill_currents) w.changed in (
       record { inside = h.1.mode; has = it.schema },
       h.1.committed_is,
-      currents_more (λ _. true) fill_currents [] db new.now
+      currents_more false (λ _. true) fill_currents [] db new.now
           (λ typed rows a. currents_put [] db (op1 Not (col 3 0) ∷ []) (λ _. true)
           (λ r. one_true (is_true (unary Not (laters [] db r))) ∙ none_later [] db r) typed nine
           rows a) it (it.are.answer Null),
     )
 
 -- what rows that were put into vectors leave there
-vectors_more : (rows_of : List Row → List Row) (from : Source) (params : Row) (db : Trees)
-    (after : Database) (it : PutsIn fourth_table from params db after)
+vectors_more : (indexed : Bool) (rows_of : List Row → List Row) (from : Source) (params : Row)
+    (db : Trees) (after : Database) (it : PutsIn indexed fourth_table from params db after)
     → (AllByRecursion IsCells (cells (db 1))
     → IsPermutation (rows_of (cells (db 1))) (map vector_columns (map as_vector it.rows)))
     → (AllByRecursion IsCells (cells (db 1))
     → AllByRecursion (λ r. is_null (rowid r) ≡ false) (map as_vector it.rows))
     → PutsVectors rows_of db after.trees
-vectors_more rows_of from params db after it means ids =
-    let put = put_in fourth_table db after.trees it.rows it.applied in
+vectors_more indexed rows_of from params db after it means ids =
+    let put = put_in indexed fourth_table db after.trees it.rows it.applied in
     let made = map as_vector it.rows in
     let others = it.applied.tables in record {
       rest = record {
@@ -301,41 +313,44 @@ vectors_more rows_of from params db after it means ids =
 abbrev vector_terms : List Term
 vector_terms = col 0 0 ∷ lit Null ∷ col 0 1 ∷ col 0 2 ∷ []
 
-add_vector_is : command_of (understood archive_schema add_vector_text)
+add_vector_is : (indexed : Bool) → command_of (understood (archive_schema indexed) add_vector_text)
     ≡ Insert 3 (Values vector_terms 4)
 unfolding understood everything
-add_vector_is = refl
+add_vector_is indexed = refl
 
-add_vector_plain : IsPlain (understood archive_schema add_vector_text)
+add_vector_plain : (indexed : Bool) → IsPlain (understood (archive_schema indexed) add_vector_text)
 unfolding understood everything
-add_vector_plain = (refl, refl)
+add_vector_plain indexed = (refl, refl)
 
 pub adds_vector : (origin number tick : ℤ) (old new : State) (r : Result ℕ Error)
-    → Making archive_schema old → ExecutesInside 0 add_vector_text
+    → MakingArchive old → ExecutesInside 0 add_vector_text
     (Int origin ∷ Int number ∷ Int tick ∷ []) old new r
-    → OnOk r (Making archive_schema new × (new.committed ≡ old.committed)
+    → OnOk r (MakingArchive new × (new.now.schema ≡ old.now.schema)
+    × (new.committed ≡ old.committed)
     × PutsVectors (λ _. vector_cells origin number tick ∷ []) old.now.trees new.now.trees
-    × Lists (new.now.trees catalog_tree) archive_schema)
+    × ListsArchive (new.now.trees catalog_tree))
 adds_vector origin number tick old new (Err e) was h = tt
 adds_vector origin number tick old new (Ok count) was h =
     let params = Int origin ∷ Int number ∷ Int tick ∷ [] in
-    let w = runs_as add_vector_text params old new archive_schema was.has
-    (Insert 3 (Values vector_terms 4)) add_vector_is add_vector_plain count h.0 in
+    let is = was.has in
+    let w = runs_as add_vector_text params old new (archive_schema is.0) is.1
+    (Insert 3 (Values vector_terms 4)) (add_vector_is is.0) (add_vector_plain is.0) count h.0 in
     let it = into_vectors old w.tally new.now (statement_of add_vector_text
-    (understood archive_schema add_vector_text)) params was.has
+    (understood (archive_schema is.0) add_vector_text)) params is.0 is.1
     (Values vector_terms 4) w.changed in
     let one : map as_vector it.rows
     ≡ (Int origin ∷ cast Integer Null ∷ Int number ∷ Int tick ∷ []) ∷ [] =
     ap (map as_vector) it.are.1 ∙ rw (cast_int origin, cast_int number, cast_int tick) refl in (
-      record { inside = h.1.mode; has = it.schema },
+      record { inside = h.1.mode; has = (is.0, it.schema) },
+      it.schema ∙ sym is.1,
       h.1.committed_is,
-      vectors_more (λ _. vector_cells origin number tick ∷ [])
+      vectors_more is.0 (λ _. vector_cells origin number tick ∷ [])
           (Values vector_terms 4) params old.now.trees new.now it
           (λ typed. subst (λ l. IsPermutation (vector_cells origin number tick ∷ [])
           (map vector_columns l)) (sym one) (IsPermutation-refl
           (vector_cells origin number tick ∷ [])))
           (λ typed. subst (AllByRecursion (λ r. is_null (rowid r) ≡ false)) (sym one) (refl, tt)),
-      subst (Lists (new.now.trees catalog_tree)) it.schema w.sound.lists,
+      (is.0, subst (Lists (new.now.trees catalog_tree)) it.schema w.sound.lists),
     )
 
 abbrev set_terms : List Term
@@ -344,13 +359,14 @@ set_terms = col 1 0 ∷ col 0 0 ∷ lit Null ∷ col 0 1 ∷ col 0 2 ∷ []
 abbrev set_vector : Program
 set_vector = record { lets = []; body = asking (inner 6 end) vector_tests set_terms [] }
 
-set_vector_is : command_of (understood archive_schema set_vector_text) ≡ Update 3 set_vector
+set_vector_is : (indexed : Bool) → command_of (understood (archive_schema indexed) set_vector_text)
+    ≡ Update 3 set_vector
 unfolding understood everything
-set_vector_is = refl
+set_vector_is indexed = refl
 
-set_vector_plain : IsPlain (understood archive_schema set_vector_text)
+set_vector_plain : (indexed : Bool) → IsPlain (understood (archive_schema indexed) set_vector_text)
 unfolding understood everything
-set_vector_plain = (refl, refl)
+set_vector_plain indexed = (refl, refl)
 
 pub empty_by : {A : Type 0} (xs : List A) → length xs ≡ 0 → xs ≡ []
 empty_by [] e = refl
@@ -379,8 +395,9 @@ few_by n (a ∷ b ∷ rows) up all =
     ∙ ap is_eq (tied_itself value_cmp_total (Int n))))
 
 -- what an UPDATE of an origin's row leaves, where there was none and where there was one
-module _ (origin number tick : ℤ) (db : Trees) (tally : Tally) (after : Database)
-    (it : Sets fourth_table set_vector (Int origin ∷ Int number ∷ Int tick ∷ []) db tally after)
+module _ (indexed : Bool) (origin number tick : ℤ) (db : Trees) (tally : Tally) (after : Database)
+    (it : Sets indexed fourth_table set_vector (Int origin ∷ Int number ∷ Int tick ∷ []) db tally
+    after)
   where
     abbrev set_params : Row
     set_params = Int origin ∷ Int number ∷ Int tick ∷ []
@@ -467,7 +484,7 @@ module _ (origin number tick : ℤ) (db : Trees) (tally : Tally) (after : Databa
         ≡ set_row
     set_written r = rw (cast_int origin, cast_int number, cast_int tick) refl
 
-    set_one : length it.rows ≡ 1 → Lists (after.trees catalog_tree) archive_schema
+    set_one : length it.rows ≡ 1 → ListsArchive (after.trees catalog_tree)
         → ChangesVectors set_row origin db after.trees
     set_one e lists =
         let write = λ (s : Row). vector_columns (cast_row fourth_table (drop 1 s)) in
@@ -520,43 +537,49 @@ module _ (origin number tick : ℤ) (db : Trees) (tally : Tally) (after : Databa
         }
 
 pub sets_vector : (origin number tick : ℤ) (old new : State) (r : Result ℕ Error)
-    → Making archive_schema old → ExecutesInside 0 set_vector_text
+    → MakingArchive old → ExecutesInside 0 set_vector_text
     (Int origin ∷ Int number ∷ Int tick ∷ []) old new r
-    → IfOk r (λ count. Making archive_schema new × (new.committed ≡ old.committed)
+    → IfOk r (λ count. MakingArchive new × (new.now.schema ≡ old.now.schema)
+    × (new.committed ≡ old.committed)
     × SetsVectors count (vector_cells origin number tick) origin old.now.trees new.now.trees)
 sets_vector origin number tick old new (Err e) was h = tt
 sets_vector origin number tick old new (Ok count) was h =
     let params = Int origin ∷ Int number ∷ Int tick ∷ [] in
-    let w = runs_as set_vector_text params old new archive_schema was.has
-    (Update 3 set_vector) set_vector_is set_vector_plain count h.0 in
+    let is = was.has in
+    let w = runs_as set_vector_text params old new (archive_schema is.0) is.1
+    (Update 3 set_vector) (set_vector_is is.0) (set_vector_plain is.0) count h.0 in
     let it = set_vectors old w.tally new.now (statement_of set_vector_text
-    (understood archive_schema set_vector_text)) params was.has set_vector w.changed in
+    (understood (archive_schema is.0) set_vector_text)) params is.0 is.1 set_vector w.changed in
     let as_many : count ≡ length it.rows =
-    set_count origin number tick old.now.trees w.tally new.now it count w.counted in (
-      record { inside = h.1.mode; has = it.schema },
+    set_count is.0 origin number tick old.now.trees w.tally new.now it count w.counted in (
+      record { inside = h.1.mode; has = (is.0, it.schema) },
+      it.schema ∙ sym is.1,
       h.1.committed_is,
       record {
-        none = λ e. set_none origin number tick old.now.trees w.tally new.now it (sym as_many ∙ e);
-        one = λ e. set_one origin number tick old.now.trees w.tally new.now it (sym as_many ∙ e)
-            (subst (Lists (new.now.trees catalog_tree)) it.schema w.sound.lists);
+        none = λ e. set_none is.0 origin number tick old.now.trees w.tally new.now it
+            (sym as_many ∙ e);
+        one = λ e. set_one is.0 origin number tick old.now.trees w.tally new.now it
+            (sym as_many ∙ e)
+            (is.0, subst (Lists (new.now.trees catalog_tree)) it.schema w.sound.lists);
       },
     )
 
 pub sets_one : (origin number tick : ℤ) (old new : State) (r : Result ℕ Error)
-    → Making archive_schema old → ExecutesInside 0 set_vector_text
+    → MakingArchive old → ExecutesInside 0 set_vector_text
     (Int origin ∷ Int number ∷ Int tick ∷ []) old new r
     → IfOk r (λ count. AreNumbered (old.now.trees 6) → count ≤ 1)
 sets_one origin number tick old new (Err e) was h = tt
 sets_one origin number tick old new (Ok count) was h = λ numbered.
     let params = Int origin ∷ Int number ∷ Int tick ∷ [] in
-    let w = runs_as set_vector_text params old new archive_schema was.has
-    (Update 3 set_vector) set_vector_is set_vector_plain count h.0 in
+    let is = was.has in
+    let w = runs_as set_vector_text params old new (archive_schema is.0) is.1
+    (Update 3 set_vector) (set_vector_is is.0) (set_vector_plain is.0) count h.0 in
     let it = set_vectors old w.tally new.now (statement_of set_vector_text
-    (understood archive_schema set_vector_text)) params was.has set_vector w.changed in
+    (understood (archive_schema is.0) set_vector_text)) params is.0 is.1 set_vector w.changed in
     let as_many : count ≡ length it.rows =
-    set_count origin number tick old.now.trees w.tally new.now it count w.counted in
+    set_count is.0 origin number tick old.now.trees w.tally new.now it count w.counted in
     let few : length it.rows ≤ 1 =
-    set_few origin number tick old.now.trees w.tally new.now it numbered in
+    set_few is.0 origin number tick old.now.trees w.tally new.now it numbered in
     omega (arith, as_many, few)
 
 abbrev four : List Collation
@@ -569,29 +592,32 @@ fill_vectors = record {
       asking vectors_from (op1 Not (col 2 0) ∷ []) vectors_project four;
 }
 
-fill_vectors_is : command_of (understood archive_schema fill_vectors_text)
+fill_vectors_is : (indexed : Bool)
+    → command_of (understood (archive_schema indexed) fill_vectors_text)
     ≡ Insert 3 (Asks fill_vectors)
 unfolding understood everything
-fill_vectors_is = refl
+fill_vectors_is indexed = refl
 
-fill_vectors_plain : IsPlain (understood archive_schema fill_vectors_text)
+fill_vectors_plain : (indexed : Bool)
+    → IsPlain (understood (archive_schema indexed) fill_vectors_text)
 unfolding understood everything
-fill_vectors_plain = (refl, refl)
+fill_vectors_plain indexed = (refl, refl)
 
-pub fills_vectors : (old new : State) (r : Result ℕ Error) → Making archive_schema old
+pub fills_vectors : (old new : State) (r : Result ℕ Error) → Making (archive_schema false) old
     → ExecutesInside 0 fill_vectors_text [] old new r
-    → OnOk r (Making archive_schema new × (new.committed ≡ old.committed)
+    → OnOk r (Making (archive_schema false) new × (new.committed ≡ old.committed)
     × PutsVectors vectors_of old.now.trees new.now.trees
-    × Lists (new.now.trees catalog_tree) archive_schema)
+    × Lists (new.now.trees catalog_tree) (archive_schema false))
 fills_vectors old new (Err e) was h = tt
 fills_vectors old new (Ok count) was h =
-    let w = runs_as fill_vectors_text [] old new archive_schema was.has
-    (Insert 3 (Asks fill_vectors)) fill_vectors_is fill_vectors_plain count h.0 in
+    let w = runs_as fill_vectors_text [] old new (archive_schema false) was.has
+    (Insert 3 (Asks fill_vectors)) (fill_vectors_is false) (fill_vectors_plain false) count h.0 in
     let it = into_vectors old w.tally new.now (statement_of fill_vectors_text
-    (understood archive_schema fill_vectors_text)) [] was.has (Asks fill_vectors) w.changed in (
+    (understood (archive_schema false) fill_vectors_text)) [] false was.has
+    (Asks fill_vectors) w.changed in (
       record { inside = h.1.mode; has = it.schema },
       h.1.committed_is,
-      vectors_more vectors_of (Asks fill_vectors) [] old.now.trees new.now it
+      vectors_more false vectors_of (Asks fill_vectors) [] old.now.trees new.now it
           (λ typed. (vectors_put [] old.now.trees typed four it.rows (it.are.answer Null)).1)
           (λ typed. (vectors_put [] old.now.trees typed four it.rows (it.are.answer Null)).0),
       subst (Lists (new.now.trees catalog_tree)) it.schema w.sound.lists,

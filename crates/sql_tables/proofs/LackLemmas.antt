@@ -15,7 +15,7 @@ use Rattle.sqlite_trees.specs.Tree.{Trees}
 use Rattle.sqlite_keyed.proofs.ListLemmas.{all_weaker}
 use Rattle.sqlite.specs.Listing.{understood}
 use Rattle.sqlite.specs.Effect.{Database}
-use Rattle.sql_schema.specs.Tables.{archive_schema}
+use Rattle.sql_schema.specs.Tables.{archive_schema, IsArchiveSchema}
 use Rattle.sql_tables.specs.Agreeing.{command_in, ShowsOf, ShowsSome}
 use Rattle.sql_tables.proofs.MadeLemmas.{counted_is, not_flag, one_true}
 use Rattle.sql_tables.proofs.AgreeLemmas.{listing, listed, first_only, none_first, none_of, none_passes, shown_is}
@@ -103,9 +103,9 @@ module _ (db : Trees) (table other : ℕ) (when tests shown : List Term) where
 -- ---- as a text shows it
 
 module _ (sql : List ℕ) (table other : ℕ) (when tests shown : List Term) (names : List (List ℕ))
-    (is : command_in (understood archive_schema sql)
+    (is : (indexed : Bool) → command_in (understood (archive_schema indexed) sql)
     ≡ Select (record { lets = []; body = lacking table other when tests shown }) names)
-    (d : Database) (has : d.schema ≡ archive_schema) where
+    (d : Database) (has : IsArchiveSchema d.schema) where
   abbrev pub AllAreMet : Type 0
   AllAreMet = AllByRecursion (λ x. is_asked (overlay d.trees []) table other when tests shown x
       ≡ true → is_met (overlay d.trees []) table other when tests shown x ≡ true)
@@ -113,7 +113,8 @@ module _ (sql : List ℕ) (table other : ℕ) (when tests shown : List Term) (na
 
   read_in : (rows : List Row) → ShowsOf sql d rows
       → IsAnswer (lacking table other when tests shown) (overlay d.trees []) [] rows
-  read_in rows shows = shown_is sql (lacking table other when tests shown) names d.trees rows is
+  read_in rows shows = shown_is has.0 sql (lacking table other when tests shown) names d.trees rows
+      (is has.0)
       (subst (λ x. ShowsOf sql x rows) (as_archive_is d has) shows)
 
   pub none_lack : ShowsOf sql d [] → AllAreMet

@@ -30,7 +30,7 @@ use Rattle.records.specs.declared.record.Record.{Record}
 use Rattle.records.proofs.CloseLemmas.{closed_names}
 use Rattle.records.proofs.ContentLemmas.{vec_bounds, vec_attained}
 use Rattle.records.proofs.Sorting.{all-has}
-use Rattle.sql_schema.specs.Tables.{archive_schema}
+use Rattle.sql_schema.specs.Tables.{archive_schema, IsArchiveSchema}
 use Rattle.sql_tables.specs.Words.{cells, columns_of}
 use Rattle.sql_tables.specs.Derived.{AreNumbered, IsCells, same, is_newer, int_in, last_of, vectors_of, vector_columns}
 use Rattle.sql_tables.specs.Agreeing.{command_in, ShowsOf, ShowsSome, AreOfRecords, AreReached, HasVectors, reaches}
@@ -49,21 +49,23 @@ use Rattle.sql_tables.proofs.LackLemmas.{lacking, meets, none_lack, some_lack, m
 abbrev pub stray_tests : List Term
 stray_tests = eq (col 2 1) (col 1 0) ∷ eq (col 2 2) (col 1 2) ∷ eq (col 2 3) (col 1 3) ∷ []
 
-pub vectors_stray_is : command_in (understood archive_schema vectors_stray_text)
+pub vectors_stray_is : (indexed : Bool)
+    → command_in (understood (archive_schema indexed) vectors_stray_text)
     ≡ Select (record { lets = []; body = lacking 6 1 [] stray_tests (col 1 0 ∷ []) })
     (codes "origin" ∷ [])
 unfolding understood everything
-vectors_stray_is = refl
+vectors_stray_is indexed = refl
 
 -- a row of vectors is of the origin of a row of records2, and its number isn't less
 abbrev pub behind_tests : List Term
 behind_tests = eq (col 2 0) (col 1 1) ∷ op2 (Compare Ge Binary) (col 2 2) (col 1 2) ∷ []
 
-pub vectors_behind_is : command_in (understood archive_schema vectors_behind_text)
+pub vectors_behind_is : (indexed : Bool)
+    → command_in (understood (archive_schema indexed) vectors_behind_text)
     ≡ Select (record { lets = []; body = lacking 1 6 [] behind_tests (col 1 1 ∷ []) })
     (codes "origin" ∷ [])
 unfolding understood everything
-vectors_behind_is = refl
+vectors_behind_is indexed = refl
 
 -- ---- lists
 
@@ -482,12 +484,12 @@ module _ (db : Trees) where
       (all_unmap (λ c. list_any (reaches c) (map vector_columns (db 6)) ≡ true) columns_of (db 1)
       all)
 
-module _ (d : Database) (has : d.schema ≡ archive_schema) where
+module _ (d : Database) (has : IsArchiveSchema d.schema) where
   pub vectors_stand_of : IsSound d.schema d.trees → AllByRecursion IsCells (cells (d.trees 1))
       → ShowsOf vectors_stray_text d [] → AreNumbered (d.trees 6) → AreOfRecords d.trees
   vectors_stand_of sound typed none ids =
       all_of_records d.trees typed
-      (typed_vectors d.trees (subst (λ s. IsSound s d.trees) has sound) ids)
+      (typed_vectors has.0 d.trees (subst (λ s. IsSound s d.trees) has.1 sound) ids)
       (met_all (λ v. list_any (stands_for d.trees v) (d.trees 1)) (d.trees 6)
       (none_lack vectors_stray_text 6 1 [] stray_tests (col 1 0 ∷ []) _ vectors_stray_is d has
       none))
@@ -509,6 +511,7 @@ module _ (d : Database) (has : d.schema ≡ archive_schema) where
   pub vectors_behind_some : IsFilled d.trees → ShowsSome vectors_behind_text d
       → HasVectors d.trees → ⊥
   vectors_behind_some filled some kept =
-      some_lack vectors_behind_text 1 6 [] behind_tests (col 1 1 ∷ []) _ vectors_behind_is d has some
+      some_lack vectors_behind_text 1 6 [] behind_tests
+      (col 1 1 ∷ []) _ vectors_behind_is d has some
       (all_asked (λ r. list_any (reaches_row d.trees r) (d.trees 6)) (d.trees 1)
       (all_reach d.trees (kept_reach d.trees filled kept)))

@@ -29,7 +29,7 @@ use Rattle.sql_tables.specs.Words.{cells}
 use Rattle.sql_tables.specs.Rows.{row_of, content_in, IsFilled, AreRecords}
 use Rattle.sql_tables.specs.Derived.{AreKept, IsNextRow}
 use Rattle.sql_tables.specs.State as state
-use Rattle.sql_tables.specs.State.{Idles, KeepsState, LeavesUnchanged}
+use Rattle.sql_tables.specs.State.{IdlesOn, KeepsState, LeavesUnchanged}
 use Rattle.sql_tables.specs.Learning.{Stored, Follows, Learned, IsCommitOf, IsLast, beyond, reached, is_added}
 use Rattle.sql_tables.proofs.RowLemmas.{content_is}
 use Rattle.sql_tables.proofs.KeptLemmas.{next_row}
@@ -124,7 +124,7 @@ judged_only a b r told filled kept early asked none = record {
       let is = asked.answer clean in
       let same = same_trees a b s in (
         is,
-        s.idles,
+        record { idles = s.idles; schema = ap (λ (d : Database). d.schema) s.same },
         record {
           filled = subst IsFilled (sym same) (filled (early clean));
           kept = subst AreKept (sym same) (kept (early clean));
@@ -149,12 +149,12 @@ next_by a b r told asked some clean =
 
 pub stored_as : (a b : State) (r : Record) (row : Row) (result : Result Unit StoreFault)
     → row ≡ row_of r → (HasCleanDisk b
-    → OnOk result (Idles b × state.Adds row a.now.trees b.now.trees))
+    → OnOk result (IdlesOn a b × state.Adds row a.now.trees b.now.trees))
     → (HasCleanDisk b → IfErr result (λ fault. fault ≢ Broken → KeepsState a b))
     → IfErr result (λ fault. IsOfOpening fault → ⊥) → Survives a b (state.Adds row a.now.trees)
     → Stored a b r result
 stored_as a b r row result is added refused met crash = record {
-  added = λ clean. subst (λ x. OnOk result (Idles b × state.Adds x a.now.trees b.now.trees)) is
+  added = λ clean. subst (λ x. OnOk result (IdlesOn a b × state.Adds x a.now.trees b.now.trees)) is
       (added clean);
   kept = λ clean ok. kept result ok (refused clean);
   met = met;
@@ -199,7 +199,7 @@ pub judged_then : (a b c : State) (r : Record) (told : Result Bool LearnFault)
     (result : Result (Result Bool LearnFault) StoreFault) → (HasCleanDisk c → HasCleanDisk b)
     → LeavesUnchanged a b (Ok told) (Judges a r) → Learned b c r result → Learned a c r result
 judged_then a b c r told result early asked one = record {
-  answered = λ clean. go result (same clean) (one.answered clean);
+  answered = λ clean. go result ((asked.kept (early clean) refl).same) (one.answered clean);
   kept = λ clean ok. kept result (λ s.
       record { idles = s.idles; same = s.same ∙ (asked.kept (early clean) refl).same })
       (one.kept clean ok);
@@ -211,15 +211,15 @@ judged_then a b c r told result early asked one = record {
     same : HasCleanDisk c → b.now.trees ≡ a.now.trees
     same clean = same_trees a b (asked.kept (early clean) refl)
 
-    go : (x : Result (Result Bool LearnFault) StoreFault) → b.now.trees ≡ a.now.trees
-        → IfOk x (λ t. (t ≡ answer_to (finding (content_in b.now.trees) r)) × Idles c
+    go : (x : Result (Result Bool LearnFault) StoreFault) → b.now ≡ a.now
+        → IfOk x (λ t. (t ≡ answer_to (finding (content_in b.now.trees) r)) × IdlesOn b c
         × Follows r b.now.trees c.now.trees)
-        → IfOk x (λ t. (t ≡ answer_to (finding (content_in a.now.trees) r)) × Idles c
+        → IfOk x (λ t. (t ≡ answer_to (finding (content_in a.now.trees) r)) × IdlesOn a c
         × Follows r a.now.trees c.now.trees)
     go (Ok t) e h = (
-      h.0 ∙ ap (λ d. answer_to (finding (content_in d) r)) e,
-      h.1,
-      subst (λ d. Follows r d c.now.trees) e h.2,
+      h.0 ∙ ap (λ (d : Database). answer_to (finding (content_in d.trees) r)) e,
+      record { idles = h.1.idles; schema = h.1.schema ∙ ap (λ (d : Database). d.schema) e },
+      subst (λ (d : Database). Follows r d.trees c.now.trees) e h.2,
     )
     go (Err f) e h = tt
 

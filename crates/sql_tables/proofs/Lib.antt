@@ -6,6 +6,7 @@ pub mod DerivedLemmas
 pub mod RemoveLemmas
 pub mod ChangeLemmas
 pub mod MadeLemmas
+pub mod IndexLemmas
 pub mod RaiseLemmas
 pub mod KeepLemmas
 pub mod KeptLemmas

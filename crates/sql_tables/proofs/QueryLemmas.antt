@@ -36,7 +36,7 @@ use Rattle.sqlite.specs.Listing.{understood, reads_listing, IsSourceOf}
 use Rattle.sqlite.specs.State.{State, Shown, Begins, IsStatement, ShowsRows, IsUnchanged}
 use Rattle.sqlite.specs.Clock.{timed}
 use Rattle.sqlite.proofs.Callers.{IsPlain, EndsIn, command_of, reads_as, begins_shown}
-use Rattle.sql_schema.specs.Tables.{archive_schema}
+use Rattle.sql_schema.specs.Tables.{archive_schema, IsArchiveSchema}
 use Rattle.sql_tables.specs.Words.{columns_of, cells, is_at, is_named, is_behind, is_after, is_before, IsPage, name_order, moment_order, row_stamp_cmp}
 use Rattle.sql_tables.specs.State.{AreAt, HasMeta, shown_of}
 use Rattle.sql_tables.specs.Rows.{meta_columns, meta_cells}
@@ -171,15 +171,15 @@ by_stamp = (col 1 3, ascending Binary) ∷ (col 1 1, ascending Binary) ∷ []
 abbrev pub all_rows : Term
 all_rows = lit (Int (negsuc 0))
 
-at_is : (command_of (understood archive_schema at_text)
+at_is : (indexed : Bool) → (command_of (understood (archive_schema indexed) at_text)
     ≡ Select (record { lets = []; body = simple 1 at_tests each by_stamp all_rows }) names)
-    × (reads_listing archive_schema at_text ≡ false)
+    × (reads_listing (archive_schema indexed) at_text ≡ false)
 unfolding understood everything
-at_is = (refl, refl)
+at_is indexed = (refl, refl)
 
-pub at_plain : IsPlain (understood archive_schema at_text)
+pub at_plain : (indexed : Bool) → IsPlain (understood (archive_schema indexed) at_text)
 unfolding understood everything
-at_plain = (refl, refl)
+at_plain indexed = (refl, refl)
 
 truly : (b : Bool) → is_true (from_truth (Some b)) ≡ b
 truly true = refl
@@ -210,12 +210,13 @@ one_true false = refl
 
 -- the rows of this node, time and picoseconds, by stamp
 pub finds_at : (old new : State) (node : List ℕ) (time pico : ℤ) (rows : List Row)
-    → old.now.schema ≡ archive_schema
+    → IsArchiveSchema old.now.schema
     → Shown at_text (Blob node ∷ Int time ∷ Int pico ∷ []) old new rows
     → AreAt node time pico old rows
 finds_at old new node time pico rows has h =
     let params = Blob node ∷ Int time ∷ Int pico ∷ [] in
-    let got = reads_as at_text params old new archive_schema has _ at_is.0 at_plain at_is.1 rows h
+    let got = reads_as at_text params old new (archive_schema has.0) has.1 _ (at_is has.0).0
+    (at_plain has.0) (at_is has.0).1 rows h
     in
     let all = answered 1 at_tests each by_stamp all_rows params columns_of (is_at node time pico)
     (λ c. column c 2 ∷ column c 0 ∷ []) (λ r. refl)
@@ -275,20 +276,20 @@ IsAllIn schema = (command_of (understood schema all_text)
     ≡ Select (record { lets = []; body = simple 1 [] each by_name all_rows }) names)
     × (reads_listing schema all_text ≡ false) × IsPlain (understood schema all_text)
 
-all_is : IsAllIn archive_schema
+all_is : (indexed : Bool) → IsAllIn (archive_schema indexed)
 unfolding understood everything
-all_is = (refl, refl, (refl, refl))
+all_is indexed = (refl, refl, (refl, refl))
 
-all_in : (schema : Schema) → schema ≡ archive_schema → IsAllIn schema
-all_in schema is = subst IsAllIn (sym is) all_is
+all_in : (schema : Schema) → IsArchiveSchema schema → IsAllIn schema
+all_in schema is = subst IsAllIn (sym is.1) (all_is is.0)
 
-pub all_plain : (schema : Schema) → schema ≡ archive_schema → IsPlain (understood schema all_text)
+pub all_plain : (schema : Schema) → IsArchiveSchema schema → IsPlain (understood schema all_text)
 all_plain schema known = (all_in schema known).2
 
 pub every : (rows : List Row) → filter (λ _. true) rows ≡ rows
 every rows = filter_all (λ _. true) rows (all_of (λ _. true ≡ true) (λ _. refl) rows)
 
-pub finds_all : (old new : State) (rows : List Row) → old.now.schema ≡ archive_schema
+pub finds_all : (old new : State) (rows : List Row) → IsArchiveSchema old.now.schema
     → Shown all_text [] old new rows → IsPermutation (cells (old.now.trees 1)) rows
 finds_all old new rows has h =
     let got = reads_as all_text [] old new old.now.schema refl _ (all_in old.now.schema has).0
@@ -301,7 +302,7 @@ finds_all old new rows has h =
     (subst (IsPermutation (filter (λ _. true) (cells (old.now.trees 1)))) (sym same) all.1)
 
 -- by name
-pub finds_in_order : (old new : State) (rows : List Row) → old.now.schema ≡ archive_schema
+pub finds_in_order : (old new : State) (rows : List Row) → IsArchiveSchema old.now.schema
     → Shown all_text [] old new rows
     → IsPermutation (cells (old.now.trees 1)) rows × IsSorted name_order rows
 finds_in_order old new rows has h =
@@ -319,7 +320,7 @@ finds_in_order old new rows has h =
     (finds_all old new rows has h, subst (IsSorted name_order) (sym same) sorted)
 
 -- no more than the first rows need be read
-pub begins_named : (s : State) (rows : List Row) → s.now.schema ≡ archive_schema → IsUnchanged s s
+pub begins_named : (s : State) (rows : List Row) → IsArchiveSchema s.now.schema → IsUnchanged s s
     → Begins all_text [] s rows
     → (rest : List Row) × IsPermutation (cells (s.now.trees 1)) (rows ++ rest)
     × IsSorted name_order (rows ++ rest)
@@ -379,23 +380,24 @@ finds_whose old new rows has h =
 abbrev named_tests : List Term
 named_tests = eq (col 1 1) (col 0 0) ∷ eq (col 1 2) (col 0 1) ∷ []
 
-named_is : (command_of (understood archive_schema named_text)
+named_is : (indexed : Bool) → (command_of (understood (archive_schema indexed) named_text)
     ≡ Select (record { lets = []; body = simple 1 named_tests each [] all_rows }) names)
-    × (reads_listing archive_schema named_text ≡ false)
+    × (reads_listing (archive_schema indexed) named_text ≡ false)
 unfolding understood everything
-named_is = (refl, refl)
+named_is indexed = (refl, refl)
 
-pub named_plain : IsPlain (understood archive_schema named_text)
+pub named_plain : (indexed : Bool) → IsPlain (understood (archive_schema indexed) named_text)
 unfolding understood everything
-named_plain = (refl, refl)
+named_plain indexed = (refl, refl)
 
 pub finds_named : (old new : State) (origin number : ℤ) (rows : List Row)
-    → old.now.schema ≡ archive_schema → Shown named_text (Int origin ∷ Int number ∷ []) old new rows
+    → IsArchiveSchema old.now.schema → Shown named_text (Int origin ∷ Int number ∷ []) old new rows
     → IsPermutation (filter (is_named origin number) (cells (old.now.trees 1))) rows
 finds_named old new origin number rows has h =
     let params = Int origin ∷ Int number ∷ [] in
-    let got = reads_as named_text params old new archive_schema has _ named_is.0 named_plain
-    named_is.1 rows h in
+    let got = reads_as named_text params old new (archive_schema has.0) has.1 _ (named_is has.0).0
+    (named_plain has.0)
+    (named_is has.0).1 rows h in
     let all = answered 1 named_tests each [] all_rows params columns_of (is_named origin number)
     (λ c. []) (λ r. refl) (λ r.
     rw (equals (column r 1) (Int origin) refl, equals (column r 2) (Int number) refl)
@@ -412,23 +414,24 @@ last_tests = eq (col 1 0) (col 0 0) ∷ []
 abbrev last_terms : List Term
 last_terms = col 1 0 ∷ col 1 2 ∷ col 1 3 ∷ []
 
-last_is : (command_of (understood archive_schema last_text)
+last_is : (indexed : Bool) → (command_of (understood (archive_schema indexed) last_text)
     ≡ Select (record { lets = []; body = simple 6 last_tests last_terms [] all_rows })
     (codes "origin" ∷ codes "number" ∷ codes "tick" ∷ []))
-    × (reads_listing archive_schema last_text ≡ false)
+    × (reads_listing (archive_schema indexed) last_text ≡ false)
 unfolding understood everything
-last_is = (refl, refl)
+last_is indexed = (refl, refl)
 
-pub last_plain : IsPlain (understood archive_schema last_text)
+pub last_plain : (indexed : Bool) → IsPlain (understood (archive_schema indexed) last_text)
 unfolding understood everything
-last_plain = (refl, refl)
+last_plain indexed = (refl, refl)
 
-pub finds_last : (old new : State) (origin : ℤ) (rows : List Row) → old.now.schema ≡ archive_schema
+pub finds_last : (old new : State) (origin : ℤ) (rows : List Row) → IsArchiveSchema old.now.schema
     → Shown last_text (Int origin ∷ []) old new rows
     → IsPermutation (filter (is_vector_of origin) (map vector_columns (old.now.trees 6))) rows
 finds_last old new origin rows has h =
     let params = Int origin ∷ [] in
-    let got = reads_as last_text params old new archive_schema has _ last_is.0 last_plain last_is.1
+    let got = reads_as last_text params old new (archive_schema has.0) has.1 _ (last_is has.0).0
+    (last_plain has.0) (last_is has.0).1
     rows h in
     let all = answered 6 last_tests last_terms [] all_rows params vector_columns
     (is_vector_of origin) (λ c. []) (λ r. refl) (λ r. one_true _) old.now.trees rows
@@ -442,25 +445,26 @@ finds_last old new origin rows has h =
 abbrev since_tests : List Term
 since_tests = eq (col 1 1) (col 0 0) ∷ op2 (Compare Gt Binary) (col 1 2) (col 0 1) ∷ []
 
-since_is : (command_of (understood archive_schema since_text)
+since_is : (indexed : Bool) → (command_of (understood (archive_schema indexed) since_text)
     ≡ Select (record { lets = []; body = simple 1 since_tests each by_name (col 0 2) }) names)
-    × (reads_listing archive_schema since_text ≡ false)
+    × (reads_listing (archive_schema indexed) since_text ≡ false)
 unfolding understood everything
-since_is = (refl, refl)
+since_is indexed = (refl, refl)
 
-pub since_plain : IsPlain (understood archive_schema since_text)
+pub since_plain : (indexed : Bool) → IsPlain (understood (archive_schema indexed) since_text)
 unfolding understood everything
-since_plain = (refl, refl)
+since_plain indexed = (refl, refl)
 
 pub finds_since : (old new : State) (origin number limit : ℤ) (rows : List Row)
-    → old.now.schema ≡ archive_schema
+    → IsArchiveSchema old.now.schema
     → Shown since_text (Int origin ∷ Int number ∷ Int limit ∷ []) old new rows
     → IsPage (is_behind origin number) name_order (as_count (Int limit))
     (cells (old.now.trees 1)) rows
 finds_since old new origin number limit rows has h =
     let params = Int origin ∷ Int number ∷ Int limit ∷ [] in
-    let got = reads_as since_text params old new archive_schema has _ since_is.0 since_plain
-    since_is.1 rows h in
+    let got = reads_as since_text params old new (archive_schema has.0) has.1 _ (since_is has.0).0
+    (since_plain has.0)
+    (since_is has.0).1 rows h in
     let all = answered 1 since_tests each by_name (col 0 2) params columns_of
     (is_behind origin number) (λ c. column c 0 ∷ column c 1 ∷ []) (λ r. refl)
     (λ r. rw (equals (column r 1) (Int origin) refl) (both_true _ _)) old.now.trees rows
@@ -498,25 +502,25 @@ up_moment = (col 1 5, ascending Binary) ∷ (col 1 6, ascending Binary) ∷ (col
 abbrev down_moment : List (Term × Key)
 down_moment = (col 1 5, down) ∷ (col 1 6, down) ∷ (col 1 3, down) ∷ (col 1 1, down) ∷ []
 
-after_is : (command_of (understood archive_schema after_text)
+after_is : (indexed : Bool) → (command_of (understood (archive_schema indexed) after_text)
     ≡ Select (record { lets = []; body = simple 1 after_tests each up_moment (col 0 3) }) names)
-    × (reads_listing archive_schema after_text ≡ false)
+    × (reads_listing (archive_schema indexed) after_text ≡ false)
 unfolding understood everything
-after_is = (refl, refl)
+after_is indexed = (refl, refl)
 
-pub after_plain : IsPlain (understood archive_schema after_text)
+pub after_plain : (indexed : Bool) → IsPlain (understood (archive_schema indexed) after_text)
 unfolding understood everything
-after_plain = (refl, refl)
+after_plain indexed = (refl, refl)
 
-before_is : (command_of (understood archive_schema before_text)
+before_is : (indexed : Bool) → (command_of (understood (archive_schema indexed) before_text)
     ≡ Select (record { lets = []; body = simple 1 before_tests each down_moment (col 0 3) }) names)
-    × (reads_listing archive_schema before_text ≡ false)
+    × (reads_listing (archive_schema indexed) before_text ≡ false)
 unfolding understood everything
-before_is = (refl, refl)
+before_is indexed = (refl, refl)
 
-pub before_plain : IsPlain (understood archive_schema before_text)
+pub before_plain : (indexed : Bool) → IsPlain (understood (archive_schema indexed) before_text)
 unfolding understood everything
-before_plain = (refl, refl)
+before_plain indexed = (refl, refl)
 
 abbrev by_moment : Row → Row
 by_moment c = column c 4 ∷ column c 5 ∷ column c 2 ∷ column c 0 ∷ []
@@ -528,14 +532,15 @@ last_of_four a b c d = ap (λ o. ordering_then a (ordering_then b (ordering_then
     (then-Equal d)
 
 pub finds_after : (old new : State) (node : List ℕ) (time pico count : ℤ) (rows : List Row)
-    → old.now.schema ≡ archive_schema
+    → IsArchiveSchema old.now.schema
     → Shown after_text (Blob node ∷ Int time ∷ Int pico ∷ Int count ∷ []) old new rows
     → IsPage (is_after node time pico) moment_order (as_count (Int count))
     (cells (old.now.trees 1)) rows
 finds_after old new node time pico count rows has h =
     let params = Blob node ∷ Int time ∷ Int pico ∷ Int count ∷ [] in
-    let got = reads_as after_text params old new archive_schema has _ after_is.0 after_plain
-    after_is.1 rows h in
+    let got = reads_as after_text params old new (archive_schema has.0) has.1 _ (after_is has.0).0
+    (after_plain has.0)
+    (after_is has.0).1 rows h in
     let all = answered 1 after_tests each up_moment (col 0 3) params columns_of
     (is_after node time pico) by_moment (λ r. refl)
     (λ r. rw (equals (column r 4) (Blob node) refl)
@@ -553,14 +558,15 @@ finds_after old new node time pico count rows has h =
     }
 
 pub finds_before : (old new : State) (node : List ℕ) (time pico count : ℤ) (rows : List Row)
-    → old.now.schema ≡ archive_schema
+    → IsArchiveSchema old.now.schema
     → Shown before_text (Blob node ∷ Int time ∷ Int pico ∷ Int count ∷ []) old new rows
     → IsPage (is_before node time pico) (λ a b. moment_order b a) (as_count (Int count))
     (cells (old.now.trees 1)) rows
 finds_before old new node time pico count rows has h =
     let params = Blob node ∷ Int time ∷ Int pico ∷ Int count ∷ [] in
-    let got = reads_as before_text params old new archive_schema has _ before_is.0 before_plain
-    before_is.1 rows h in
+    let got = reads_as before_text params old new (archive_schema has.0) has.1 _ (before_is has.0).0
+    (before_plain has.0)
+    (before_is has.0).1 rows h in
     let all = answered 1 before_tests each down_moment (col 0 3) params columns_of
     (is_before node time pico) by_moment (λ r. refl)
     (λ r. rw (equals (column r 4) (Blob node) refl)
@@ -612,33 +618,37 @@ up_time = (col 1 2, ascending Binary) ∷ (col 1 3, ascending Binary) ∷ []
 abbrev down_time : List (Term × Key)
 down_time = (col 1 2, down) ∷ (col 1 3, down) ∷ []
 
-lives_after_is : (command_of (understood archive_schema lives_after_text)
+lives_after_is : (indexed : Bool) → (command_of
+    (understood (archive_schema indexed) lives_after_text)
     ≡ Select (record {
       lets = [];
       body =
           simple 4 lives_after_tests value_terms up_time (col 0 5);
     }) value_names)
-    × (reads_listing archive_schema lives_after_text ≡ false)
+    × (reads_listing (archive_schema indexed) lives_after_text ≡ false)
 unfolding understood everything
-lives_after_is = (refl, refl)
+lives_after_is indexed = (refl, refl)
 
-pub lives_after_plain : IsPlain (understood archive_schema lives_after_text)
+pub lives_after_plain : (indexed : Bool)
+    → IsPlain (understood (archive_schema indexed) lives_after_text)
 unfolding understood everything
-lives_after_plain = (refl, refl)
+lives_after_plain indexed = (refl, refl)
 
-lives_before_is : (command_of (understood archive_schema lives_before_text)
+lives_before_is : (indexed : Bool)
+    → (command_of (understood (archive_schema indexed) lives_before_text)
     ≡ Select (record {
       lets = [];
       body =
           simple 4 lives_before_tests value_terms down_time (col 0 5);
     }) value_names)
-    × (reads_listing archive_schema lives_before_text ≡ false)
+    × (reads_listing (archive_schema indexed) lives_before_text ≡ false)
 unfolding understood everything
-lives_before_is = (refl, refl)
+lives_before_is indexed = (refl, refl)
 
-pub lives_before_plain : IsPlain (understood archive_schema lives_before_text)
+pub lives_before_plain : (indexed : Bool)
+    → IsPlain (understood (archive_schema indexed) lives_before_text)
 unfolding understood everything
-lives_before_plain = (refl, refl)
+lives_before_plain indexed = (refl, refl)
 
 abbrev by_time : Row → Row
 by_time c = column c 1 ∷ column c 2 ∷ []
@@ -648,15 +658,16 @@ last_of_two : (a b : Ordering) → ordering_then a (ordering_then b Ordering.Equ
 last_of_two a b = ap (ordering_then a) (then-Equal b)
 
 pub finds_lives_after : (old new : State) (node : List ℕ) (time pico far far_pico count : ℤ)
-    (rows : List Row) → old.now.schema ≡ archive_schema
+    (rows : List Row) → IsArchiveSchema old.now.schema
     → Shown lives_after_text (Blob node ∷ Int time ∷ Int pico ∷ Int far ∷ Int far_pico ∷ Int count
     ∷ []) old new rows
     → ShowValues (IsPage (is_live_after node time pico far far_pico) current_order
     (as_count (Int count)) (map current_columns (old.now.trees 4))) rows
 finds_lives_after old new node time pico far far_pico count rows has h =
     let params = Blob node ∷ Int time ∷ Int pico ∷ Int far ∷ Int far_pico ∷ Int count ∷ [] in
-    let got = reads_as lives_after_text params old new archive_schema has _ lives_after_is.0
-    lives_after_plain lives_after_is.1 rows h in
+    let got = reads_as lives_after_text params old new (archive_schema has.0) has.1 _
+    (lives_after_is has.0).0
+    (lives_after_plain has.0) (lives_after_is has.0).1 rows h in
     let all = answered_in_part 4 lives_after_tests value_terms up_time (col 0 5) params
     current_columns value_columns (is_live_after node time pico far far_pico) by_time (λ r. refl)
     (λ r. rw (
@@ -680,15 +691,16 @@ finds_lives_after old new node time pico far far_pico count rows has h =
     }
 
 pub finds_lives_before : (old new : State) (node : List ℕ) (time pico far far_pico count : ℤ)
-    (rows : List Row) → old.now.schema ≡ archive_schema
+    (rows : List Row) → IsArchiveSchema old.now.schema
     → Shown lives_before_text (Blob node ∷ Int time ∷ Int pico ∷ Int far ∷ Int far_pico ∷ Int count
     ∷ []) old new rows
     → ShowValues (IsPage (is_live_before node time pico far far_pico)
     (λ a b. current_order b a) (as_count (Int count)) (map current_columns (old.now.trees 4))) rows
 finds_lives_before old new node time pico far far_pico count rows has h =
     let params = Blob node ∷ Int time ∷ Int pico ∷ Int far ∷ Int far_pico ∷ Int count ∷ [] in
-    let got = reads_as lives_before_text params old new archive_schema has _ lives_before_is.0
-    lives_before_plain lives_before_is.1 rows h in
+    let got = reads_as lives_before_text params old new (archive_schema has.0) has.1 _
+    (lives_before_is has.0).0
+    (lives_before_plain has.0) (lives_before_is has.0).1 rows h in
     let all = answered_in_part 4 lives_before_tests value_terms down_time (col 0 5) params
     current_columns value_columns (is_live_before node time pico far far_pico) by_time (λ r. refl)
     (λ r. rw (

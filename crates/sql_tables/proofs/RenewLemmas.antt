@@ -32,7 +32,7 @@ use Rattle.sqlite.specs.declared.error.Error.{Error}
 use Rattle.sqlite.proofs.Callers.{IsPlain, command_of, statement_of, runs_as}
 use Rattle.sql_schema.specs.Tables.{archive_schema, third_table}
 use Rattle.sql_tables.specs.Words.{cells, cells_of}
-use Rattle.sql_tables.specs.State.{Making}
+use Rattle.sql_tables.specs.State.{MakingArchive}
 use Rattle.sql_tables.specs.Derived.{AreNumbered, IsCells, current_of, currents_of, current_columns, flag, is_current_of, is_later, same}
 use Rattle.sql_tables.specs.Keeping.{KeepsBesideCurrents, KeepsTables, Renews, is_beside, HasOneBeside, HasLaterBeside, RaisesOne, TakesIn}
 use Rattle.sql_tables.proofs.Texts.{raise_current_text, mark_current_text}
@@ -100,8 +100,9 @@ abbrev writes : List Term → List Term → Program
 writes tests terms = record { lets = []; body = asking (inner 4 end) tests terms [] }
 
 -- what an UPDATE of the rows of currents2 leaves that pass
-module _ (tests terms : List Term) (params : Row) (db : Trees) (tally : Tally) (after : Database)
-    (it : Sets third_table (writes tests terms) params db tally after) (p : Row → Bool)
+module _ {indexed : Bool} (tests terms : List Term) (params : Row) (db : Trees) (tally : Tally)
+    (after : Database)
+    (it : Sets indexed third_table (writes tests terms) params db tally after) (p : Row → Bool)
     (alike : (r : Row) → list_all (holds (params ∷ r ∷ [])) tests ≡ p (current_columns r))
     (keyed : (r : Row) → rowid (eval_all terms (params ∷ r ∷ [])) ≡ rowid r) where
   abbrev passes : Row → Bool
@@ -228,14 +229,14 @@ abbrev raise_terms : List Term
 raise_terms = col 1 0 ∷ col 1 0 ∷ col 1 1 ∷ col 1 2 ∷ col 1 3 ∷ col 0 3 ∷ col 0 4
     ∷ op2 (Compare Ne Binary) (col 0 5) (lit (Int (pos 4))) ∷ lit (Int (pos 1)) ∷ col 0 6 ∷ []
 
-raise_is : command_of (understood archive_schema raise_current_text)
+raise_is : (indexed : Bool) → command_of (understood (archive_schema indexed) raise_current_text)
     ≡ Update 2 (writes raise_tests raise_terms)
 unfolding understood everything
-raise_is = refl
+raise_is indexed = refl
 
-raise_plain : IsPlain (understood archive_schema raise_current_text)
+raise_plain : (indexed : Bool) → IsPlain (understood (archive_schema indexed) raise_current_text)
 unfolding understood everything
-raise_plain = (refl, refl)
+raise_plain indexed = (refl, refl)
 
 abbrev mark_tests : List Term
 mark_tests = moment_tests ++ op2 (Compare Ge Binary) (col 1 4) (col 0 3)
@@ -246,14 +247,14 @@ abbrev mark_terms : List Term
 mark_terms = col 1 0 ∷ col 1 0 ∷ col 1 1 ∷ col 1 2 ∷ col 1 3 ∷ col 1 4 ∷ col 1 5 ∷ col 1 6
     ∷ lit (Int (pos 1)) ∷ col 1 8 ∷ []
 
-mark_is : command_of (understood archive_schema mark_current_text)
+mark_is : (indexed : Bool) → command_of (understood (archive_schema indexed) mark_current_text)
     ≡ Update 2 (writes mark_tests mark_terms)
 unfolding understood everything
-mark_is = refl
+mark_is indexed = refl
 
-mark_plain : IsPlain (understood archive_schema mark_current_text)
+mark_plain : (indexed : Bool) → IsPlain (understood (archive_schema indexed) mark_current_text)
 unfolding understood everything
-mark_plain = (refl, refl)
+mark_plain indexed = (refl, refl)
 
 module _ (origin number tick : ℤ) (node : List ℕ) (time pico asked : ℤ) (who value : List ℕ) where
   abbrev row : Row
@@ -334,120 +335,128 @@ module _ (origin number tick : ℤ) (node : List ℕ) (time pico asked : ℤ) (w
       (as_whole (column r 3) k.pico k.pico_is) (as_whole (column r 4) k.tick k.tick_is)
       (as_whole (column r 5) k.origin k.origin_is) k.live_is (cast_int (pos 1)) refl
 
-  module _ (db : Trees) (tally : Tally) (after : Database)
-      (it : Sets third_table (writes raise_tests raise_terms) raise_params db tally after) where
-    raises : (count : ℕ) → count ≡ unwrap_or tally.rows 0 → Renews count row db after.trees
-    raises count counted = record {
-      none = λ e. none_written raise_tests raise_terms raise_params db tally after it later
-          raise_alike (λ r. refl) (sym many ∙ e);
-      one = λ e. record {
-        rest = rest raise_tests raise_terms raise_params db tally after it later raise_alike
-            (λ r. refl);
-        follow = λ a.
-            let single = sym many ∙ e in
-            let rows = ours raise_tests raise_terms raise_params db tally after it later raise_alike
-            (λ r. refl) in
-            let kinds = ours_kinds raise_tests raise_terms raise_params db tally after it later
-            raise_alike (λ r. refl)
-            (have_kinds a.others (map current_columns (db 4)) a.typed a.currents) in
-            let wrote = map_alike (λ r. current_columns (cast_row third_table
-            (drop 1 (eval_all raise_terms (raise_params ∷ r ∷ []))))) (λ _. new_current) rows
-            (all_weaker (λ r. HasKinds (current_columns r) × (later (current_columns r) ≡ true))
-            (λ r. current_columns (cast_row third_table
-            (drop 1 (eval_all raise_terms (raise_params ∷ r ∷ [])))) ≡ new_current)
-            (λ r k. raise_written db r k.0 k.1) rows kinds)
-            ∙ single_by new_current rows (many_ours raise_tests raise_terms raise_params db tally
-            after it later raise_alike (λ r. refl) ∙ single) in (
-              raise_follows origin number tick node time pico asked who value a.others
-                  (cells (db 1)) (map current_columns (db 4)) (map current_columns (after.trees 4))
-                  a.records a.typed a.currents
-                  (one_held raise_tests raise_terms raise_params db tally after it later raise_alike
-                  (λ r. refl) single)
-                  (written raise_tests raise_terms raise_params db tally after it later raise_alike
-                  (λ r. refl) a.numbered (new_current ∷ []) wrote),
-              still_numbered raise_tests raise_terms raise_params db tally after it later
-                  raise_alike
-                  (λ r. refl) a.numbered,
-            );
-      };
-    }
-      where
-        many : count ≡ length it.rows
-        many = as_many raise_tests raise_terms raise_params db tally after it later raise_alike
-            (λ r. refl) count counted
+  module _ {indexed : Bool} (db : Trees) (tally : Tally) (after : Database)
+      (it : Sets indexed third_table (writes raise_tests raise_terms) raise_params db tally after)
+    where
+      raises : (count : ℕ) → count ≡ unwrap_or tally.rows 0 → Renews count row db after.trees
+      raises count counted = record {
+        none = λ e. none_written raise_tests raise_terms raise_params db tally after it later
+            raise_alike (λ r. refl) (sym many ∙ e);
+        one = λ e. record {
+          rest = rest raise_tests raise_terms raise_params db tally after it later raise_alike
+              (λ r. refl);
+          follow = λ a.
+              let single = sym many ∙ e in
+              let rows = ours raise_tests raise_terms raise_params db tally after it later raise_alike
+              (λ r. refl) in
+              let kinds = ours_kinds raise_tests raise_terms raise_params db tally after it later
+              raise_alike (λ r. refl)
+              (have_kinds a.others (map current_columns (db 4)) a.typed a.currents) in
+              let wrote = map_alike (λ r. current_columns (cast_row third_table
+              (drop 1 (eval_all raise_terms (raise_params ∷ r ∷ []))))) (λ _. new_current) rows
+              (all_weaker (λ r. HasKinds (current_columns r) × (later (current_columns r) ≡ true))
+              (λ r. current_columns (cast_row third_table
+              (drop 1 (eval_all raise_terms (raise_params ∷ r ∷ [])))) ≡ new_current)
+              (λ r k. raise_written db r k.0 k.1) rows kinds)
+              ∙ single_by new_current rows (many_ours raise_tests raise_terms raise_params db tally
+              after it later raise_alike (λ r. refl) ∙ single) in (
+                raise_follows origin number tick node time pico asked who value a.others
+                    (cells (db 1)) (map current_columns (db 4)) (map current_columns (after.trees 4))
+                    a.records a.typed a.currents
+                    (one_held raise_tests raise_terms raise_params db tally after it later raise_alike
+                    (λ r. refl) single)
+                    (written raise_tests raise_terms raise_params db tally after it later raise_alike
+                    (λ r. refl) a.numbered (new_current ∷ []) wrote),
+                still_numbered raise_tests raise_terms raise_params db tally after it later
+                    raise_alike
+                    (λ r. refl) a.numbered,
+              );
+        };
+      }
+        where
+          many : count ≡ length it.rows
+          many = as_many raise_tests raise_terms raise_params db tally after it later raise_alike
+              (λ r. refl) count counted
 
-  module _ (db : Trees) (tally : Tally) (after : Database)
-      (it : Sets third_table (writes mark_tests mark_terms) mark_params db tally after) where
-    marks : (count : ℕ) → count ≡ unwrap_or tally.rows 0 → Renews count row db after.trees
-    marks count counted = record {
-      none = λ e. none_written mark_tests mark_terms mark_params db tally after it earlier
-          mark_alike (λ r. refl) (sym many ∙ e);
-      one = λ e. record {
-        rest = rest mark_tests mark_terms mark_params db tally after it earlier mark_alike
-            (λ r. refl);
-        follow = λ a.
-            let single = sym many ∙ e in
-            let rows = ours mark_tests mark_terms mark_params db tally after it earlier mark_alike
-            (λ r. refl) in
-            let kinds = ours_kinds mark_tests mark_terms mark_params db tally after it earlier
-            mark_alike (λ r. refl)
-            (have_kinds a.others (map current_columns (db 4)) a.typed a.currents) in
-            let wrote = map_alike (λ r. current_columns (cast_row third_table
-            (drop 1 (eval_all mark_terms (mark_params ∷ r ∷ [])))))
-            (λ r. with_mark (current_columns r)) rows
-            (all_weaker (λ r. HasKinds (current_columns r) × (earlier (current_columns r) ≡ true))
-            (λ r. current_columns (cast_row third_table
-            (drop 1 (eval_all mark_terms (mark_params ∷ r ∷ [])))) ≡ with_mark (current_columns r))
-            (λ r k. mark_written r k.0) rows kinds)
-            ∙ sym (map-map with_mark current_columns rows)
-            ∙ ap (map with_mark) (ours_held mark_tests mark_terms mark_params db tally after it
-            earlier mark_alike (λ r. refl)) in (
-              mark_follows origin number tick node time pico asked who value a.others
-                  (cells (db 1)) (map current_columns (db 4)) (map current_columns (after.trees 4))
-                  a.records a.typed a.currents
-                  (one_held mark_tests mark_terms mark_params db tally after it earlier mark_alike
-                  (λ r. refl) single)
-                  (written mark_tests mark_terms mark_params db tally after it earlier mark_alike
-                  (λ r. refl) a.numbered
-                  (map with_mark (filter earlier (map current_columns (db 4)))) wrote),
-              still_numbered mark_tests mark_terms mark_params db tally after it earlier mark_alike
-                  (λ r. refl) a.numbered,
-            );
-      };
-    }
-      where
-        many : count ≡ length it.rows
-        many = as_many mark_tests mark_terms mark_params db tally after it earlier mark_alike
-            (λ r. refl) count counted
+  module _ {indexed : Bool} (db : Trees) (tally : Tally) (after : Database)
+      (it : Sets indexed third_table (writes mark_tests mark_terms) mark_params db tally after)
+    where
+      marks : (count : ℕ) → count ≡ unwrap_or tally.rows 0 → Renews count row db after.trees
+      marks count counted = record {
+        none = λ e. none_written mark_tests mark_terms mark_params db tally after it earlier
+            mark_alike (λ r. refl) (sym many ∙ e);
+        one = λ e. record {
+          rest = rest mark_tests mark_terms mark_params db tally after it earlier mark_alike
+              (λ r. refl);
+          follow = λ a.
+              let single = sym many ∙ e in
+              let rows = ours mark_tests mark_terms mark_params db tally after it earlier mark_alike
+              (λ r. refl) in
+              let kinds = ours_kinds mark_tests mark_terms mark_params db tally after it earlier
+              mark_alike (λ r. refl)
+              (have_kinds a.others (map current_columns (db 4)) a.typed a.currents) in
+              let wrote = map_alike (λ r. current_columns (cast_row third_table
+              (drop 1 (eval_all mark_terms (mark_params ∷ r ∷ [])))))
+              (λ r. with_mark (current_columns r)) rows
+              (all_weaker (λ r. HasKinds (current_columns r) × (earlier (current_columns r) ≡ true))
+              (λ r. current_columns (cast_row third_table
+              (drop 1 (eval_all mark_terms (mark_params ∷ r ∷ [])))) ≡ with_mark (current_columns r))
+              (λ r k. mark_written r k.0) rows kinds)
+              ∙ sym (map-map with_mark current_columns rows)
+              ∙ ap (map with_mark) (ours_held mark_tests mark_terms mark_params db tally after it
+              earlier mark_alike (λ r. refl)) in (
+                mark_follows origin number tick node time pico asked who value a.others
+                    (cells (db 1)) (map current_columns (db 4)) (map current_columns (after.trees 4))
+                    a.records a.typed a.currents
+                    (one_held mark_tests mark_terms mark_params db tally after it earlier mark_alike
+                    (λ r. refl) single)
+                    (written mark_tests mark_terms mark_params db tally after it earlier mark_alike
+                    (λ r. refl) a.numbered
+                    (map with_mark (filter earlier (map current_columns (db 4)))) wrote),
+                still_numbered mark_tests mark_terms mark_params db tally after it earlier mark_alike
+                    (λ r. refl) a.numbered,
+              );
+        };
+      }
+        where
+          many : count ≡ length it.rows
+          many = as_many mark_tests mark_terms mark_params db tally after it earlier mark_alike
+              (λ r. refl) count counted
 
-  pub raises_current : (old new : State) (r : Result ℕ Error) → Making archive_schema old
+  pub raises_current : (old new : State) (r : Result ℕ Error) → MakingArchive old
       → ExecutesInside 0 raise_current_text raise_params old new r
-      → IfOk r (λ count. Making archive_schema new × (new.committed ≡ old.committed)
+      → IfOk r (λ count. MakingArchive new × (new.now.schema ≡ old.now.schema)
+      × (new.committed ≡ old.committed)
       × Renews count row old.now.trees new.now.trees)
   raises_current old new (Err e) was h = tt
   raises_current old new (Ok count) was h =
-      let w = runs_as raise_current_text raise_params old new archive_schema was.has
-      (Update 2 (writes raise_tests raise_terms)) raise_is raise_plain count h.0 in
+      let is = was.has in
+      let w = runs_as raise_current_text raise_params old new (archive_schema is.0) is.1
+      (Update 2 (writes raise_tests raise_terms)) (raise_is is.0) (raise_plain is.0) count h.0 in
       let it = set_currents old w.tally new.now (statement_of raise_current_text
-      (understood archive_schema raise_current_text)) raise_params was.has
+      (understood (archive_schema is.0) raise_current_text)) raise_params is.0 is.1
       (writes raise_tests raise_terms) w.changed in (
-        record { inside = h.1.mode; has = it.schema },
+        record { inside = h.1.mode; has = (is.0, it.schema) },
+        it.schema ∙ sym is.1,
         h.1.committed_is,
         raises old.now.trees w.tally new.now it count w.counted,
       )
 
-  pub marks_current : (old new : State) (r : Result ℕ Error) → Making archive_schema old
+  pub marks_current : (old new : State) (r : Result ℕ Error) → MakingArchive old
       → ExecutesInside 0 mark_current_text mark_params old new r
-      → IfOk r (λ count. Making archive_schema new × (new.committed ≡ old.committed)
+      → IfOk r (λ count. MakingArchive new × (new.now.schema ≡ old.now.schema)
+      × (new.committed ≡ old.committed)
       × Renews count row old.now.trees new.now.trees)
   marks_current old new (Err e) was h = tt
   marks_current old new (Ok count) was h =
-      let w = runs_as mark_current_text mark_params old new archive_schema was.has
-      (Update 2 (writes mark_tests mark_terms)) mark_is mark_plain count h.0 in
+      let is = was.has in
+      let w = runs_as mark_current_text mark_params old new (archive_schema is.0) is.1
+      (Update 2 (writes mark_tests mark_terms)) (mark_is is.0) (mark_plain is.0) count h.0 in
       let it = set_currents old w.tally new.now (statement_of mark_current_text
-      (understood archive_schema mark_current_text)) mark_params was.has
+      (understood (archive_schema is.0) mark_current_text)) mark_params is.0 is.1
       (writes mark_tests mark_terms) w.changed in (
-        record { inside = h.1.mode; has = it.schema },
+        record { inside = h.1.mode; has = (is.0, it.schema) },
+        it.schema ∙ sym is.1,
         h.1.committed_is,
         marks old.now.trees w.tally new.now it count w.counted,
       )
@@ -477,15 +486,16 @@ module _ (origin number tick : ℤ) (node : List ℕ) (time pico asked : ℤ) (w
           (map current_columns (db 4)) one.current one.only one.tick one.origin one.stamp.0
           one.stamp.1 below)
 
-  pub raises_one : (old new : State) (r : Result ℕ Error) → Making archive_schema old
+  pub raises_one : (old new : State) (r : Result ℕ Error) → MakingArchive old
       → ExecutesInside 0 raise_current_text raise_params old new r
       → IfOk r (λ count. RaisesOne count row old.now.trees)
   raises_one old new (Err e) was h = tt
   raises_one old new (Ok count) was h =
-      let w = runs_as raise_current_text raise_params old new archive_schema was.has
-      (Update 2 (writes raise_tests raise_terms)) raise_is raise_plain count h.0 in
+      let is = was.has in
+      let w = runs_as raise_current_text raise_params old new (archive_schema is.0) is.1
+      (Update 2 (writes raise_tests raise_terms)) (raise_is is.0) (raise_plain is.0) count h.0 in
       let it = set_currents old w.tally new.now (statement_of raise_current_text
-      (understood archive_schema raise_current_text)) raise_params was.has
+      (understood (archive_schema is.0) raise_current_text)) raise_params is.0 is.1
       (writes raise_tests raise_terms) w.changed in
       raised_one old.now.trees count
       (as_many raise_tests raise_terms raise_params old.now.trees w.tally new.now it later
@@ -493,15 +503,16 @@ module _ (origin number tick : ℤ) (node : List ℕ) (time pico asked : ℤ) (w
       ∙ sym (as_held raise_tests raise_terms raise_params old.now.trees w.tally new.now it later
       raise_alike (λ r. refl)))
 
-  pub marks_one : (old new : State) (r : Result ℕ Error) → Making archive_schema old
+  pub marks_one : (old new : State) (r : Result ℕ Error) → MakingArchive old
       → ExecutesInside 0 mark_current_text mark_params old new r
       → IfOk r (λ count. HasLaterBeside row old.now.trees → count ≡ 1)
   marks_one old new (Err e) was h = tt
   marks_one old new (Ok count) was h = λ one.
-      let w = runs_as mark_current_text mark_params old new archive_schema was.has
-      (Update 2 (writes mark_tests mark_terms)) mark_is mark_plain count h.0 in
+      let is = was.has in
+      let w = runs_as mark_current_text mark_params old new (archive_schema is.0) is.1
+      (Update 2 (writes mark_tests mark_terms)) (mark_is is.0) (mark_plain is.0) count h.0 in
       let it = set_currents old w.tally new.now (statement_of mark_current_text
-      (understood archive_schema mark_current_text)) mark_params was.has
+      (understood (archive_schema is.0) mark_current_text)) mark_params is.0 is.1
       (writes mark_tests mark_terms) w.changed in
       as_many mark_tests mark_terms mark_params old.now.trees w.tally new.now it earlier
       mark_alike (λ r. refl) count w.counted

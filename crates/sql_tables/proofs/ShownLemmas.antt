@@ -1,6 +1,6 @@
 -- What an opening asks of currents2.
 use Rattle.std.proofs.Common.{◌≡◌, ◌⊎◌, inl, inr, ℕ, ℤ, pos, not, ◌&&◌, ◌||◌, Bool, true, false, cond, List, [], ◌∷◌, map, filter, codes, Option, Some, None, unwrap_or, refl, sym, ap, ap₂, subst, ◌∙◌, arith}
-use Rattle.std.specs.List.{list_any, AllByRecursion}
+use Rattle.std.specs.List.{list_any, list_all, AllByRecursion}
 use Rattle.std.specs.Ordering.{int_cmp, is_ne}
 use Rattle.std.proofs.lemmas.Cmp.{tied_itself}
 use Rattle.std.proofs.lemmas.Int.{ints}
@@ -20,7 +20,7 @@ use Rattle.sqlite_sql.specs.declared.ops.CompareOp.TheVariants.{Eq, Ne, Gt}
 use Rattle.sqlite_schema.specs.declared.command.Command.TheVariants.{Select}
 use Rattle.sqlite_schema.specs.declared.schema.Constraint.TheVariants.{Unique}
 use Rattle.sqlite_schema.specs.declared.schema.Kind.TheVariants as kind
-use Rattle.sqlite_schema.specs.Rules.{is_of, passes, agree, clashes, differ}
+use Rattle.sqlite_schema.specs.Rules.{is_of, passes, guards, agree, clashes, differ}
 use Rattle.sqlite_trees.specs.Tree.{Trees, rowid}
 use Rattle.sqlite_trees.specs.View.{is_int}
 use Rattle.sqlite_rules.specs.Lists.{Has}
@@ -29,7 +29,7 @@ use Rattle.sqlite_tied.specs.Compute.{everything}
 use Rattle.sqlite.specs.Listing.{understood}
 use Rattle.sqlite.specs.Effect.{Database}
 use Rattle.sqlite_catalog.specs.Listing.{IsSound}
-use Rattle.sql_schema.specs.Tables.{archive_schema, third_table}
+use Rattle.sql_schema.specs.Tables.{archive_schema, IsArchiveSchema, live_indexes, third_table}
 use Rattle.sql_tables.specs.Words.{cells, columns_of}
 use Rattle.sql_tables.specs.Derived.{IsCells, is_later, is_other, same, above, flag, current_of, currents_of, current_columns}
 use Rattle.sql_tables.specs.Agreeing.{command_in, ShowsOf, ShowsSome, IsAt, IsStamped, IsShownBy, AreStamped, AreSingle, AreTelling, AreShown, HasCurrents}
@@ -52,11 +52,12 @@ at_current more = eq (col 2 4) (col 1 1) ∷ eq (col 2 5) (col 1 2) ∷ eq (col 
 abbrev pub stray_tests : List Term
 stray_tests = at_current (eq (col 2 3) (col 1 4) ∷ eq (col 2 1) (col 1 5) ∷ [])
 
-pub currents_stray_is : command_in (understood archive_schema currents_stray_text)
+pub currents_stray_is : (indexed : Bool)
+    → command_in (understood (archive_schema indexed) currents_stray_text)
     ≡ Select (record { lets = []; body = lacking 4 1 [] stray_tests (col 1 5 ∷ []) })
     (codes "origin" ∷ [])
 unfolding understood everything
-currents_stray_is = refl
+currents_stray_is indexed = refl
 
 -- it tells of others
 abbrev pub telling : List Term
@@ -67,11 +68,12 @@ abbrev pub alone_tests : List Term
 alone_tests = at_current (op2 Or (op2 (Compare Ne Binary) (col 2 3) (col 1 4))
     (op2 (Compare Ne Binary) (col 2 1) (col 1 5)) ∷ [])
 
-pub currents_alone_is : command_in (understood archive_schema currents_alone_text)
+pub currents_alone_is : (indexed : Bool)
+    → command_in (understood (archive_schema indexed) currents_alone_text)
     ≡ Select (record { lets = []; body = lacking 4 1 telling alone_tests (col 1 5 ∷ []) })
     (codes "origin" ∷ [])
 unfolding understood everything
-currents_alone_is = refl
+currents_alone_is indexed = refl
 
 -- a row of currents2 tells of others and is later than a row of records2, or is that row's
 abbrev pub later_one : Term
@@ -88,11 +90,12 @@ abbrev pub hide_tests : List Term
 hide_tests = eq (col 2 1) (col 1 4) ∷ eq (col 2 2) (col 1 5) ∷ eq (col 2 3) (col 1 6)
     ∷ op2 Or later_one own_one ∷ []
 
-pub currents_hide_is : command_in (understood archive_schema currents_hide_text)
+pub currents_hide_is : (indexed : Bool)
+    → command_in (understood (archive_schema indexed) currents_hide_text)
     ≡ Select (record { lets = []; body = lacking 1 4 [] hide_tests (col 1 1 ∷ []) })
     (codes "origin" ∷ [])
 unfolding understood everything
-currents_hide_is = refl
+currents_hide_is indexed = refl
 
 -- ---- as SQL judges
 
@@ -341,7 +344,8 @@ module _ (c r : Row) (it : IsCells (columns_of r)) where
         let three = and_parts (same (column c 3) (column r 6))
         (is_true (binary Or later_value own_value) && true) two.1 in (
           at_parts one.0 two.0 three.0,
-          either (is_true later_value) (is_true own_value) refl refl (sym (or_is later_value own_value)
+          either (is_true later_value) (is_true own_value) refl refl
+              (sym (or_is later_value own_value)
               ∙ (sym (one_true _) ∙ three.1)),
         )
       where
@@ -478,7 +482,8 @@ module _ (db : Trees) where
           (row.0, row.1, at.2 ∙ ap (current_of (cells (db 1))) row.2)
 
       all_stand : AllByRecursion (λ c. list_any (stray c) (db 1) ≡ true) (db 4)
-      all_stand = all_from (λ c. list_any (stray c) (db 1) ≡ true) (db 4) (λ c h. one c (follows c h))
+      all_stand = all_from (λ c. list_any (stray c) (db 1) ≡ true) (db 4)
+          (λ c h. one c (follows c h))
         where
           one : (c : Row) → (s : Row) × Has (db 1) s
               × (current_columns c ≡ current_of (cells (db 1)) (columns_of s))
@@ -532,14 +537,16 @@ module _ (db : Trees) where
 
     -- ---- no two rows of one moment
 
-    module _ (sound : IsSound archive_schema db) where
+    module _ (indexed : Bool) (sound : IsSound (archive_schema indexed) db) where
       abbrev key : List ℕ
       key = 1 ∷ 2 ∷ 3 ∷ []
 
-      unclashed : (d : Row) → passes Unique archive_schema db third_table d ≡ true
+      unclashed : (d : Row) → passes Unique (archive_schema indexed) db third_table d ≡ true
           → clashes plain key (db 4) d ≡ false
       unclashed d e = back (clashes plain key (db 4) d)
-          (sym (one_true (not (clashes plain key (db 4) d))) ∙ e)
+          (and_parts (not (clashes plain key (db 4) d))
+          (list_all (λ i. not (guards i third_table && clashes i.order i.columns (db 4) d))
+          (live_indexes indexed)) e).0
         where
           back : (b : Bool) → not b ≡ true → b ≡ false
           back true e = absurd (true≢false (sym e))
@@ -555,7 +562,8 @@ module _ (db : Trees) where
           let it = all_has (λ x. (r : Row) × Has (cells (db 1)) r × IsAt x r × IsStamped x r)
           (map current_columns (db 4)) (current_columns d) stamped
           (has_mapped current_columns (db 4) d k) in
-          let rules = all_has (λ x. passes Unique archive_schema db third_table x ≡ true) (db 4) d
+          let rules = all_has (λ x. passes Unique (archive_schema indexed) db third_table x ≡ true)
+          (db 4) d
           (sound.obeys.rules Unique).1.1.0 k in
           let off = all_has (λ x. (agree plain key x key d && differ (rowid x) (rowid d)) ≡ false)
           (db 4) c (none_from_any (λ x. agree plain key x key d && differ (rowid x) (rowid d))
@@ -579,29 +587,30 @@ module _ (db : Trees) where
           second true b on off = off
           second false b on off = absurd (true≢false (sym on))
 
-module _ (d : Database) (has : d.schema ≡ archive_schema) where
+module _ (d : Database) (has : IsArchiveSchema d.schema) where
   module _ (sound : IsSound d.schema d.trees) (typed : AllByRecursion IsCells (cells (d.trees 1)))
     where
-      sound_here : IsSound archive_schema d.trees
-      sound_here = subst (λ s. IsSound s d.trees) has sound
+      sound_here : IsSound (archive_schema has.0) d.trees
+      sound_here = subst (λ s. IsSound s d.trees) has.1 sound
 
       pub currents_stand_of : ShowsOf currents_stray_text d [] → AreStamped d.trees
           × AreSingle d.trees
       currents_stand_of none =
-          let all = all_stamped d.trees typed (typed_currents d.trees sound_here)
+          let all = all_stamped d.trees typed (typed_currents has.0 d.trees sound_here)
           (met_all (λ c. list_any (stray d.trees c) (d.trees 1)) (d.trees 4)
           (none_lack currents_stray_text 4 1 [] stray_tests (col 1 5 ∷ []) _ currents_stray_is d has
-          none)) in (all, all_single d.trees typed sound_here all)
+          none)) in (all, all_single d.trees typed has.0 sound_here all)
 
       pub currents_tell_of : ShowsOf currents_alone_text d [] → AreTelling d.trees
       currents_tell_of none =
-          all_telling d.trees typed (typed_currents d.trees sound_here)
-          (none_lack currents_alone_text 4 1 telling alone_tests (col 1 5 ∷ []) _ currents_alone_is d
+          all_telling d.trees typed (typed_currents has.0 d.trees sound_here)
+          (none_lack currents_alone_text 4 1 telling alone_tests
+          (col 1 5 ∷ []) _ currents_alone_is d
           has none)
 
       pub currents_show_of : ShowsOf currents_hide_text d [] → AreShown d.trees
       currents_show_of none =
-          all_shown d.trees typed (typed_currents d.trees sound_here)
+          all_shown d.trees typed (typed_currents has.0 d.trees sound_here)
           (met_all (λ r. list_any (shows d.trees r) (d.trees 4)) (d.trees 1)
           (none_lack currents_hide_text 1 4 [] hide_tests (col 1 1 ∷ []) _ currents_hide_is d has
           none))

@@ -36,6 +36,9 @@ pub vectors_is : table_defined_by vectors_text ≡ Ok vectors
 unfolding everything
 vectors_is = refl
 
+abbrev pub index_text : List ℕ
+index_text = codes "CREATE INDEX currents2_live ON currents2 (node, live, time, pico)"
+
 abbrev pub insert_text : List ℕ
 insert_text = codes "INSERT INTO records2 VALUES (?1, ?2, ?3, ?4, ?5, ?6, ?7, ?8, ?9)"
 

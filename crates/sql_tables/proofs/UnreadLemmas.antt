@@ -89,7 +89,8 @@ no_other_node row b rest v is reads other r h same =
     let bytes : node_id.canon r.node ≡ b = let at = sym (ap (λ x. column x 3) same) ∙ is in cc in
     let both : ◌≡◌ {A = Reading BinaryFault NodeId} (Ok (r.node, [])) (Ok (v, rest)) =
     sym (node_again r.node h.0.node) ∙ ap node_id.read bytes ∙ reads in
-    let one : r.node ≡ v = same_read (r.node, []) (v, rest) both in other (sym bytes ∙ ap node_id.canon one)
+    let one : r.node ≡ v = same_read (r.node, []) (v, rest) both in
+    other (sym bytes ∙ ap node_id.canon one)
 
 -- the same, as reading and writing tell it
 pub no_node_read : (row : Row) (b old : List ℕ) (e : BinaryFault) → column row 3 ≡ Blob b → old ≡ b
@@ -160,13 +161,15 @@ fits_value v h = h
 -- the written bytes of a value are read as it
 value_again : (v : DataValue) → IsDataValue v → data_value.read (data_value.canon v) ≡ Ok (v, [])
 value_again v h = ap data_value.read (sym (append-nil (data_value.canon v)))
-    ∙ data_value_lawful.only (data_value.canon v) v [] (data_value_lawful.written v (fits_value v h))
+    ∙ data_value_lawful.only (data_value.canon v) v []
+    (data_value_lawful.written v (fits_value v h))
 
 -- bytes that begin with no value aren't a record's
 no_value_read : (row : Row) (b : List ℕ) (e : VariantFault) → column row 8 ≡ Blob b
     → data_value.read b ≡ Err e → IsNoRecords row
 no_value_read row b e is fails r h same =
-    let bytes : data_value.canon r.value ≡ b = let at = sym (ap (λ x. column x 8) same) ∙ is in cc in
+    let bytes : data_value.canon r.value ≡ b = let at = sym (ap (λ x. column x 8) same) ∙ is in
+    cc in
     let both : ◌≡◌ {A = Reading VariantFault DataValue} (Ok (r.value, [])) (Err e) =
     sym (value_again r.value h.0.value) ∙ ap data_value.read bytes ∙ fails in absurd (search rules)
 
@@ -180,10 +183,12 @@ no_value_by row b e is fails = inr (no_value_read row b e is (fails (λ same. se
 pub no_other_value : (row : Row) (b rest : List ℕ) (v : DataValue) → column row 8 ≡ Blob b
     → data_value.read b ≡ Ok (v, rest) → (b ≡ data_value.canon v → ⊥) → IsNoRecords row
 no_other_value row b rest v is reads other r h same =
-    let bytes : data_value.canon r.value ≡ b = let at = sym (ap (λ x. column x 8) same) ∙ is in cc in
+    let bytes : data_value.canon r.value ≡ b = let at = sym (ap (λ x. column x 8) same) ∙ is in
+    cc in
     let both : ◌≡◌ {A = Reading VariantFault DataValue} (Ok (r.value, [])) (Ok (v, rest)) =
     sym (value_again r.value h.0.value) ∙ ap data_value.read bytes ∙ reads in
-    let one : r.value ≡ v = same_read (r.value, []) (v, rest) both in other (sym bytes ∙ ap data_value.canon one)
+    let one : r.value ≡ v = same_read (r.value, []) (v, rest) both in
+    other (sym bytes ∙ ap data_value.canon one)
 
 pub no_value_written : (row : Row) (b old rest : List ℕ) (v : DataValue) (so : Bool)
     → column row 8 ≡ Blob b → old ≡ b → data_value.read old ≡ Ok (v, rest)

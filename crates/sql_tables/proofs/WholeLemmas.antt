@@ -31,7 +31,7 @@ use Rattle.sqlite.specs.Listing.{understood}
 use Rattle.sqlite.specs.Effect.{Database, ReadsFirst}
 use Rattle.records.specs.Lists.{IsPairwise}
 use Rattle.records.proofs.Sorting.{sorted_is, rises-sort_by}
-use Rattle.sql_schema.specs.Tables.{archive_schema}
+use Rattle.sql_schema.specs.Tables.{archive_schema, IsArchiveSchema}
 use Rattle.sql_tables.specs.Words.{cells, columns_of}
 use Rattle.sql_tables.specs.Derived.{AreNumbered, is_later, is_newer, same, current_of, current_columns, last_of, vector_columns}
 use Rattle.sql_tables.specs.State.{AreWhole}
@@ -162,7 +162,8 @@ module _ (from : Join) (tests : List Term) (db : Trees) (es : List Row) (keep : 
       let differ = pairwise_of (λ x y. is_eq (value_cmp (rowid x) (rowid y)) ≡ false)
       (map key (filter keep es))
       (ascending-map (λ x y. is_eq (value_cmp (rowid x) (rowid y)) ≡ false) key (filter keep es)
-      (ascending-filter (λ x y. is_eq (value_cmp (rowid x) (rowid y)) ≡ false) keep es ids.apart)) in
+      (ascending-filter (λ x y. is_eq (value_cmp (rowid x) (rowid y)) ≡ false) keep es ids.apart))
+      in
       let is = sorted_is (on rowid value_cmp) by_rowid_total (map key (filter keep es)) rows differ
       same_rows up in (
         subst (IsPairwise Below) (sym is)
@@ -210,16 +211,19 @@ start_in : (q : Query) (db : Trees) (rows : List Row) → IsSureStart q db [] ro
     → (tail : List Row) × IsAnswer q db [] (rows ++ tail)
 start_in q db rows (tail, sure) = (tail, sure Null)
 
-first_is : (sql : List ℕ) (q : Query) (names : List (List ℕ)) (db : Trees) (rows : List Row)
-    → command_in (understood archive_schema sql) ≡ Select (record { lets = []; body = q }) names
-    → ReadsFirst (command_in (understood archive_schema sql))
-    (record { schema = archive_schema; trees = db }) [] rows
+first_is : (indexed : Bool) (sql : List ℕ) (q : Query) (names : List (List ℕ)) (db : Trees)
+    (rows : List Row)
+    → command_in (understood (archive_schema indexed) sql)
+    ≡ Select (record { lets = []; body = q }) names
+    → ReadsFirst (command_in (understood (archive_schema indexed) sql))
+    (record { schema = archive_schema indexed; trees = db }) [] rows
     → (tail : List Row) × IsAnswer q (overlay db []) [] (rows ++ tail)
-first_is sql q names db rows is shown =
+first_is indexed sql q names db rows is shown =
     start_in q (overlay db []) rows
-    (second {A = accepts_program archive_schema [] q [] ≡ true}
+    (second {A = accepts_program (archive_schema indexed) [] q [] ≡ true}
     {B = IsProgramStart [] q db [] rows}
-    (subst (λ c. ReadsFirst c (record { schema = archive_schema; trees = db }) [] rows) is shown))
+    (subst (λ c. ReadsFirst c (record { schema = archive_schema indexed; trees = db }) [] rows) is
+    shown))
 
 held_countable : (t : ℕ) (db : Trees) (rows tail : List Row)
     → IsAnswer (held_in t) (overlay db []) [] (rows ++ tail) → overlay db [] t ≡ db t
@@ -229,13 +233,13 @@ held_countable t db rows tail a seen ids few =
     (λ r. refl) rows tail a (subst AreNumbered (sym seen) ids)
     (subst (λ rs. length rs < 2 ^ 64 - 1) (sym seen) few)
 
-module _ (d : Database) (has : d.schema ≡ archive_schema) where
+module _ (d : Database) (has : IsArchiveSchema d.schema) where
   abbrev as_archive : Database
-  as_archive = record { schema = archive_schema; trees = d.trees }
+  as_archive = record { schema = archive_schema has.0; trees = d.trees }
 
   pub as_archive_is : d ≡ as_archive
   as_archive_is =
-      ap (λ (s : Schema). let w : Database = record { schema = s; trees = d.trees } in w) has
+      ap (λ (s : Schema). let w : Database = record { schema = s; trees = d.trees } in w) has.1
 
   begun_in : (sql : List ℕ) → BeginsUncountable sql d → BeginsUncountable sql as_archive
   begun_in sql = subst (λ x. BeginsUncountable sql x) as_archive_is
@@ -244,14 +248,16 @@ module _ (d : Database) (has : d.schema ≡ archive_schema) where
       → BeginsUncountable currents_held_text d → ⊥
   currents_held_whole ids few b =
       let it = begun_in currents_held_text b in
-      let a = first_is currents_held_text (held_in 4) _ d.trees it.rows currents_held_is it.shown in
+      let a = first_is has.0 currents_held_text (held_in 4) _ d.trees it.rows
+      (currents_held_is has.0) it.shown in
       held_countable 4 d.trees it.rows a.0 a.1 refl ids few it.so
 
   pub vectors_held_whole : AreNumbered (d.trees 6) → length (d.trees 6) < 2 ^ 64 - 1
       → BeginsUncountable vectors_held_text d → ⊥
   vectors_held_whole ids few b =
       let it = begun_in vectors_held_text b in
-      let a = first_is vectors_held_text (held_in 6) _ d.trees it.rows vectors_held_is it.shown in
+      let a = first_is has.0 vectors_held_text (held_in 6) _ d.trees it.rows
+      (vectors_held_is has.0) it.shown in
       held_countable 6 d.trees it.rows a.0 a.1 refl ids few it.so
 
 -- ---- that no row that follows is missing
@@ -278,7 +284,8 @@ has_from_map f (x ∷ xs) y (inr h) =
 
 pub all_has_permuted : (xs ys : List Row) → IsPermutation xs ys → AllByRecursion (Has ys) xs
 all_has_permuted xs ys same_rows =
-    recursion_from_All (Has ys) xs (All-permutation (Has ys) ys xs (IsPermutation-sym xs ys same_rows)
+    recursion_from_All (Has ys) xs (All-permutation (Has ys) ys xs
+    (IsPermutation-sym xs ys same_rows)
     (All-from_recursion (Has ys) ys (each_itself ys)))
   where
     weaken : (y : Row) (zs ws : List Row) → AllByRecursion (Has zs) ws

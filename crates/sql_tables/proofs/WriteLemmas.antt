@@ -16,7 +16,7 @@ use Rattle.sqlite_schema.specs.declared.schema.Kind.TheVariants.{Integer}
 use Rattle.sqlite_schema.specs.declared.command.Source.TheVariants.{Values}
 use Rattle.sqlite_schema.specs.declared.command.Command.TheVariants.{Insert, CreateTable}
 use Rattle.sql_tables.specs.Keeping.{AddsRecord}
-use Rattle.sql_tables.specs.State.{KeepsFirst, AreEmpty, IsOpenAndIdle, Holds, Idles, KeepsState, Making, Makes, IsNewArchive}
+use Rattle.sql_tables.specs.State.{KeepsFirst, AreEmpty, IsOpenAndIdle, Holds, Idles, KeepsState, Making, MakingArchive, Makes, IsNewArchive}
 use Rattle.sqlite_resolve.specs.Compile.{table_defined_by}
 use Rattle.sqlite_rules.specs.Edit.{edit_of, is_taken, are_fresh, numbered, with_rowid, put_all}
 use Rattle.sqlite_rules.specs.Cast.{cast, cast_row}
@@ -31,11 +31,15 @@ use Rattle.sqlite_tied.specs.Compute.{everything}
 use Rattle.sqlite.specs.declared.error.Error.{Error}
 use Rattle.sqlite.specs.Listing.{understood}
 use Rattle.sqlite.specs.Effect.{Database}
-use Rattle.sqlite.specs.State.{State, mode_of, Writes, Executes, IsUnchanged, IsRolledBack, IsNotRun, ExecutesInside, Shows, KeepsCommit, FailsToQuery, FailsToShow}
+use Rattle.sqlite_trees.specs.declared.store.Store.{Ghosts}
+use Rattle.sqlite.specs.Held.{Held, state}
+use Rattle.sqlite.proofs.StateLemmas.{survives_then}
+use Rattle.sqlite.specs.State.{State, HasCleanDisk, Survives, mode_of, Writes, Executes, IsUnchanged, IsRolledBack, IsNotRun, ExecutesInside, Shows, KeepsCommit, FailsToQuery, FailsToShow}
 use Rattle.sqlite.specs.Clock.{timed}
 use Rattle.std.proofs.lemmas.Bool.{true≢false, eq-eqb}
 use Rattle.sqlite.proofs.Callers.{IsPlain, command_of, statement_of, runs_as, one_step}
 use Rattle.sql_schema.specs.Tables.{meta, records2, currents2, vectors, no_schema, with_meta, with_records, with_currents, archive_schema}
+use Rattle.sql_schema.proofs.StandingLemmas.{archive_as}
 use Rattle.sql_tables.specs.Words.{columns_of, cells, cells_of}
 use Rattle.sql_tables.proofs.Texts.{insert_text, fill_text, meta_text, records_text, currents_text, vectors_text, meta_is, records_is, currents_is, vectors_is}
 
@@ -146,13 +150,13 @@ makes_currents old new (Ok count) was h =
 
 pub makes_vectors : (old new : State) (r : Result ℕ Error) → Making with_currents old
     → ExecutesInside 0 vectors_text [] old new r
-    → OnOk r (Makes old new archive_schema 6 × KeepsFirst old.now.trees new.now.trees
+    → OnOk r (Makes old new (archive_schema false) 6 × KeepsFirst old.now.trees new.now.trees
     × (new.now.trees 4 ≡ old.now.trees 4))
 makes_vectors old new (Err e) was h = tt
 makes_vectors old new (Ok count) was h =
     let all = creates with_currents vectors_text vectors create_vectors.0 create_vectors.1
     create_vectors.2 vectors_is refl old new count was.has h.0 in (
-      inside_says with_currents archive_schema 6 old new was.inside all.0 all.1 h.1,
+      inside_says with_currents (archive_schema false) 6 old new was.inside all.0 all.1 h.1,
       record { meta = all.2.0; records = all.2.1.0 },
       all.2.1.1.0,
     )
@@ -161,13 +165,14 @@ abbrev pub terms : List Term
 terms = lit Null ∷ col 0 0 ∷ col 0 1 ∷ col 0 2 ∷ col 0 3 ∷ col 0 4 ∷ col 0 5 ∷ col 0 6 ∷ col 0 7
     ∷ col 0 8 ∷ []
 
-insert_is : command_of (understood archive_schema insert_text) ≡ Insert 1 (Values terms 10)
+insert_is : (indexed : Bool) → command_of (understood (archive_schema indexed) insert_text)
+    ≡ Insert 1 (Values terms 10)
 unfolding understood everything
-insert_is = refl
+insert_is indexed = refl
 
-insert_plain : IsPlain (understood archive_schema insert_text)
+insert_plain : (indexed : Bool) → IsPlain (understood (archive_schema indexed) insert_text)
 unfolding understood everything
-insert_plain = (refl, refl)
+insert_plain indexed = (refl, refl)
 
 either : (b : Bool) (x : Value) → cond b x x ≡ x
 either true x = refl
@@ -220,14 +225,15 @@ module _ (origin number tick : ℤ) (node : List ℕ) (time pico asked : ℤ) (w
   row = cells_of origin number tick node time pico asked who value
 
   -- what the insert makes of a database
-  pub does_add : (old : State) (tally : Tally) (after : Database) → old.now.schema ≡ archive_schema
+  pub does_add : (indexed : Bool) (old : State) (tally : Tally) (after : Database)
+      → old.now.schema ≡ archive_schema indexed
       → Does old.step_limit (mode_of old) row old.now
-      (statement_of insert_text (understood archive_schema insert_text)) None
+      (statement_of insert_text (understood (archive_schema indexed) insert_text)) None
       (Insert 1 (Values terms 10)) (Ok (tally, after))
-      → (after.schema ≡ archive_schema) × AddsRecord row old.now.trees after.trees
-  does_add old tally after has changed =
+      → (after.schema ≡ archive_schema indexed) × AddsRecord row old.now.trees after.trees
+  does_add indexed old tally after has changed =
       let db = old.now.trees in
-      let text = statement_of insert_text (understood archive_schema insert_text) in
+      let text = statement_of insert_text (understood (archive_schema indexed) insert_text) in
       let done = went (subst (λ s.
       Does old.step_limit (mode_of old) row (record old.now { schema = s }) text None
       (Insert 1 (Values terms 10)) (Ok (tally, after))) has changed) in
@@ -237,7 +243,7 @@ module _ (origin number tick : ℤ) (node : List ℕ) (time pico asked : ℤ) (w
       let counted = went written.2 in
       let trees : done.0.trees ≡ written.0 =
       ap (λ (it : Written). it.trees) (same_value counted.2) ∙ same_value counted.1 in
-      let applied = one_step archive_schema _ db written.0
+      let applied = one_step (archive_schema indexed) _ db written.0
       (edit_of db made_records [] Chosen 0 given.0) refl written.1 in
       let news : numbered Chosen (db 1) (map (λ s. cast_row made_records (drop 0 s)) given.0)
       ≡ with_rowid Chosen (db 1) (Null ∷ row) ∷ [] =
@@ -269,41 +275,48 @@ module _ (origin number tick : ℤ) (node : List ℕ) (time pico asked : ℤ) (w
         },
       )
 
-  pub adds : (old new : State) (r : Result ℕ Error) → Making archive_schema old
+  pub adds : (old new : State) (r : Result ℕ Error) → MakingArchive old
       → ExecutesInside 0 insert_text row old new r
-      → OnOk r (Making archive_schema new × (new.committed ≡ old.committed)
+      → OnOk r (MakingArchive new × (new.now.schema ≡ old.now.schema)
+      × (new.committed ≡ old.committed)
       × AddsRecord row old.now.trees new.now.trees)
   adds old new (Err e) was h = tt
   adds old new (Ok count) was h =
-      let w = runs_as insert_text row old new archive_schema was.has
-      (Insert 1 (Values terms 10)) insert_is insert_plain count h.0 in
-      let all = does_add old w.tally new.now was.has w.changed in
-      (record { inside = h.1.mode; has = all.0 }, h.1.committed_is, all.1)
+      let is = was.has in
+      let w = runs_as insert_text row old new (archive_schema is.0) is.1
+      (Insert 1 (Values terms 10)) (insert_is is.0) (insert_plain is.0) count h.0 in
+      let all = does_add is.0 old w.tally new.now is.1 w.changed in (
+        record { inside = h.1.mode; has = (is.0, all.0) },
+        all.0 ∙ sym is.1,
+        h.1.committed_is,
+        all.1,
+      )
 
 abbrev meta_terms : List Term
 meta_terms = lit (Int (pos 1)) ∷ lit Null ∷ lit (Int (pos 2)) ∷ col 0 0 ∷ col 0 1 ∷ []
 
-fill_is : command_of (understood archive_schema fill_text) ≡ Insert 0 (Values meta_terms 5)
+fill_is : command_of (understood (archive_schema false) fill_text) ≡ Insert 0 (Values meta_terms 5)
 unfolding understood everything
 fill_is = refl
 
-fill_plain : IsPlain (understood archive_schema fill_text)
+fill_plain : IsPlain (understood (archive_schema false) fill_text)
 unfolding understood everything
 fill_plain = (refl, refl)
 
 pub fills_meta : (name : List ℕ) (replica : ℤ) (old new : State) (r : Result ℕ Error)
-    → Making archive_schema old → AreEmpty old.now.trees
+    → Making (archive_schema false) old → AreEmpty old.now.trees
     → ExecutesInside 0 fill_text (Blob name ∷ Int replica ∷ []) old new r
-    → OnOk r (Making archive_schema new × IsNewArchive name replica new.now.trees
+    → OnOk r (Making (archive_schema false) new × IsNewArchive name replica new.now.trees
     × (new.committed ≡ old.committed))
 fills_meta name replica old new (Err e) was empty h = tt
 fills_meta name replica old new (Ok count) was empty h =
     let params = Blob name ∷ Int replica ∷ [] in
     let db = old.now.trees in
     let command = Insert 0 (Values meta_terms 5) in
-    let w = runs_as fill_text params old new archive_schema was.has command fill_is fill_plain count
+    let w = runs_as fill_text params old new
+    (archive_schema false) was.has command fill_is fill_plain count
     h.0 in
-    let text = statement_of fill_text (understood archive_schema fill_text) in
+    let text = statement_of fill_text (understood (archive_schema false) fill_text) in
     let done = went (subst (λ s. Does old.step_limit (mode_of old) params
     (record old.now { schema = s }) text None command (Ok (w.tally, new.now))) was.has
     w.changed) in
@@ -313,7 +326,7 @@ fills_meta name replica old new (Ok count) was empty h =
     let counted = went written.2 in
     let trees : done.0.trees ≡ written.0 =
     ap (λ (it : Written). it.trees) (same_value counted.2) ∙ same_value counted.1 in
-    let applied = one_step archive_schema _ db written.0
+    let applied = one_step (archive_schema false) _ db written.0
     (edit_of db meta [] Chosen 0 given.0) refl written.1 in
     let news : numbered Chosen (db 0) (map (λ s. cast_row meta (drop 0 s)) given.0)
     ≡ (Int (pos 1) ∷ Null ∷ Int (pos 2) ∷ Blob name ∷ Int replica ∷ []) ∷ [] =
@@ -330,7 +343,8 @@ fills_meta name replica old new (Ok count) was empty h =
         currents = ap (λ (t : Trees). t 4) same ∙ applied.tables.1.1.0 (apart_by 4 0 refl)
             ∙ empty.currents;
         vectors =
-            ap (λ (t : Trees). t 6) same ∙ applied.tables.1.1.1.0 (apart_by 6 0 refl) ∙ empty.vectors;
+            ap (λ (t : Trees). t 6) same ∙ applied.tables.1.1.1.0 (apart_by 6 0 refl)
+            ∙ empty.vectors;
         lists = subst (Lists (new.now.trees catalog_tree))
             (ap (λ (d : Database). d.schema) now) w.sound.lists;
       },
@@ -383,7 +397,7 @@ stays_behind a b c was rests back same =
         autocommit = h.rests.autocommit;
         settled =
             h.rests.settled;
-        tables = ap (λ (d : Database). d.schema) all ∙ was.tables;
+        tables = archive_as (ap (λ (d : Database). d.schema) all) was.tables;
       };
       same = all;
     }
@@ -399,3 +413,20 @@ keeps_commit sql params old new (Err e) (inl (_, inr back)) =
     record { was_open = back.was_open; committed = λ is_open. (back.undone is_open).1 }
 keeps_commit sql params old new (Err e) (inr ended) = let kept = ended.2 in
     record { was_open = λ _. kept.0.was_open; committed = λ _. kept.0.committed_is }
+
+-- what a crash leaves of a transaction whose commit failed: what it left before, or all of it
+pub crash_behind : {S : Type 0} (g : Ghosts S) (conn : Held S) (written ended : State)
+    (P : Trees → Type 0)
+    → Survives (state g (record conn { in_transaction = true })) written (λ _. ⊥)
+    → Survives written ended (λ db. db ≡ written.now.trees)
+    → (HasCleanDisk written → P written.now.trees) → Survives (state g conn) ended P
+crash_behind g conn written ended P begun ends made =
+    survives_then (state g conn) written ended _ _ _ (λ clean db none. absurd none)
+    (λ clean db is. subst P (sym is) (made (omega (arith, ends.clean, clean)))) (record {
+      clean = begun.clean;
+      shield = begun.shield;
+      counts = begun.counts;
+      limit = begun.limit;
+      closes = begun.closes;
+      crash = begun.crash;
+    }) ends

@@ -17,7 +17,6 @@ use Rattle.sqlite_trees.specs.Tree.{Trees, IsAscending}
 use Rattle.sqlite.specs.Effect.{Database, Reads, ReadsFirst}
 use Rattle.sqlite.specs.Listing.{understood}
 use Rattle.sql_tables.specs.declared.integrity.Ids.{Ids}
-use Rattle.sql_schema.specs.Tables.{archive_schema}
 use Rattle.sql_tables.specs.Words.{cells}
 use Rattle.sql_tables.specs.Derived.{AreNumbered, currents_of, current_columns, same, above, last_of, vectors_of, vector_columns}
 
@@ -25,9 +24,9 @@ abbrev pub command_in : Result Compiled CompileError → Command
 command_in (Ok c) = c.command
 command_in (Err e) = Nothing
 
--- the text, which has no parameters, shows these rows of an archive's tables
+-- the text, which has no parameters, shows these rows of the tables
 abbrev pub ShowsOf : List ℕ → Database → List Row → Type 0
-ShowsOf sql db rows = Reads (command_in (understood archive_schema sql)) db [] rows
+ShowsOf sql db rows = Reads (command_in (understood db.schema sql)) db [] rows
 
 -- the text shows some row
 abbrev pub ShowsSome : List ℕ → Database → Type 0
@@ -62,7 +61,7 @@ AreUncountable rows = ((ids : List ℤ) → AreRising rows ids → ⊥) ⊎ (2 ^
 -- the text begins with such rows
 pub record BeginsUncountable (sql : List ℕ) (db : Database) : Type 0 where
   pub rows : List Row
-  pub shown : ReadsFirst (command_in (understood archive_schema sql)) db [] rows
+  pub shown : ReadsFirst (command_in (understood db.schema sql)) db [] rows
   pub so : AreUncountable rows
 
 -- the rows have each of these

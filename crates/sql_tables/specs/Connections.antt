@@ -8,9 +8,9 @@ use Rattle.sqlite_schema.specs.declared.schema.Schema.{Schema}
 use Rattle.sqlite.specs.State.{State, HasCleanDisk, KeepsCommit, Survives}
 use Rattle.sqlite.specs.Held.{Held, state}
 use Rattle.records.specs.Contents.{Content}
-use Rattle.sql_schema.specs.Tables.{archive_schema}
+use Rattle.sql_schema.specs.Tables.{ListsArchive}
 use Rattle.sql_tables.specs.Rows.{content_in}
-use Rattle.sql_tables.specs.State.{Idles, Making}
+use Rattle.sql_tables.specs.State.{Idles, IdlesOn, Making, MakingArchive}
 
 -- the connection sees such tables
 abbrev pub Sees : (Trees → Type 0) → State → Type 0
@@ -57,14 +57,37 @@ module _ {S : Type 0} (g : Ghosts S) (old new : Held S) where
   abbrev pub Writes : {A E : Type 0} → Schema → Result A E → (Trees → Trees → Type 0) → Type 0
   Writes schema result Change = HasCleanDisk (state g new) → OnOk result (ChangesBy schema Change)
 
-  -- so it is of an archive's tables, which are listed then
-  abbrev pub WritesListed : {A E : Type 0} → Result A E → (Trees → Trees → Type 0) → Type 0
-  WritesListed result Change =
+  -- and these tables are listed then
+  abbrev pub WritesListed : {A E : Type 0} → Schema → Result A E → (Trees → Trees → Type 0)
+      → Type 0
+  WritesListed schema result Change =
       HasCleanDisk (state g new)
       → OnOk result
-      (Making archive_schema (state g new) × ((state g new).committed ≡ (state g old).committed)
+      (Making schema (state g new) × ((state g new).committed ≡ (state g old).committed)
       × Change (tables_of g old) (tables_of g new)
-      × Lists (tables_of g new catalog_tree) archive_schema)
+      × Lists (tables_of g new catalog_tree) schema)
+
+  -- in a transaction, an archive's tables were changed so; with which index and what the last
+  -- commit is, stays
+  abbrev pub ChangesArchive : (Trees → Trees → Type 0) → Type 0
+  ChangesArchive Change =
+      MakingArchive (state g new) × ((state g new).now.schema ≡ (state g old).now.schema)
+      × ((state g new).committed ≡ (state g old).committed)
+      × Change (tables_of g old) (tables_of g new)
+
+  -- so it is where the disk is clean and the call went well
+  abbrev pub WritesArchive : {A E : Type 0} → Result A E → (Trees → Trees → Type 0) → Type 0
+  WritesArchive result Change = HasCleanDisk (state g new) → OnOk result (ChangesArchive Change)
+
+  -- and an archive's tables are listed then
+  abbrev pub ListsAndWrites : {A E : Type 0} → Result A E → (Trees → Trees → Type 0) → Type 0
+  ListsAndWrites result Change =
+      HasCleanDisk (state g new)
+      → OnOk result
+      (MakingArchive (state g new) × ((state g new).now.schema ≡ (state g old).now.schema)
+      × ((state g new).committed ≡ (state g old).committed)
+      × Change (tables_of g old) (tables_of g new)
+      × ListsArchive (tables_of g new catalog_tree))
 
   -- the tables are those of this schema then, whatever their rows
   abbrev pub MakesSchema : {A E : Type 0} → Schema → Result A E → Type 0
@@ -79,3 +102,10 @@ module _ {S : Type 0} (g : Ghosts S) (old new : Held S) where
   Commits result Change =
       HasCleanDisk (state g new)
       → OnOk result (Idles (state g new) × Change (tables_of g old) (tables_of g new))
+
+  -- so it is of an archive's tables, with which index stays
+  abbrev pub CommitsArchive : {A E : Type 0} → Result A E → (Trees → Trees → Type 0) → Type 0
+  CommitsArchive result Change =
+      HasCleanDisk (state g new)
+      → OnOk result
+      (IdlesOn (state g old) (state g new) × Change (tables_of g old) (tables_of g new))

@@ -7,7 +7,7 @@ use Rattle.sqlite_value.specs.Order.{Row, column}
 use Rattle.sqlite_trees.specs.Tree.{Trees}
 use Rattle.sqlite_trees.specs.Objects.{catalog_tree}
 use Rattle.sqlite_catalog.specs.Listing.{Lists}
-use Rattle.sql_schema.specs.Tables.{archive_schema}
+use Rattle.sql_schema.specs.Tables.{archive_schema, ListsArchive}
 use Rattle.sql_tables.specs.Words.{cells}
 use Rattle.sql_tables.specs.Derived.{AreNumbered, IsCells, is_of, is_current_of, is_later, current_of, currents_of, current_columns, same, vector_columns, last_of, int_in, vectors_of}
 
@@ -150,7 +150,7 @@ pub record ChangesVectors (row : Row) (origin : ℤ) (old new : Trees) : Type 0 
   pub between : Trees
   pub dropped : DropsVector origin old between
   pub put : PutsVectors (λ _. row ∷ []) between new
-  pub lists : Lists (new catalog_tree) archive_schema
+  pub lists : ListsArchive (new catalog_tree)
 
 -- so many rows of vectors were of this origin: where none was, none is gone, and where one was, it
 -- is another now
@@ -191,4 +191,4 @@ pub record Fills (old new : Trees) : Type 0 where
   pub between : Trees
   pub currents : PutsCurrents (λ _. true) old between
   pub vectors : PutsVectors vectors_of between new
-  pub lists : Lists (new catalog_tree) archive_schema
+  pub lists : Lists (new catalog_tree) (archive_schema false)

@@ -3,7 +3,6 @@ use Rattle.std.specs.Prelude.{◌≡◌, ℕ, ◌+◌, nat_lt, ℤ, int_lt, int_
 use Rattle.sqlite_trees.specs.Tree.{Trees}
 use Rattle.sqlite_value.specs.Order.{Row, column}
 use Rattle.sqlite_trees.specs.Objects.{number_in, catalog_tree}
-use Rattle.sqlite_catalog.specs.Listing.{Lists}
 use Rattle.sqlite.specs.State.{State, HasCleanDisk, Survives}
 use Rattle.stamp.specs.Limits.{greatest}
 use Rattle.records.specs.Contents.{Content, Finding, vec, last_tick, finding, learned, Adds, Holds, Clash, Gap, TickTooFar, TickNotRising}
@@ -13,7 +12,7 @@ use Rattle.archive.specs.Listed.{is_broken}
 use Rattle.archive.specs.declared.fault.StoreFault.{StoreFault}
 use Rattle.archive.specs.declared.fault.LearnFault.{LearnFault}
 use Rattle.archive.specs.declared.fault.LearnFault.TheVariants as refused
-use Rattle.sql_schema.specs.Tables.{archive_schema}
+use Rattle.sql_schema.specs.Tables.{ListsArchive}
 use Rattle.sql_tables.specs.Rows.{row_of, content_in, IsFilled}
 use Rattle.sql_tables.specs.Derived.{AreKept, int_in}
 use Rattle.sql_tables.specs.State as state
@@ -49,7 +48,8 @@ beyond held last r =
 -- the row of the record is written, and the rows that follow, in one commit
 pub record Stored (old new : State) (r : Record) (result : Result Unit StoreFault) : Type 0 where
   pub added : HasCleanDisk new
-      → OnOk result (state.Idles new × state.Adds (row_of r) old.now.trees new.now.trees)
+      → OnOk result
+      (state.IdlesOn old new × state.Adds (row_of r) old.now.trees new.now.trees)
   pub kept : HasCleanDisk new → is_broken (fault_in result) ≡ false
       → IfErr result (λ _. state.KeepsState old new)
   pub met : IfErr result (λ fault. IsOfOpening fault → ⊥)
@@ -65,15 +65,15 @@ pub record Follows (r : Record) (old new : Trees) : Type 0 where
 -- a commit of the record, which may be added, leaves the old tables with it
 abbrev pub IsCommitOf : Record → Trees → Trees → Type 0
 IsCommitOf r old db =
-    (finding (content_in old) r ≡ Adds) × Follows r old db × Lists (db catalog_tree) archive_schema
+    (finding (content_in old) r ≡ Adds) × Follows r old db × ListsArchive (db catalog_tree)
 
 -- the record meets what it meets, and is stored where it is added
 pub record Learned (old new : State) (r : Record)
     (result : Result (Result Bool LearnFault) StoreFault) : Type 0 where
   pub answered : HasCleanDisk new
       → IfOk result
-      (λ told. (told ≡ answer_to (finding (content_in old.now.trees) r)) × state.Idles new
-      × Follows r old.now.trees new.now.trees)
+      (λ told. (told ≡ answer_to (finding (content_in old.now.trees) r))
+      × state.IdlesOn old new × Follows r old.now.trees new.now.trees)
   pub kept : HasCleanDisk new → is_broken (fault_in result) ≡ false
       → IfErr result (λ _. state.KeepsState old new)
   pub met : IfErr result (λ fault. IsOfOpening fault → ⊥)

@@ -8,3 +8,4 @@ pub mod Learning
 pub mod Asking
 pub mod Agreeing
 pub mod Currents
+pub mod Indexing

@@ -8,7 +8,6 @@ use Rattle.sqlite_value.specs.declared.value.Value.TheVariants.{Int, Blob as Byt
 use Rattle.sqlite_value.specs.Order.{Row, column, bytes}
 use Rattle.sqlite_trees.specs.Objects.{number_in, catalog_tree}
 use Rattle.sqlite_trees.specs.Tree.{Trees}
-use Rattle.sqlite_catalog.specs.Listing.{Lists}
 use Rattle.records.specs.Lists.{Has, sort_by}
 use Rattle.records.specs.Records.{name_cmp}
 use Rattle.records.specs.Contents.{Content}
@@ -20,7 +19,7 @@ use Rattle.records.specs.declared.fault.RecordFault.{RecordFault}
 use Rattle.archive.specs.Store.{IsLawfulContent}
 use Rattle.sql_tables.specs.Words.{cells, cells_of, shown_of}
 pub use Rattle.sql_tables.specs.Derived.{int_in}
-use Rattle.sql_schema.specs.Tables.{archive_schema}
+use Rattle.sql_schema.specs.Tables.{ListsArchive}
 use Rattle.sql_tables.specs.Derived.{AreKept}
 
 -- ---- records
@@ -94,10 +93,10 @@ pub record IsStored (id : List ℕ) (own : ℕ) (db : Trees) : Type 0 where
   pub lawful : IsLawfulContent content
   pub stands : StandFor id own content db
 
--- a store of this archive and replica, as an opening takes it: the tables of an archive, and
--- nothing else, stand for a lawful content
+-- a store of this archive and replica, as an opening takes it: the tables of an archive, with the
+-- index over live values or without it, and nothing else, stand for a lawful content
 abbrev pub IsStoreOf : List ℕ → ℕ → Trees → Type 0
-IsStoreOf id own db = Lists (db catalog_tree) archive_schema × IsStored id own db × AreKept db
+IsStoreOf id own db = ListsArchive (db catalog_tree) × IsStored id own db × AreKept db
 
 -- records2 holds the rows of some lawful content
 abbrev pub IsFilled : Trees → Type 0

@@ -12,7 +12,7 @@ use Rattle.archive.specs.Store.{fault_in, IsOfOpening}
 use Rattle.archive.specs.Listed.{is_broken}
 use Rattle.sqlite_schema.specs.declared.schema.Schema.{Schema}
 use Rattle.sqlite_value.specs.declared.value.Value.TheVariants.{Null, Int, Blob as Bytes}
-use Rattle.sql_schema.specs.Tables.{archive_schema, with_records}
+use Rattle.sql_schema.specs.Tables.{archive_schema, IsArchiveSchema, ListsArchive, with_records}
 pub use Rattle.sql_schema.specs.Tables.{HasMeta}
 use Rattle.sql_tables.specs.Derived.{AreKept, AreNumbered}
 use Rattle.sql_tables.specs.Rows.{IsFilled}
@@ -21,7 +21,7 @@ pub use Rattle.sql_tables.specs.Words.{shown_of}
 
 -- the connection has the tables of an archive
 abbrev pub HasTables : State → Type 0
-HasTables s = s.now.schema ≡ archive_schema
+HasTables s = IsArchiveSchema s.now.schema
 
 -- open, nothing pending, whatever the tables
 pub record IsOpenAndIdle (s : State) : Type 0 where
@@ -41,6 +41,11 @@ pub record Idles (s : State) : Type 0 where
   pub settled : s.committed ≡ s.now
   pub tables : HasTables s
 
+-- it idles, and has the index over live values if it had it
+pub record IdlesOn (old new : State) : Type 0 where
+  pub idles : Idles new
+  pub schema : new.now.schema ≡ old.now.schema
+
 -- it idles, and sees what it saw
 pub record KeepsState (old new : State) : Type 0 where
   pub idles : Idles new
@@ -52,7 +57,7 @@ pub record Adds (row : Row) (old new : Trees) : Type 0 where
   pub records : IsPermutation (row ∷ cells (old 1)) (cells (new 1))
   pub meta : new 0 ≡ old 0
   pub kept : AreKept new
-  pub lists : Lists (new catalog_tree) archive_schema
+  pub lists : ListsArchive (new catalog_tree)
 
 -- of all rows those of one node, time and picoseconds, by stamp
 pub record IsStory (node : List ℕ) (time pico : ℤ) (all rows : List Row) : Type 0 where
@@ -66,6 +71,11 @@ AreAt node time pico s = IsStory node time pico (cells (s.now.trees 1))
 pub record Making (schema : Schema) (s : State) : Type 0 where
   pub inside : s.in_transaction ≡ true
   pub has : s.now.schema ≡ schema
+
+-- an archive's tables are being changed, in a transaction
+pub record MakingArchive (s : State) : Type 0 where
+  pub inside : s.in_transaction ≡ true
+  pub has : HasTables s
 
 -- a call in a transaction, after which the last commit is as it was
 pub record Makes (old new : State) (schema : Schema) (table : ℕ) : Type 0 where
@@ -94,7 +104,7 @@ pub record MakesFirst (old new : State) : Type 0 where
 
 -- currents2 and vectors were made beside them
 pub record MakesBeside (old new : State) : Type 0 where
-  pub making : Making archive_schema new
+  pub making : Making (archive_schema false) new
   pub first : KeepsFirst old.now.trees new.now.trees
   pub currents : new.now.trees 4 ≡ []
   pub vectors : new.now.trees 6 ≡ []
@@ -106,7 +116,7 @@ pub record IsNewArchive (id : List ℕ) (own : ℤ) (db : Trees) : Type 0 where
   pub records : db 1 ≡ []
   pub currents : db 4 ≡ []
   pub vectors : db 6 ≡ []
-  pub lists : Lists (db catalog_tree) archive_schema
+  pub lists : Lists (db catalog_tree) (archive_schema false)
 
 -- SQLite may refuse a query: its disk failed meanwhile, or a limit on steps is set
 abbrev pub MayBeStopped : State → State → Type 0
@@ -159,4 +169,4 @@ pub record IsCompleted (old new : Trees) : Type 0 where
   pub meta : new 0 ≡ old 0
   pub records : new 1 ≡ old 1
   pub kept : AreKept new
-  pub lists : Lists (new catalog_tree) archive_schema
+  pub lists : Lists (new catalog_tree) (archive_schema false)

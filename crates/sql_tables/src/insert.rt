@@ -3,11 +3,10 @@
 ghost use Rattle.std.specs.Prelude.{◌≡◌, ◌⊎◌, ◌≤◌, ◌∷◌, [], false, IfOk, IfErr, OnErr, IsTrue};
 ghost use Rattle.sqlite.specs.State.{HasCleanDisk, Survives};
 ghost use Rattle.sqlite.specs.Held.{state};
-ghost use Rattle.sql_schema.specs.Tables.{archive_schema};
-ghost use Rattle.sql_tables.specs.State.{Idles, Making, IsOpenAndIdle};
+ghost use Rattle.sql_tables.specs.State.{Idles, MakingArchive, IsOpenAndIdle};
 ghost use Rattle.sql_tables.specs.Derived.{AreNumbered};
 ghost use Rattle.sql_tables.specs.Keeping.{AddsRecord, HasNoRowAt, HasLaterBeside, HasOtherBeside, RaisesOne, IsOnly, ChangesCurrents, TakesIn, Renews, ChangesVectors, SetsVectors, Keeps, vector_cells, PutsVectors};
-ghost use Rattle.sql_tables.specs.Connections.{WhereClean, Sees, tables_of, CommitsNothing, KeepsLastCommit, ChangesBy, Writes, WritesListed, Commits};
+ghost use Rattle.sql_tables.specs.Connections.{WhereClean, Sees, tables_of, CommitsNothing, KeepsLastCommit, ChangesArchive, WritesArchive, ListsAndWrites, CommitsArchive};
 ghost use Rattle.sql_tables.specs.Words.{row_of_cells};
 
 use crate::writes::Cells;
@@ -44,8 +43,8 @@ impl From<Error> for Unwritten {
 
 /// Adds the row of a record to `records2`, in a transaction; nothing is committed, and no other table changes.
 pub fn add_record<S: Alter>(tx: &mut Transaction<'_, S>, r: &Cells) -> Result<usize, Error>
-    requires { WhereClean S.Store tx.old.conn.now (Making archive_schema) }
-    ensures made { Writes S.Store tx.old.conn.now tx.new.conn.now archive_schema result
+    requires { WhereClean S.Store tx.old.conn.now MakingArchive }
+    ensures made { WritesArchive S.Store tx.old.conn.now tx.new.conn.now result
         (AddsRecord (row_of_cells r.now)) }
     ensures kept { KeepsLastCommit S.Store tx.old.conn.now tx.new.conn.now }
     ensures same { tx.new.conn.ghost_name ≡ tx.old.conn.ghost_name }
@@ -62,9 +61,9 @@ pub fn add_record<S: Alter>(tx: &mut Transaction<'_, S>, r: &Cells) -> Result<us
 /// Makes a record the current value of its node and time where it is later than the one that stands there, and
 /// tells how many rows those are.
 fn raise_current<S: Alter>(tx: &mut Transaction<'_, S>, r: &Cells) -> Result<usize, Error>
-    requires { WhereClean S.Store tx.old.conn.now (Making archive_schema) }
+    requires { WhereClean S.Store tx.old.conn.now MakingArchive }
     ensures made { HasCleanDisk (state S.Store tx.new.conn.now)
-        → IfOk result (λ count. ChangesBy S.Store tx.old.conn.now tx.new.conn.now archive_schema
+        → IfOk result (λ count. ChangesArchive S.Store tx.old.conn.now tx.new.conn.now
         (Renews count (row_of_cells r.now))) }
     ensures met { HasCleanDisk (state S.Store tx.new.conn.now)
         → IfOk result
@@ -84,9 +83,9 @@ fn raise_current<S: Alter>(tx: &mut Transaction<'_, S>, r: &Cells) -> Result<usi
 /// Marks the current value of a record's node and time as one of several where it is later than the record, and
 /// tells how many rows those are.
 fn mark_current<S: Alter>(tx: &mut Transaction<'_, S>, r: &Cells) -> Result<usize, Error>
-    requires { WhereClean S.Store tx.old.conn.now (Making archive_schema) }
+    requires { WhereClean S.Store tx.old.conn.now MakingArchive }
     ensures made { HasCleanDisk (state S.Store tx.new.conn.now)
-        → IfOk result (λ count. ChangesBy S.Store tx.old.conn.now tx.new.conn.now archive_schema
+        → IfOk result (λ count. ChangesArchive S.Store tx.old.conn.now tx.new.conn.now
         (Renews count (row_of_cells r.now))) }
     ensures met { HasCleanDisk (state S.Store tx.new.conn.now)
         → IfOk result
@@ -105,9 +104,9 @@ fn mark_current<S: Alter>(tx: &mut Transaction<'_, S>, r: &Cells) -> Result<usiz
 /// Makes a record's number and tick the last of its origin where vectors has the origin, and tells how many rows
 /// those are.
 fn set_vector<S: Alter>(tx: &mut Transaction<'_, S>, r: &Cells) -> Result<usize, Error>
-    requires { WhereClean S.Store tx.old.conn.now (Making archive_schema) }
+    requires { WhereClean S.Store tx.old.conn.now MakingArchive }
     ensures made { HasCleanDisk (state S.Store tx.new.conn.now)
-        → IfOk result (λ count. ChangesBy S.Store tx.old.conn.now tx.new.conn.now archive_schema
+        → IfOk result (λ count. ChangesArchive S.Store tx.old.conn.now tx.new.conn.now
         (SetsVectors count (vector_cells r.now.origin r.now.number r.now.tick) r.now.origin)) }
     ensures met { HasCleanDisk (state S.Store tx.new.conn.now)
         → IfOk result (λ count. AreNumbered (tables_of S.Store tx.old.conn.now 6) → count ≤ 1) }
@@ -123,8 +122,8 @@ fn set_vector<S: Alter>(tx: &mut Transaction<'_, S>, r: &Cells) -> Result<usize,
 
 /// Puts in a record's number as the last of its origin.
 fn add_vector<S: Alter>(tx: &mut Transaction<'_, S>, r: &Cells) -> Result<usize, Error>
-    requires { WhereClean S.Store tx.old.conn.now (Making archive_schema) }
-    ensures made { WritesListed S.Store tx.old.conn.now tx.new.conn.now result
+    requires { WhereClean S.Store tx.old.conn.now MakingArchive }
+    ensures made { ListsAndWrites S.Store tx.old.conn.now tx.new.conn.now result
         (PutsVectors (λ _. vector_cells r.now.origin r.now.number r.now.tick ∷ [])) }
     ensures kept { KeepsLastCommit S.Store tx.old.conn.now tx.new.conn.now }
     ensures same { tx.new.conn.ghost_name ≡ tx.old.conn.ghost_name }
@@ -138,10 +137,10 @@ fn add_vector<S: Alter>(tx: &mut Transaction<'_, S>, r: &Cells) -> Result<usize,
 
 /// Puts in the current value of a record that is the only one of its node and time.
 fn add_first<S: Alter>(tx: &mut Transaction<'_, S>, r: &Cells) -> Result<usize, Error>
-    requires making { WhereClean S.Store tx.old.conn.now (Making archive_schema) }
+    requires making { WhereClean S.Store tx.old.conn.now MakingArchive }
     requires only { WhereClean S.Store tx.old.conn.now
         (Sees (IsOnly (row_of_cells r.now) r.now.node.items r.now.time r.now.pico)) }
-    ensures made { Writes S.Store tx.old.conn.now tx.new.conn.now archive_schema result
+    ensures made { WritesArchive S.Store tx.old.conn.now tx.new.conn.now result
         (ChangesCurrents r.now.node.items r.now.time r.now.pico) }
     ensures kept { KeepsLastCommit S.Store tx.old.conn.now tx.new.conn.now }
     ensures same { tx.new.conn.ghost_name ≡ tx.old.conn.ghost_name }
@@ -157,8 +156,8 @@ fn add_first<S: Alter>(tx: &mut Transaction<'_, S>, r: &Cells) -> Result<usize, 
 
 /// Marks the current value of a record's node and time, which has to be later than the record.
 fn mark_later<S: Alter>(tx: &mut Transaction<'_, S>, r: &Cells) -> Result<(), Unwritten>
-    requires { WhereClean S.Store tx.old.conn.now (Making archive_schema) }
-    ensures made { Writes S.Store tx.old.conn.now tx.new.conn.now archive_schema result
+    requires { WhereClean S.Store tx.old.conn.now MakingArchive }
+    ensures made { WritesArchive S.Store tx.old.conn.now tx.new.conn.now result
         (TakesIn (row_of_cells r.now)) }
     ensures awaited { HasCleanDisk (state S.Store tx.new.conn.now)
         → HasLaterBeside (row_of_cells r.now) (tables_of S.Store tx.old.conn.now)
@@ -176,8 +175,8 @@ fn mark_later<S: Alter>(tx: &mut Transaction<'_, S>, r: &Cells) -> Result<(), Un
 /// Has the current value of a record's node and time, where others stand, follow from the record too. None there, or
 /// more than one, would be no archive's.
 fn renew_current<S: Alter>(tx: &mut Transaction<'_, S>, r: &Cells) -> Result<(), Unwritten>
-    requires { WhereClean S.Store tx.old.conn.now (Making archive_schema) }
-    ensures made { Writes S.Store tx.old.conn.now tx.new.conn.now archive_schema result
+    requires { WhereClean S.Store tx.old.conn.now MakingArchive }
+    ensures made { WritesArchive S.Store tx.old.conn.now tx.new.conn.now result
         (TakesIn (row_of_cells r.now)) }
     ensures awaited { HasCleanDisk (state S.Store tx.new.conn.now)
         → HasOtherBeside (row_of_cells r.now) (tables_of S.Store tx.old.conn.now)
@@ -199,11 +198,11 @@ fn change_current<S: Alter>(
     r: &Cells,
     first: bool,
 ) -> Result<(), Unwritten>
-    requires making { WhereClean S.Store tx.old.conn.now (Making archive_schema) }
+    requires making { WhereClean S.Store tx.old.conn.now MakingArchive }
     requires only { IsTrue first → HasCleanDisk (state S.Store tx.old.conn.now)
         → IsOnly (row_of_cells r.now) r.now.node.items r.now.time r.now.pico
         (tables_of S.Store tx.old.conn.now) }
-    ensures made { Writes S.Store tx.old.conn.now tx.new.conn.now archive_schema result
+    ensures made { WritesArchive S.Store tx.old.conn.now tx.new.conn.now result
         (TakesIn (row_of_cells r.now)) }
     ensures awaited { HasCleanDisk (state S.Store tx.new.conn.now)
         → IsTrue first ⊎ HasOtherBeside (row_of_cells r.now) (tables_of S.Store tx.old.conn.now)
@@ -221,8 +220,8 @@ fn change_current<S: Alter>(
 
 /// Makes a record's number the last of its origin. More rows than one of an origin would be no archive's.
 fn change_vector<S: Alter>(tx: &mut Transaction<'_, S>, r: &Cells) -> Result<(), Unwritten>
-    requires { WhereClean S.Store tx.old.conn.now (Making archive_schema) }
-    ensures made { Writes S.Store tx.old.conn.now tx.new.conn.now archive_schema result
+    requires { WhereClean S.Store tx.old.conn.now MakingArchive }
+    ensures made { WritesArchive S.Store tx.old.conn.now tx.new.conn.now result
         (ChangesVectors (vector_cells r.now.origin r.now.number r.now.tick) r.now.origin) }
     ensures awaited { HasCleanDisk (state S.Store tx.new.conn.now)
         → AreNumbered (tables_of S.Store tx.old.conn.now 6)
@@ -243,10 +242,10 @@ fn change_vector<S: Alter>(tx: &mut Transaction<'_, S>, r: &Cells) -> Result<(),
 
 /// All writes of a record; `first` tells that no other stands at its node and time.
 fn write_all<S: Alter>(tx: &mut Transaction<'_, S>, r: &Cells, first: bool) -> Result<(), Unwritten>
-    requires making { WhereClean S.Store tx.old.conn.now (Making archive_schema) }
+    requires making { WhereClean S.Store tx.old.conn.now MakingArchive }
     requires free { IsTrue first → HasCleanDisk (state S.Store tx.old.conn.now)
         → HasNoRowAt r.now.node.items r.now.time r.now.pico (tables_of S.Store tx.old.conn.now) }
-    ensures made { Writes S.Store tx.old.conn.now tx.new.conn.now archive_schema result
+    ensures made { WritesArchive S.Store tx.old.conn.now tx.new.conn.now result
         (Keeps (row_of_cells r.now)) }
     ensures awaited { HasCleanDisk (state S.Store tx.new.conn.now)
         → IsTrue first ⊎ HasOtherBeside (row_of_cells r.now) (tables_of S.Store tx.old.conn.now)
@@ -272,7 +271,7 @@ pub(crate) fn keep<S: Alter>(
     requires idles { WhereClean S.Store conn.old Idles }
     requires free { IsTrue first → HasCleanDisk (state S.Store conn.old)
         → HasNoRowAt r.now.node.items r.now.time r.now.pico (tables_of S.Store conn.old) }
-    ensures made { Commits S.Store conn.old conn.new result (Keeps (row_of_cells r.now)) }
+    ensures made { CommitsArchive S.Store conn.old conn.new result (Keeps (row_of_cells r.now)) }
     ensures awaited { HasCleanDisk (state S.Store conn.new)
         → IsTrue first ⊎ HasOtherBeside (row_of_cells r.now) (tables_of S.Store conn.old)
         → AreNumbered (tables_of S.Store conn.old 6)

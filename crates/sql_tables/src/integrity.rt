@@ -5,10 +5,9 @@ ghost use Rattle.sqlite.specs.State.{HasCleanDisk, IsUnchanged};
 ghost use Rattle.sqlite.specs.Held.{state};
 ghost use Rattle.sqlite_value.specs.Order.{Row as Columns};
 ghost use Rattle.archive.specs.Store.{IsOfOpening};
-ghost use Rattle.sql_schema.specs.Tables.{archive_schema};
 ghost use Rattle.sql_tables.specs.Derived.{AreKept, AreNumbered};
 ghost use Rattle.sql_tables.specs.Rows.{IsFilled};
-ghost use Rattle.sql_tables.specs.Asking.{IsAnswered};
+ghost use Rattle.sql_tables.specs.Asking.{ArchivesAnswer};
 ghost use Rattle.sql_tables.specs.State.{MayBeStopped, LeavesUnchanged, LeavesUnchangedOr, Holds, Idles};
 ghost use Rattle.sql_tables.specs.Agreeing.{ShowsOf, HasRisen, HasCounted, AreUncountable, BeginsUncountable, ShowsSome, AreStamped, AreSingle, AreTelling, AreShown, HasCurrents, AreOfRecords, AreReached, HasVectors};
 ghost use Rattle.sql_tables.specs.Connections.{WhereClean, Sees, tables_of, CommitsNothing};
@@ -76,7 +75,7 @@ fn count_ids<S: Alter>(
     sql: &str,
 ) -> Result<Result<u64, StoreFault>, Error>
     requires idles { WhereClean S.Store conn.old Idles }
-    requires answered { IsAnswered archive_schema sql.now [] }
+    requires answered { ArchivesAnswer sql.now [] }
     ensures counted { HasCleanDisk (state S.Store conn.new)
         → IfOk result (λ told. IfOk told (HasCounted sql.now (state S.Store conn.old).now)) }
     ensures met { IfOk result
@@ -114,7 +113,7 @@ fn count_ids<S: Alter>(
 
 fn ids_in<S: Alter>(conn: &mut Connection<S>, sql: &str) -> Result<u64, StoreFault>
     requires idles { WhereClean S.Store conn.old Idles }
-    requires answered { IsAnswered archive_schema sql.now [] }
+    requires answered { ArchivesAnswer sql.now [] }
     ensures { LeavesUnchangedOr (BeginsUncountable sql.now (state S.Store conn.old).now)
         (state S.Store conn.old) (state S.Store conn.new) result
         (HasCounted sql.now (state S.Store conn.old).now) }
@@ -140,7 +139,7 @@ pub(crate) fn are_none(rows: &[Row]) -> bool
 /// Whether a query shows no row.
 fn shows_none<S: Alter>(conn: &mut Connection<S>, sql: &str) -> Result<bool, StoreFault>
     requires idles { WhereClean S.Store conn.old Idles }
-    requires answered { IsAnswered archive_schema sql.now [] }
+    requires answered { ArchivesAnswer sql.now [] }
     ensures { LeavesUnchanged (state S.Store conn.old) (state S.Store conn.new) result
         (λ none. (IsTrue none → ShowsOf sql.now (state S.Store conn.old).now [])
         × (none ≡ false → ShowsSome sql.now (state S.Store conn.old).now)) }

@@ -66,7 +66,8 @@ fn make_currents<S: Alter>(tx: &mut Transaction<'_, S>) -> Result<usize, Error>
 fn make_vectors<S: Alter>(tx: &mut Transaction<'_, S>) -> Result<usize, Error>
     requires { WhereClean S.Store tx.old.conn.now (Making with_currents) }
     ensures made { HasCleanDisk (state S.Store tx.new.conn.now) → OnOk result
-        (Makes (state S.Store tx.old.conn.now) (state S.Store tx.new.conn.now) archive_schema 6
+        (Makes (state S.Store tx.old.conn.now) (state S.Store tx.new.conn.now)
+        (archive_schema false) 6
         × KeepsFirst (tables_of S.Store tx.old.conn.now) (tables_of S.Store tx.new.conn.now)
         × (tables_of S.Store tx.new.conn.now 4 ≡ tables_of S.Store tx.old.conn.now 4)) }
     ensures kept { KeepsLastCommit S.Store tx.old.conn.now tx.new.conn.now }
@@ -113,10 +114,10 @@ fn fill_meta<S: Alter>(
     archive: &[u8],
     replica: &i64,
 ) -> Result<usize, Error>
-    requires making { WhereClean S.Store tx.old.conn.now (Making archive_schema) }
+    requires making { WhereClean S.Store tx.old.conn.now (Making (archive_schema false)) }
     requires empty { WhereClean S.Store tx.old.conn.now (Sees AreEmpty) }
     ensures made { HasCleanDisk (state S.Store tx.new.conn.now)
-        → OnOk result (Making archive_schema (state S.Store tx.new.conn.now)
+        → OnOk result (Making (archive_schema false) (state S.Store tx.new.conn.now)
         × IsNewArchive archive.now replica.now (tables_of S.Store tx.new.conn.now)
         × ((state S.Store tx.new.conn.now).committed ≡ (state S.Store tx.old.conn.now).committed)) }
     ensures kept { KeepsLastCommit S.Store tx.old.conn.now tx.new.conn.now }
@@ -138,7 +139,7 @@ pub fn make_tables<S: Alter>(
 ) -> Result<(), Error>
     requires { WhereClean S.Store tx.old.conn.now (Making no_schema) }
     ensures made { HasCleanDisk (state S.Store tx.new.conn.now)
-        → OnOk result (Making archive_schema (state S.Store tx.new.conn.now)
+        → OnOk result (Making (archive_schema false) (state S.Store tx.new.conn.now)
         × IsNewArchive archive.now replica.now (tables_of S.Store tx.new.conn.now)
         × ((state S.Store tx.new.conn.now).committed ≡ (state S.Store tx.old.conn.now).committed)) }
     ensures kept { KeepsLastCommit S.Store tx.old.conn.now tx.new.conn.now }

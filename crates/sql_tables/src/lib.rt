@@ -2,6 +2,7 @@
 #![tactic(auto)]
 
 mod decoding;
+mod indexing;
 mod insert;
 mod integrity;
 mod layout;
@@ -10,6 +11,7 @@ mod statements;
 mod writes;
 
 pub use decoding::{bytes_at, decode, decode_all, int_at, number_at, short_at, tick_at};
+pub use indexing::index_live_values;
 pub use insert::add_record;
 pub use integrity::check_kept;
 pub use layout::{first_open, make_tables, number_of};

@@ -5,8 +5,7 @@ ghost use Rattle.sqlite.specs.State.{HasCleanDisk, IsUnchanged, Shown};
 ghost use Rattle.sqlite.specs.Held.{state};
 ghost use Rattle.sqlite.specs.Values.{bound};
 ghost use Rattle.archive.specs.Store.{IsOfOpening};
-ghost use Rattle.sql_schema.specs.Tables.{archive_schema};
-ghost use Rattle.sql_tables.specs.Asking.{IsAnswered};
+ghost use Rattle.sql_tables.specs.Asking.{IsAnswered, ArchivesAnswer};
 ghost use Rattle.sql_tables.specs.State.{MayBeStopped, LeavesUnchanged, Found, Holds, Idles, IsOpenAndIdle};
 ghost use Rattle.sql_tables.specs.Connections.{WhereClean, CommitsNothing};
 
@@ -108,7 +107,7 @@ pub fn select<S: Alter>(
     params: &[ValueRef<'_>],
 ) -> Result<Vec<Row>, StoreFault>
     requires idles { WhereClean S.Store conn.old Idles }
-    requires answered { IsAnswered archive_schema sql.now (bound params.now) }
+    requires answered { ArchivesAnswer sql.now (bound params.now) }
     ensures { LeavesUnchanged (state S.Store conn.old) (state S.Store conn.new) result
         (λ rows.
         Shown sql.now (bound params.now) (state S.Store conn.old)

@@ -13,7 +13,7 @@ ghost use Rattle.ua_variant.specs.DataValue.{data_value, IsShortData};
 ghost use Rattle.records.specs.Spelling.{IsLawfulRecord};
 ghost use Rattle.sql_tables.specs.Rows.{row_of};
 ghost use Rattle.sql_tables.specs.Learning.{Stored};
-ghost use Rattle.sql_tables.specs.Connections.{WhereClean, Sees, tables_of, Commits};
+ghost use Rattle.sql_tables.specs.Connections.{WhereClean, Sees, tables_of, CommitsArchive};
 
 use crate::insert::keep;
 use crate::integrity::are_none;
@@ -64,7 +64,7 @@ fn write_cells<S: Alter>(conn: &mut Connection<S>, r: &Cells, first: bool) -> Re
     requires next { WhereClean S.Store conn.old (Sees (IsNextRow (row_of_cells r.now))) }
     requires none { IsTrue first → HasCleanDisk (state S.Store conn.old)
         → HasNoneOf r.now.node.items r.now.time r.now.pico (cells (tables_of S.Store conn.old 1)) }
-    ensures added { Commits S.Store conn.old conn.new result (Adds (row_of_cells r.now)) }
+    ensures added { CommitsArchive S.Store conn.old conn.new result (Adds (row_of_cells r.now)) }
     ensures refused { HasCleanDisk (state S.Store conn.new)
         → IfErr result
         (λ fault. fault ≢ StoreFault.Broken
@@ -87,7 +87,7 @@ pub(crate) fn store_cells<S: Alter>(conn: &mut Connection<S>, r: &Cells) -> Resu
     requires idles { WhereClean S.Store conn.old Idles }
     requires kept { WhereClean S.Store conn.old (Sees AreKept) }
     requires next { WhereClean S.Store conn.old (Sees (IsNextRow (row_of_cells r.now))) }
-    ensures added { Commits S.Store conn.old conn.new result (Adds (row_of_cells r.now)) }
+    ensures added { CommitsArchive S.Store conn.old conn.new result (Adds (row_of_cells r.now)) }
     ensures refused { HasCleanDisk (state S.Store conn.new)
         → IfErr result
         (λ fault. fault ≢ StoreFault.Broken

@@ -1,8 +1,8 @@
-use Rattle.std.proofs.Common.{◌∷◌, false, inr, ◌≡◌, [], Result, Ok, Err, IfErr, IsTrue, None, List, ℕ, refl, ap, arith, rules, sym, subst, subst₂, ◌∙◌}
+use Rattle.std.proofs.Common.{◌∷◌, inr, ◌≡◌, [], Result, Ok, Err, IfErr, IsTrue, None, List, ℕ, refl, ap, arith, rules, sym, subst, subst₂, ◌∙◌}
 use Rattle.std.specs.Option.{option_copied}
 use Rattle.sqlite.specs.Given.{IsPlain, Advances, FailsToAdvance, GivesOn, row_if}
 use Rattle.sqlite.specs.Effect.{Database, ReadsFirst}
-use Rattle.sqlite.specs.Listing.{understood, reads_listing}
+use Rattle.sqlite.specs.Listing.{understood}
 use Rattle.sqlite_value.specs.Order.{Row}
 use Rattle.std.proofs.lemmas.List.{length-append}
 use Rattle.sqlite.specs.State.{State, HasCleanDisk, Survives, CommitsShowing, FailsToQuery, Begins}
@@ -12,49 +12,46 @@ use Rattle.sqlite.proofs.Callers.{never_commits, begun_plain, unchanged_then, gi
 use Rattle.sqlite.specs.declared.error.Error.{Error}
 use Rattle.sqlite.specs.declared.error.Error.TheVariants.{SqliteFailure}
 use Rattle.sqlite.specs.declared.error.ErrorCode.TheVariants.{OutOfMemory}
-use Rattle.sql_tables.specs.Asking.{IsAnswered}
+use Rattle.sql_tables.specs.Asking.{ArchivesAnswer}
 use Rattle.sql_tables.specs.State.{Holds, Idles, MayBeStopped}
-use Rattle.sql_tables.proofs.AnsweredLemmas.{answered_plain, query_stops}
-use Rattle.sql_schema.specs.Tables.{archive_schema}
+use Rattle.sql_tables.proofs.AnsweredLemmas.{answered_in, answered_plain, query_stops}
+use Rattle.sql_schema.specs.Tables.{IsArchiveSchema}
+use Rattle.sql_schema.proofs.StandingLemmas.{archive_as}
 use Rattle.sql_tables.specs.Agreeing.{command_in, ShowsOf, AreUncountable, BeginsUncountable}
 use Rattle.sql_tables.proofs.AskLemmas.{rests_of, stops_behind}
 use Rattle.sql_tables.proofs.AgreeLemmas.{shows_of, begins_of}
 use Rattle.sql_tables.proofs.WriteLemmas.{fails_query}
 use Rattle.sql_tables.proofs.integrity.count_ids.Goals as goal
 
-plain_in : (sql : List ℕ) (s : State) → IsPlain (understood archive_schema sql) → Idles s
+plain_in : (sql : List ℕ) (s : State) → ArchivesAnswer sql [] → IsArchiveSchema s.now.schema
     → IsPlain (understood s.now.schema sql)
-plain_in sql s plain was = subst (λ d. IsPlain (understood d sql)) (sym was.tables) plain
+plain_in sql s answer has =
+    answered_plain s.now.schema sql [] (answered_in s.now.schema sql [] has answer)
 
-commits_nothing : (sql : List ℕ) (old new : State) → IsPlain (understood archive_schema sql)
+commits_nothing : (sql : List ℕ) (old new : State) → ArchivesAnswer sql []
     → (HasCleanDisk old → Idles old) → Survives old new (CommitsShowing sql [] old)
     → Survives old new (λ _. ⊥)
-commits_nothing sql old new plain idles s =
-    survives_weaker old new _ _ (λ clean db.
-    never_commits sql [] old db (plain_in sql old plain (idles (omega (arith, s.clean, clean))))) s
+commits_nothing sql old new answer idles s =
+    survives_weaker old new _ _ (λ clean db. never_commits sql [] old db
+    (plain_in sql old answer (idles (omega (arith, s.clean, clean))).tables)) s
 
 begins_with : (sql : List ℕ) (s : State) (db : Database) (rows : List Row) → s.now ≡ db
-    → s.now.schema ≡ archive_schema → IsPlain (understood archive_schema sql)
-    → reads_listing archive_schema sql ≡ false
-    → Begins sql [] s rows → AreUncountable rows → BeginsUncountable sql db
-begins_with sql s db rows same has plain unlisted begins so =
+    → IsArchiveSchema s.now.schema → ArchivesAnswer sql [] → Begins sql [] s rows
+    → AreUncountable rows → BeginsUncountable sql db
+begins_with sql s db rows same has answer begins so =
     record {
       rows = rows;
-      shown = subst (λ d.
-          ReadsFirst (command_in (understood archive_schema sql)) d [] rows) same
-          (begins_of sql s rows has plain unlisted begins);
+      shown = subst (λ (d : Database). ReadsFirst (command_in (understood d.schema sql)) d [] rows)
+          same (begins_of sql s rows (plain_in sql s answer has)
+          (answered_in s.now.schema sql [] has answer).unlisted begins);
       so = so;
     }
 
-plain_of : (sql : List ℕ) → IsAnswered archive_schema sql [] → IsPlain
-    (understood archive_schema sql)
-plain_of sql a = answered_plain archive_schema sql [] a
-
-stops : (sql : List ℕ) (a b : State) (e : Error) → IsAnswered archive_schema sql []
-    → a.now.schema ≡ archive_schema → IsTrue a.is_open → FailsToQuery sql [] a b e
+stops : (sql : List ℕ) (a b : State) (e : Error) → ArchivesAnswer sql []
+    → IsArchiveSchema a.now.schema → IsTrue a.is_open → FailsToQuery sql [] a b e
     → (e ≡ SqliteFailure OutOfMemory → ⊥) → MayBeStopped a b
-stops sql a b e answered has live h some = query_stops sql [] a b e
-    (subst (λ d. IsAnswered d sql []) (sym has) answered) live some h
+stops sql a b e answer has live h some =
+    query_stops sql [] a b e (answered_in a.now.schema sql [] has answer) live some h
 
 each_err : {A E : Type 0} {P : Type 0} (r : Result A E) → P → IfErr r (λ _. P)
 each_err (Ok a) p = tt
@@ -71,8 +68,7 @@ returns-in_err-rows-clause-refused g c clean =
     let early : HasCleanDisk old = omega (arith, kept.clean, clean) in
     each_err {P = IsTrue new.is_open → Holds old new} _
     (λ is_open. fails_query c.args.sql.now [] old new _
-    (plain_in c.args.sql.now old (plain_of c.args.sql.now c.requires.answered)
-    (c.requires.idles early))
+    (plain_in c.args.sql.now old c.requires.answered (c.requires.idles early).tables)
     (rests_of old (c.requires.idles early)) is_open failed)
 
 pub returns-in_err-rows-clause-stopped : goal.returns-in_err-rows-clause-stopped
@@ -101,7 +97,7 @@ returns-in_err-advance-clause-stopped g c clean =
     let failed : FailsToAdvance g.S.Store mid now c.in_err-advance.field-0.0 = moved.err late in
     let idles = c.requires.idles (omega
     (arith, c.rows.invariant.1.clean, moved.survives.clean, late)) in
-    let tables = ap (λ (d : Database). d.schema) was.2.0.now_is ∙ idles.tables in
+    let tables = archive_as (ap (λ (d : Database). d.schema) was.2.0.now_is) idles.tables in
     let told : c.from_residual-in_err-advance.result ≡ Err c.in_err-advance.field-0.0 =
     search rules in
     let left : c.conn-in_err-advance-1.given.0 ≡ now = search rules in
@@ -117,20 +113,19 @@ returns-in_err-rows-clause-crash g c =
     let new = state g.S.Store c.query.follows.lender-at-none in
     let held = c.query.follows.holds-at-none in
     let kept : Survives old new (CommitsShowing c.args.sql.now [] old) = search rules in
-    commits_nothing c.args.sql.now old new (plain_of c.args.sql.now c.requires.answered)
-    c.requires.idles kept
+    commits_nothing c.args.sql.now old new c.requires.answered c.requires.idles kept
 
 pub rows-init : goal.rows-init
 rows-init g c =
     let old = state g.S.Store c.args.conn.now in
     let made = c.in_ok-rows.ensures in (
       refl,
-      commits_nothing c.args.sql.now old _ (plain_of c.args.sql.now c.requires.answered)
-          c.requires.idles made.survives,
+      commits_nothing c.args.sql.now old _ c.requires.answered c.requires.idles made.survives,
       λ clean.
           let begun = begun_plain g.S.Store c.args.sql.now [] c.args.conn.now _
-          (plain_in c.args.sql.now old (plain_of c.args.sql.now c.requires.answered)
-          (c.requires.idles (omega (arith, made.survives.clean, clean)))) (made.begun clean) in
+          (plain_in c.args.sql.now old c.requires.answered
+          (c.requires.idles (omega (arith, made.survives.clean, clean))).tables)
+          (made.begun clean) in
           ([], begun.0, begun.1, c.no_ids-ids.ensures, refl),
     )
 
@@ -149,13 +144,14 @@ returns-in_default-clause-counted g c clean =
     (on c.args.sql.now [] was.0 was.1) in
     let idles = c.requires.idles (omega
     (arith, c.rows.invariant.1.clean, moved.survives.clean, late)) in
-    let tables = ap (λ (d : Database). d.schema) was.2.0.now_is ∙ idles.tables in
+    let tables = archive_as (ap (λ (d : Database). d.schema) was.2.0.now_is) idles.tables in
     record {
       rows = was.0;
       shown = subst (λ d. ShowsOf c.args.sql.now d was.0) was.2.0.now_is
           (shows_of c.args.sql.now (state g.S.Store mid)
-          (state g.S.Store now) was.0 tables (plain_of c.args.sql.now c.requires.answered)
-          c.requires.answered.unlisted shown);
+          (state g.S.Store now) was.0
+          (plain_in c.args.sql.now (state g.S.Store mid) c.requires.answered tables)
+          (answered_in _ c.args.sql.now [] tables c.requires.answered).unlisted shown);
       numbers = was.3.numbers;
       rise = was.3.rise;
       many = was.3.many;
@@ -203,10 +199,9 @@ returns-in-Err-clause-met g c = (
       (moved.same late)).0.now_is in
       let idles = c.requires.idles (omega
       (arith, c.rows.invariant.1.clean, moved.survives.clean, late)) in
-      let tables = ap (λ (d : Database). d.schema) same ∙ idles.tables in
-      begins_with c.args.sql.now (state g.S.Store now) old.now _ same tables
-      (plain_of c.args.sql.now c.requires.answered)
-      c.requires.answered.unlisted (given_begin g.S.Store c.args.sql.now [] now _ given)
+      let tables = archive_as (ap (λ (d : Database). d.schema) same) idles.tables in
+      begins_with c.args.sql.now (state g.S.Store now) old.now _ same tables c.requires.answered
+      (given_begin g.S.Store c.args.sql.now [] now _ given)
       (c.in-Err.ensures.refused was.0 was.3),
 )
 
@@ -220,9 +215,8 @@ returns-clause-met g c = (
       let was = c.rows.invariant.2 late in
       let same = was.2.0.now_is in
       let idles = c.requires.idles (omega (arith, c.rows.invariant.1.clean, late)) in
-      let tables = ap (λ (d : Database). d.schema) same ∙ idles.tables in
-      begins_with c.args.sql.now (state g.S.Store mid) old.now was.0 same tables
-      (plain_of c.args.sql.now c.requires.answered)
-      c.requires.answered.unlisted (given_begin g.S.Store c.args.sql.now [] mid was.0 was.1)
+      let tables = archive_as (ap (λ (d : Database). d.schema) same) idles.tables in
+      begins_with c.args.sql.now (state g.S.Store mid) old.now was.0 same tables c.requires.answered
+      (given_begin g.S.Store c.args.sql.now [] mid was.0 was.1)
       (inr (omega (arith, was.4, c.rows-test.false))),
 )

@@ -18,7 +18,8 @@ returns g c =
     let early = c.requires.idles (omega (arith, c.shows_none.ensures.crash.clean, clean)) in
     let filled = c.requires.filled (omega (arith, c.shows_none.ensures.crash.clean, clean)) in
     let typed = filled_cells filled.0 old.now.trees filled.2 in (
-      λ none. currents_tell_of old.now early.tables (c.schema-schema.ensures.live early.is_open).0 typed
+      λ none. currents_tell_of old.now early.tables
+          (c.schema-schema.ensures.live early.is_open).0 typed
           (told.0 none),
       λ some. currents_alone_some old.now early.tables typed (told.1 some),
     )) c.shows_none.ensures

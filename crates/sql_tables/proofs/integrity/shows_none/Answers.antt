@@ -2,9 +2,8 @@ use Rattle.std.proofs.Common.{◌≡◌, ◌∷◌, List, refl, subst, arith, []
 use Rattle.sqlite_value.specs.Order.{Row}
 use Rattle.sqlite.specs.Effect.{Database}
 use Rattle.sqlite.specs.Held.{state}
-use Rattle.sql_schema.specs.Tables.{archive_schema}
 use Rattle.sql_tables.specs.Agreeing.{ShowsOf, ShowsSome}
-use Rattle.sql_tables.proofs.AnsweredLemmas.{answered_plain}
+use Rattle.sql_tables.proofs.AnsweredLemmas.{answered_in, answered_plain}
 use Rattle.sql_tables.proofs.AgreeLemmas.{shows_of}
 use Rattle.sql_tables.proofs.integrity.shows_none.Goals as goal
 
@@ -19,11 +18,12 @@ returns g c =
     let old = state g.S.Store c.args.conn.now in
     record {
       answer = λ clean.
+          let tables = (c.requires.idles (omega (arith, e.crash.clean, clean))).tables in
+          let answer = answered_in old.now.schema c.args.sql.now [] tables c.requires.answered in
           let shown = shows_of c.args.sql.now old
           (state g.S.Store c.select.new.conn) c.in_ok-rows.rows.items
-          (c.requires.idles (omega (arith, e.crash.clean, clean))).tables
-          (answered_plain archive_schema c.args.sql.now [] c.requires.answered)
-          c.requires.answered.unlisted (e.answer clean) in (
+          (answered_plain old.now.schema c.args.sql.now [] answer) answer.unlisted
+          (e.answer clean) in (
             λ none.
                 let empty : c.in_ok-rows.rows.items ≡ [] =
                 (rw c.deref.ensures.value at c.are_none.ensures.none) none in

@@ -1,7 +1,6 @@
-use Rattle.std.proofs.Common.{sym, subst}
 use Rattle.sqlite.specs.Values.{bound}
 use Rattle.sqlite.specs.Held.{state}
-use Rattle.sql_tables.specs.Asking.{IsAnswered}
+use Rattle.sql_tables.proofs.AnsweredLemmas.{answered_in}
 use Rattle.sql_tables.proofs.AskLemmas.{asked_of, rests_of}
 use Rattle.sql_tables.proofs.statements.select.Goals as goal
 
@@ -11,8 +10,8 @@ ask-requires-clause-rests g c clean =
 
 pub ask-requires-clause-answered : goal.ask-requires-clause-answered
 ask-requires-clause-answered g c clean =
-    subst (λ d. IsAnswered d c.args.sql.now (bound c.args.params.now))
-    (sym (c.requires.idles clean).tables) c.requires.answered
+    answered_in (state g.S.Store c.args.conn.now).now.schema c.args.sql.now
+    (bound c.args.params.now) (c.requires.idles clean).tables c.requires.answered
 
 pub returns : goal.returns
 returns g c = asked_of (state g.S.Store c.args.conn.now)
