@@ -181,7 +181,8 @@ currents_dropped : IsDrop beside_schema with_records_beside drop_currents_text 5
 unfolding understood everything
 currents_dropped = (refl, (refl, refl), refl, refl, refl, refl)
 
-records_dropped : IsDrop with_records_beside archive_schema drop_records_text 4 records_beside
+records_dropped : IsDrop with_records_beside (archive_schema false) drop_records_text 4
+    records_beside
 unfolding understood everything
 records_dropped = (refl, (refl, refl), refl, refl, refl, refl)
 
@@ -202,7 +203,7 @@ drops_currents old new (Ok count) was h =
 
 pub drops_records : (old new : State) (r : Result ℕ Error) → Making with_records_beside old
     → ExecutesInside 0 drop_records_text [] old new r
-    → OnOk r (Making archive_schema new × (new.committed ≡ old.committed)
+    → OnOk r (Making (archive_schema false) new × (new.committed ≡ old.committed)
     × IsCleared old.now.trees new.now.trees)
 drops_records old new (Err e) was h = tt
 drops_records old new (Ok count) was h =

@@ -1,5 +1,5 @@
 -- What a store of format 1 shows, and how its tables are taken out.
-use Rattle.std.proofs.Common.{◌≡◌, ℕ, pos, true, false, List, [], ◌∷◌, map, filter, codes, Option, Some, Ok, Err, Result, IfOk, OnOk, refl, sym, ap, subst, ◌∙◌, slice_get, IsPermutation}
+use Rattle.std.proofs.Common.{◌≡◌, ℕ, pos, Bool, true, false, List, [], ◌∷◌, map, filter, codes, Option, Some, Ok, Err, Result, IfOk, OnOk, refl, sym, ap, subst, ◌∙◌, slice_get, IsPermutation}
 use Rattle.sqlite_value.specs.declared.value.Value.TheVariants.{Null, Int}
 use Rattle.sqlite_value.specs.declared.keys.Collation.TheVariants.{Binary}
 use Rattle.sqlite_value.specs.declared.keys.Key.{Key}
@@ -19,7 +19,7 @@ use Rattle.sqlite.specs.Effect.{Database}
 use Rattle.sqlite.specs.Listing.{understood, reads_listing}
 use Rattle.sqlite.specs.State.{State, Shown, IsUnchanged, mode_of, Executes, ExecutesInside}
 use Rattle.sqlite.proofs.Callers.{IsPlain, command_of, reads_as, runs_as}
-use Rattle.sql_schema.specs.Tables.{no_schema, with_meta, with_records1, with_currents1, schema1, archive_schema, first_table, second_table1, third_table1, fourth_table}
+use Rattle.sql_schema.specs.Tables.{no_schema, with_meta, with_records1, with_currents1, schema1, archive_schema, IsArchiveSchema, first_table, second_table1, third_table1, fourth_table}
 use Rattle.sql_tables.specs.Derived.{current_columns, vector_columns}
 use Rattle.sql_tables.specs.State.{Making}
 use Rattle.sql_opening.specs.Renewing.{columns1, cells1, current1}
@@ -120,42 +120,46 @@ finds_vectors1 = finds schema1 all_vectors_text 6 vector_terms
 abbrev made_terms : List Term
 made_terms = col 1 1 ∷ col 1 2 ∷ col 1 3 ∷ col 1 4 ∷ col 1 5 ∷ col 1 6 ∷ col 1 7 ∷ col 1 8 ∷ []
 
-currents_are : IsOf archive_schema all_currents_text 4 made_terms (by 1 ∷ by 2 ∷ by 3 ∷ [])
+currents_are : (indexed : Bool) → IsOf (archive_schema indexed) all_currents_text 4 made_terms
+    (by 1 ∷ by 2 ∷ by 3 ∷ [])
     (current_names (codes "pico"))
 unfolding understood everything
-currents_are = (refl, refl, (refl, refl))
+currents_are indexed = (refl, refl, (refl, refl))
 
-vectors_are : IsOf archive_schema all_vectors_text 6 vector_terms (by 0 ∷ []) vector_names
+vectors_are : (indexed : Bool) → IsOf (archive_schema indexed) all_vectors_text 6 vector_terms
+    (by 0 ∷ []) vector_names
 unfolding understood everything
-vectors_are = (refl, refl, (refl, refl))
+vectors_are indexed = (refl, refl, (refl, refl))
 
 -- a query changes nothing
-unchanged : (text : List ℕ) (old new : State) (rows : List Row) → old.now.schema ≡ archive_schema
-    → IsPlain (understood archive_schema text) → Shown text [] old new rows → IsUnchanged old new
+unchanged : (text : List ℕ) (old new : State) (rows : List Row)
+    → (has : IsArchiveSchema old.now.schema) → IsPlain (understood (archive_schema has.0) text)
+    → Shown text [] old new rows → IsUnchanged old new
 unchanged text old new rows has plain h =
-    leaves_all text [] old new rows (subst (λ s. IsPlain (understood s text)) (sym has) plain) h
+    leaves_all text [] old new rows (subst (λ s. IsPlain (understood s text)) (sym has.1) plain) h
 
-pub shows_currents : (old new : State) (rows : List Row) → old.now.schema ≡ archive_schema
+pub shows_currents : (old new : State) (rows : List Row) → IsArchiveSchema old.now.schema
     → Shown all_currents_text [] old new rows
     → IsUnchanged old new × IsPermutation (map current_columns (old.now.trees 4)) rows
 shows_currents old new rows has h = (
-  unchanged all_currents_text old new rows has currents_are.2 h,
-  finds archive_schema all_currents_text 4 made_terms (by 1 ∷ by 2 ∷ by 3 ∷ [])
-      (current_names (codes "pico")) currents_are current_columns
-      (λ c. column c 0 ∷ column c 1 ∷ column c 2 ∷ []) (λ r. refl) old new rows has h,
+  unchanged all_currents_text old new rows has (currents_are has.0).2 h,
+  finds (archive_schema has.0) all_currents_text 4 made_terms (by 1 ∷ by 2 ∷ by 3 ∷ [])
+      (current_names (codes "pico")) (currents_are has.0) current_columns
+      (λ c. column c 0 ∷ column c 1 ∷ column c 2 ∷ []) (λ r. refl) old new rows has.1 h,
 )
 
-pub vectors_plain : IsPlain (understood archive_schema all_vectors_text)
-vectors_plain = vectors_are.2
+pub vectors_plain : (indexed : Bool)
+    → IsPlain (understood (archive_schema indexed) all_vectors_text)
+vectors_plain indexed = (vectors_are indexed).2
 
-pub shows_vectors : (old new : State) (rows : List Row) → old.now.schema ≡ archive_schema
+pub shows_vectors : (old new : State) (rows : List Row) → IsArchiveSchema old.now.schema
     → Shown all_vectors_text [] old new rows
     → IsUnchanged old new × IsPermutation (map vector_columns (old.now.trees 6)) rows
 shows_vectors old new rows has h = (
-  unchanged all_vectors_text old new rows has vectors_are.2 h,
-  finds archive_schema all_vectors_text 6 vector_terms
-      (by 0 ∷ []) vector_names vectors_are vector_columns (λ c. column c 0 ∷ [])
-      (λ r. refl) old new rows has h,
+  unchanged all_vectors_text old new rows has (vectors_are has.0).2 h,
+  finds (archive_schema has.0) all_vectors_text 6 vector_terms
+      (by 0 ∷ []) vector_names (vectors_are has.0) vector_columns (λ c. column c 0 ∷ [])
+      (λ r. refl) old new rows has.1 h,
 )
 
 -- ---- DROP TABLE, whatever the schema and the text are

@@ -26,7 +26,8 @@ use Rattle.sql_tables.specs.Rows.{IsNoRecords}
 use Rattle.sql_tables.specs.Words.{name_order}
 use Rattle.sql_tables.proofs.Texts.{all_text}
 use Rattle.sql_tables.proofs.QueryLemmas.{begins_named}
-use Rattle.sql_schema.specs.Tables.{archive_schema}
+use Rattle.sql_schema.specs.Tables.{IsArchiveSchema}
+use Rattle.sql_schema.proofs.StandingLemmas.{archive_as}
 use Rattle.std.proofs.Common.{rules, IsSorted, ℤ}
 use Rattle.sql_tables.specs.Words.{cells_of}
 use Rattle.records.specs.declared.fault.RecordFault.{RecordFault}
@@ -338,7 +339,7 @@ unread_as row memory.NotCanonical (inl is) = absurd (search rules)
 unread_as row memory.NotCanonical (inr none) = inr (refl, none)
 
 -- the rows that a walk was given begin so
-pub begins_out : (old new : State) (rows : List Row) → old.now.schema ≡ archive_schema
+pub begins_out : (old new : State) (rows : List Row) → IsArchiveSchema old.now.schema
     → IsUnchanged old new → Begins all_text [] new rows → AreOutOfTurn rows
     → BeginOutOfTurn old.now.trees
 begins_out old new rows known same begins so =
@@ -368,7 +369,8 @@ begins_out old new rows known same begins so =
 
     found : (rest : List Row) × IsPermutation (cells (new.now.trees 1)) (rows ++ rest)
         × IsSorted name_order (rows ++ rest)
-    found = begins_named new rows (ap (λ (d : Database). d.schema) same.0.now_is ∙ known) still
+    found = begins_named new rows
+        (archive_as (ap (λ (d : Database). d.schema) same.0.now_is) known) still
         begins
 
 -- ---- whose store it is

@@ -251,8 +251,9 @@ opened_rows id own a b c result one two early = record {
     never (Err f) h = λ o. absurd (h o)
 
 -- two queries inside of a transaction change nothing
-pub makes_still : (a b c : State) → Making archive_schema a → IsUnchanged a b → IsUnchanged b c
-    → Making archive_schema c × (c.committed ≡ a.committed) × (c.now.trees ≡ a.now.trees)
+pub makes_still : (a b c : State) → Making (archive_schema false) a → IsUnchanged a b
+    → IsUnchanged b c
+    → Making (archive_schema false) c × (c.committed ≡ a.committed) × (c.now.trees ≡ a.now.trees)
     × (b.now.trees ≡ a.now.trees)
 makes_still a b c was one two =
     let now : c.now ≡ a.now = two.0.now_is ∙ one.0.now_is in (

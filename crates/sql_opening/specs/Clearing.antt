@@ -1,6 +1,6 @@
 -- Tables of records and current values of format 1 that stand behind those of an archive and hold
 -- no row: they are taken out.
-use Rattle.std.specs.Prelude.{◌≡◌, ℕ, List, []}
+use Rattle.std.specs.Prelude.{◌≡◌, false, ℕ, List, []}
 use Rattle.sqlite_trees.specs.Tree.{Trees}
 use Rattle.sqlite_trees.specs.Objects.{catalog_tree}
 use Rattle.sqlite_catalog.specs.Listing.{Lists}
@@ -23,7 +23,7 @@ pub record KeepsTables (old new : Trees) : Type 0 where
 -- and no other table is left
 pub record IsCleared (old new : Trees) : Type 0 where
   pub keeps : KeepsTables old new
-  pub lists : Lists (new catalog_tree) archive_schema
+  pub lists : Lists (new catalog_tree) (archive_schema false)
 
 -- a store of this archive and replica with such tables, as an opening takes it
 abbrev pub IsStoreBeside : List ℕ → ℕ → Trees → Type 0

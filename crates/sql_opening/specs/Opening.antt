@@ -23,7 +23,7 @@ use Rattle.sql_opening.specs.Latest.{Remembers}
 use Rattle.sql_tables.specs.Derived.{AreKept}
 use Rattle.sql_tables.specs.Rows.{IsStored, meta_cells, row_of}
 use Rattle.sqlite.specs.Effect.{Database}
-use Rattle.sql_schema.specs.Tables.{no_schema, schema1, archive_schema, beside_schema}
+use Rattle.sql_schema.specs.Tables.{no_schema, schema1, IsArchiveSchema, beside_schema}
 use Rattle.sql_tables.specs.State.{Holds, KeepsState, HasMeta, IsNewArchive, RefusesFor, AreWhole, shown_of}
 
 abbrev pub mark_of : Record → Mark
@@ -195,7 +195,7 @@ IsBegunIn id own old db =
 -- the tables that stood there are kept, all of them or all but empty ones of format 1
 abbrev pub IsKeptIn : List ℕ → ℕ → Database → Database → Type 0
 IsKeptIn id own old new =
-    ((old.schema ≡ archive_schema) × (new ≡ old)) ⊎ IsClearedIn id own old new.trees
+    (IsArchiveSchema old.schema × (new ≡ old)) ⊎ IsClearedIn id own old new.trees
 
 -- an archive begins with the tables that the opening made, or with those that stood there, which
 -- are those of a lawful content of this archive and replica

@@ -1,6 +1,6 @@
 -- A store of format 1, whose moments have no picoseconds: what it holds, and what its tables
 -- become.
-use Rattle.std.specs.Prelude.{◌≡◌, ℕ, ℤ, pos, List, [], ◌∷◌, ◌++◌, map, IsPermutation}
+use Rattle.std.specs.Prelude.{◌≡◌, false, ℕ, ℤ, pos, List, [], ◌∷◌, ◌++◌, map, IsPermutation}
 use Rattle.std.specs.List.{flat_map}
 use Rattle.sqlite_value.specs.declared.value.Value.TheVariants.{Int, Blob as Bytes}
 use Rattle.sqlite_value.specs.Order.{Row, column}
@@ -70,7 +70,7 @@ pub record IsRenewed (id : List ℕ) (own : ℤ) (rows : List Row) (db : Trees) 
   pub meta : meta_cells db ≡ (Int (pos 1) ∷ Int (pos 2) ∷ Bytes id ∷ Int own ∷ []) ∷ []
   pub records : IsPermutation rows (cells (db 1))
   pub kept : AreKept db
-  pub lists : Lists (db catalog_tree) archive_schema
+  pub lists : Lists (db catalog_tree) (archive_schema false)
 
 -- current values and last numbers of format 1 are those of its records, and the new tables hold
 -- these

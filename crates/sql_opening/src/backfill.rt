@@ -1,6 +1,6 @@
 //! Current values and last numbers, from the records.
 
-ghost use Rattle.std.specs.Prelude.{◌≡◌, true};
+ghost use Rattle.std.specs.Prelude.{◌≡◌, false, true};
 ghost use Rattle.sql_schema.specs.Tables.{archive_schema};
 ghost use Rattle.sql_tables.specs.Derived.{vectors_of};
 ghost use Rattle.sql_tables.specs.State.{Making};
@@ -11,8 +11,8 @@ use sqlite::{Alter, Error, Transaction};
 
 /// Puts in the current values of all records.
 fn fill_currents<S: Alter>(tx: &mut Transaction<'_, S>) -> Result<usize, Error>
-    requires { WhereClean S.Store tx.old.conn.now (Making archive_schema) }
-    ensures made { Writes S.Store tx.old.conn.now tx.new.conn.now archive_schema result
+    requires { WhereClean S.Store tx.old.conn.now (Making (archive_schema false)) }
+    ensures made { Writes S.Store tx.old.conn.now tx.new.conn.now (archive_schema false) result
         (PutsCurrents (λ _. true)) }
     ensures kept { KeepsLastCommit S.Store tx.old.conn.now tx.new.conn.now }
     ensures same { tx.new.conn.ghost_name ≡ tx.old.conn.ghost_name }
@@ -26,9 +26,9 @@ fn fill_currents<S: Alter>(tx: &mut Transaction<'_, S>) -> Result<usize, Error>
 
 /// Puts in the last numbers of all records.
 fn fill_vectors<S: Alter>(tx: &mut Transaction<'_, S>) -> Result<usize, Error>
-    requires { WhereClean S.Store tx.old.conn.now (Making archive_schema) }
-    ensures made { WritesListed S.Store tx.old.conn.now tx.new.conn.now result
-        (PutsVectors vectors_of) }
+    requires { WhereClean S.Store tx.old.conn.now (Making (archive_schema false)) }
+    ensures made { WritesListed S.Store tx.old.conn.now tx.new.conn.now (archive_schema false)
+        result (PutsVectors vectors_of) }
     ensures kept { KeepsLastCommit S.Store tx.old.conn.now tx.new.conn.now }
     ensures same { tx.new.conn.ghost_name ≡ tx.old.conn.ghost_name }
     ensures crash { CommitsNothing S.Store tx.old.conn.now tx.new.conn.now }
@@ -41,8 +41,9 @@ fn fill_vectors<S: Alter>(tx: &mut Transaction<'_, S>) -> Result<usize, Error>
 
 /// Both.
 pub(crate) fn fill_beside<S: Alter>(tx: &mut Transaction<'_, S>) -> Result<(), Error>
-    requires { WhereClean S.Store tx.old.conn.now (Making archive_schema) }
-    ensures made { Writes S.Store tx.old.conn.now tx.new.conn.now archive_schema result Fills }
+    requires { WhereClean S.Store tx.old.conn.now (Making (archive_schema false)) }
+    ensures made { Writes S.Store tx.old.conn.now tx.new.conn.now (archive_schema false) result
+        Fills }
     ensures kept { KeepsLastCommit S.Store tx.old.conn.now tx.new.conn.now }
     ensures same { tx.new.conn.ghost_name ≡ tx.old.conn.ghost_name }
     ensures crash { CommitsNothing S.Store tx.old.conn.now tx.new.conn.now }

@@ -7,10 +7,9 @@ ghost use Rattle.sqlite_value.specs.Order.{Row as Columns, column};
 ghost use Rattle.sqlite_value.specs.declared.value.Value.TheVariants as value;
 ghost use Rattle.records.specs.Spelling.{IsRecord};
 ghost use Rattle.sql_tables.specs.Rows.{row_of, IsNoRecords};
-ghost use Rattle.sql_schema.specs.Tables.{archive_schema};
-ghost use Rattle.sql_tables.specs.State.{MayBeStopped, Holds, IsOpenAndIdle, shown_of};
+ghost use Rattle.sql_tables.specs.State.{HasTables, MayBeStopped, Holds, IsOpenAndIdle, shown_of};
 ghost use Rattle.sql_opening.specs.Opening.{comes_next, HasWalked, HasChecked, AreOutOfTurn, BeginOutOfTurn};
-ghost use Rattle.sql_tables.specs.Connections.{WhereClean, HasSchema, tables_of, CommitsNothing};
+ghost use Rattle.sql_tables.specs.Connections.{WhereClean, tables_of, CommitsNothing};
 
 use crate::latest::{Latest, raised};
 use archive::StoreFault;
@@ -127,7 +126,7 @@ pub(crate) fn check_rows<S: Alter>(
     conn: &mut Connection<S>,
 ) -> Result<Result<Walk, StoreFault>, Error>
     requires rests { WhereClean S.Store conn.old IsOpenAndIdle }
-    requires known { WhereClean S.Store conn.old (HasSchema archive_schema) }
+    requires known { WhereClean S.Store conn.old HasTables }
     ensures checked { HasCleanDisk (state S.Store conn.new)
         → IfOk result (λ told. IfOk told (HasChecked (tables_of S.Store conn.old))) }
     ensures met { IfOk result (λ told. IfErr told (λ fault. (fault ≡ StoreFault.OutOfMemory)

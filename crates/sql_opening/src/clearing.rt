@@ -84,7 +84,8 @@ fn drop_currents<S: Alter>(tx: &mut Transaction<'_, S>) -> Result<usize, Error>
 
 fn drop_records<S: Alter>(tx: &mut Transaction<'_, S>) -> Result<usize, Error>
     requires { WhereClean S.Store tx.old.conn.now (Making with_records_beside) }
-    ensures made { Writes S.Store tx.old.conn.now tx.new.conn.now archive_schema result IsCleared }
+    ensures made { Writes S.Store tx.old.conn.now tx.new.conn.now (archive_schema false) result
+        IsCleared }
     ensures same { tx.new.conn.ghost_name ≡ tx.old.conn.ghost_name }
     ensures crash { CommitsNothing S.Store tx.old.conn.now tx.new.conn.now }
 {
@@ -94,7 +95,8 @@ fn drop_records<S: Alter>(tx: &mut Transaction<'_, S>) -> Result<usize, Error>
 /// Takes them out, in a transaction.
 fn drop_beside<S: Alter>(tx: &mut Transaction<'_, S>) -> Result<(), Error>
     requires { WhereClean S.Store tx.old.conn.now (Making beside_schema) }
-    ensures made { Writes S.Store tx.old.conn.now tx.new.conn.now archive_schema result IsCleared }
+    ensures made { Writes S.Store tx.old.conn.now tx.new.conn.now (archive_schema false) result
+        IsCleared }
     ensures same { tx.new.conn.ghost_name ≡ tx.old.conn.ghost_name }
     ensures crash { CommitsNothing S.Store tx.old.conn.now tx.new.conn.now }
 {

@@ -227,8 +227,8 @@ fn put_record<S: Alter>(
     tx: &mut Transaction<'_, S>,
     row: &Row,
 ) -> Result<usize, Error>
-    requires { WhereClean S.Store tx.old.conn.now (Making archive_schema) }
-    ensures made { Writes S.Store tx.old.conn.now tx.new.conn.now archive_schema result
+    requires { WhereClean S.Store tx.old.conn.now (Making (archive_schema false)) }
+    ensures made { Writes S.Store tx.old.conn.now tx.new.conn.now (archive_schema false) result
         (AddsRecord (shown_of row.now)) }
     ensures same { tx.new.conn.ghost_name ≡ tx.old.conn.ghost_name }
     ensures crash { CommitsNothing S.Store tx.old.conn.now tx.new.conn.now }
@@ -243,8 +243,8 @@ fn put_records<S: Alter>(
     tx: &mut Transaction<'_, S>,
     rows: &[Row],
 ) -> Result<(), Error>
-    requires { WhereClean S.Store tx.old.conn.now (Making archive_schema) }
-    ensures made { Writes S.Store tx.old.conn.now tx.new.conn.now archive_schema result
+    requires { WhereClean S.Store tx.old.conn.now (Making (archive_schema false)) }
+    ensures made { Writes S.Store tx.old.conn.now tx.new.conn.now (archive_schema false) result
         (PutsRecords (map shown_of rows.now)) }
     ensures same { tx.new.conn.ghost_name ≡ tx.old.conn.ghost_name }
     ensures crash { CommitsNothing S.Store tx.old.conn.now tx.new.conn.now }
@@ -257,7 +257,7 @@ fn put_records<S: Alter>(
 
 /// The rows of currents2, by node and moment.
 fn currents_made<S: Alter>(tx: &mut Transaction<'_, S>) -> Result<Vec<Row>, Error>
-    requires { WhereClean S.Store tx.old.conn.now (Making archive_schema) }
+    requires { WhereClean S.Store tx.old.conn.now (Making (archive_schema false)) }
     ensures made { HasCleanDisk (state S.Store tx.new.conn.now) → IfOk result
         (λ rows. IsUnchanged (state S.Store tx.old.conn.now) (state S.Store tx.new.conn.now)
         × IsPermutation (map current_columns (tables_of S.Store tx.old.conn.now 4)) rows.items) }
@@ -272,7 +272,7 @@ fn currents_made<S: Alter>(tx: &mut Transaction<'_, S>) -> Result<Vec<Row>, Erro
 
 /// The rows of vectors, by origin.
 fn vectors_made<S: Alter>(tx: &mut Transaction<'_, S>) -> Result<Vec<Row>, Error>
-    requires { WhereClean S.Store tx.old.conn.now (Making archive_schema) }
+    requires { WhereClean S.Store tx.old.conn.now (Making (archive_schema false)) }
     ensures made { HasCleanDisk (state S.Store tx.new.conn.now) → IfOk result
         (λ rows. IsUnchanged (state S.Store tx.old.conn.now) (state S.Store tx.new.conn.now)
         × IsPermutation (map vector_columns (tables_of S.Store tx.old.conn.now 6)) rows.items) }
@@ -337,7 +337,7 @@ fn refill<S: Alter>(
     requires making { WhereClean S.Store tx.old.conn.now (Making schema1) }
     requires lawful { HasCleanDisk (state S.Store tx.old.conn.now)
         → (R : Content) × IsLawfulContent R × (map row_of R ≡ map shown_of rows.now) }
-    ensures made { Writes S.Store tx.old.conn.now tx.new.conn.now archive_schema result
+    ensures made { Writes S.Store tx.old.conn.now tx.new.conn.now (archive_schema false) result
         (λ _. IsRenewed id.now replica.now (map shown_of rows.now)) }
     ensures same { tx.new.conn.ghost_name ≡ tx.old.conn.ghost_name }
     ensures crash { CommitsNothing S.Store tx.old.conn.now tx.new.conn.now }
@@ -361,7 +361,7 @@ fn migrate_from_v1<S: Alter>(
     requires making { WhereClean S.Store tx.old.conn.now (Making schema1) }
     requires read { HasCleanDisk (state S.Store tx.old.conn.now)
         → IsRead1 (tables_of S.Store tx.old.conn.now) rows.now }
-    ensures made { Writes S.Store tx.old.conn.now tx.new.conn.now archive_schema result
+    ensures made { Writes S.Store tx.old.conn.now tx.new.conn.now (archive_schema false) result
         (IsTurned id.now replica.now) }
     ensures same { tx.new.conn.ghost_name ≡ tx.old.conn.ghost_name }
     ensures crash { CommitsNothing S.Store tx.old.conn.now tx.new.conn.now }

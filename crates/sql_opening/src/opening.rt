@@ -8,10 +8,9 @@ ghost use Rattle.sqlite.specs.Held.{state};
 ghost use Rattle.sqlite_value.specs.Order.{column};
 ghost use Rattle.sql_tables.specs.Rows.{IsFilled, meta_cells};
 ghost use Rattle.sql_opening.specs.Latest.{Remembers};
-ghost use Rattle.sql_schema.specs.Tables.{archive_schema};
-ghost use Rattle.sql_tables.specs.State.{Found, FoundOr, HasMeta, Idles, IsOpenAndIdle};
+ghost use Rattle.sql_tables.specs.State.{Found, FoundOr, HasMeta, HasTables, Idles, IsOpenAndIdle};
 ghost use Rattle.sql_opening.specs.Opening.{has_number, has_bytes, judged_row, judged_as, checked_meta, BeginOutOfTurn, Opens, OpensAll};
-ghost use Rattle.sql_tables.specs.Connections.{WhereClean, HasSchema, tables_of, content_of, CommitsNothing};
+ghost use Rattle.sql_tables.specs.Connections.{WhereClean, tables_of, content_of, CommitsNothing};
 
 use crate::checking::check_rows;
 use crate::latest::Latest;
@@ -27,7 +26,7 @@ use uuid::Uuid;
 /// else it is refused. It goes over them one at a time.
 fn walk<S: Alter>(alloc: Global, conn: &mut Connection<S>) -> Result<Latest, StoreFault>
     requires rests { WhereClean S.Store conn.old IsOpenAndIdle }
-    requires known { WhereClean S.Store conn.old (HasSchema archive_schema) }
+    requires known { WhereClean S.Store conn.old HasTables }
     ensures { FoundOr (BeginOutOfTurn (tables_of S.Store conn.old))
         (state S.Store conn.old) (state S.Store conn.new) result
         (λ l. IsFilled (tables_of S.Store conn.old)
@@ -125,7 +124,7 @@ fn open_tables<S: Alter>(
     number: ReplicaNo,
 ) -> Result<Latest, StoreFault>
     requires rests { WhereClean S.Store conn.old IsOpenAndIdle }
-    requires known { WhereClean S.Store conn.old (HasSchema archive_schema) }
+    requires known { WhereClean S.Store conn.old HasTables }
     ensures { Opens id.now number (state S.Store conn.old) (state S.Store conn.new)
         (λ l. Remembers (content_of S.Store conn.old) l.numbers l.tick) result }
 {

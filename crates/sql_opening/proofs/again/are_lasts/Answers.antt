@@ -33,7 +33,8 @@ loop-place-preserved c =
           c.loop-place.place row lt place (omega (arith, number, w.if-number-gt0.true))
           (ap last_in (sym looked.1) ∙ is) c.loop-place.invariant.0 in (
             subst (λ n. map last_in (take n c.args.rows.now)
-                ≡ entries (take (c.loop-place.place + 1) c.args.numbers.now)) (sym w.gone-is) so_far,
+                ≡ entries (take (c.loop-place.place + 1) c.args.numbers.now))
+                (sym w.gone-is) so_far,
             omega (arith, w.gone-is, lt),
             λ le. whole,
           )
@@ -42,7 +43,8 @@ loop-place-preserved c =
           c.loop-place.place place
           (omega (arith, sym number, w.if-number-gt0.false)) c.loop-place.invariant.0 in (
             subst (λ n. map last_in (take n c.args.rows.now)
-                ≡ entries (take (c.loop-place.place + 1) c.args.numbers.now)) (sym w.gone-is) so_far,
+                ≡ entries (take (c.loop-place.place + 1) c.args.numbers.now))
+                (sym w.gone-is) so_far,
             omega (arith, w.gone-is, c.loop-place.invariant.1),
             λ le. whole,
           )

@@ -8,13 +8,13 @@ use Rattle.sqlite.specs.State.{State, HasCleanDisk, Survives, CommitsShowing, Fa
 use Rattle.sqlite.specs.Held.{state}
 use Rattle.sqlite.proofs.StateLemmas.{survives_weaker, survives_then}
 use Rattle.sqlite.proofs.Callers.{never_commits, begun_plain, unchanged_then, given_begin}
-use Rattle.sql_schema.specs.Tables.{archive_schema}
+use Rattle.sql_schema.specs.Tables.{IsArchiveSchema}
+use Rattle.sql_schema.proofs.StandingLemmas.{archive_as}
 use Rattle.sqlite.specs.declared.error.Error.{Error}
 use Rattle.sqlite.specs.declared.error.Error.TheVariants.{SqliteFailure}
 use Rattle.sqlite.specs.declared.error.ErrorCode.TheVariants.{OutOfMemory}
-use Rattle.sql_tables.specs.Asking.{IsAnswered}
 use Rattle.sql_tables.specs.State.{Holds, MayBeStopped}
-use Rattle.sql_tables.proofs.AnsweredLemmas.{all_answered, query_stops}
+use Rattle.sql_tables.proofs.AnsweredLemmas.{answered_in, all_answered, query_stops}
 use Rattle.sql_tables.specs.Words.{cells}
 use Rattle.sql_tables.proofs.Texts.{all_text}
 use Rattle.sql_tables.proofs.QueryLemmas.{all_plain, finds_all}
@@ -22,7 +22,7 @@ use Rattle.sql_tables.proofs.AskLemmas.{stops_behind}
 use Rattle.sql_tables.proofs.WriteLemmas.{fails_query}
 use Rattle.sql_opening.proofs.checking.check_rows.Goals as goal
 
-commits_nothing : (old new : State) → (HasCleanDisk old → old.now.schema ≡ archive_schema)
+commits_nothing : (old new : State) → (HasCleanDisk old → IsArchiveSchema old.now.schema)
     → Survives old new (CommitsShowing all_text [] old) → Survives old new (λ _. ⊥)
 commits_nothing old new known s = survives_weaker old new _ _
     (λ clean db. never_commits all_text [] old db (all_plain old.now.schema
@@ -45,10 +45,10 @@ returns-in_err-rows-clause-refused g c clean =
     (λ is_open. fails_query all_text [] old new _
     (all_plain old.now.schema (c.requires.known early)) (c.requires.rests early) is_open failed)
 
-stops : (a b : State) (e : Error) → a.now.schema ≡ archive_schema → IsTrue a.is_open
+stops : (a b : State) (e : Error) → IsArchiveSchema a.now.schema → IsTrue a.is_open
     → FailsToQuery all_text [] a b e → (e ≡ SqliteFailure OutOfMemory → ⊥) → MayBeStopped a b
 stops a b e known live h some = query_stops all_text [] a b e
-    (subst (λ s. IsAnswered s all_text []) (sym known) all_answered) live some h
+    (answered_in a.now.schema all_text [] known all_answered) live some h
 
 pub returns-in_err-rows-clause-stopped : goal.returns-in_err-rows-clause-stopped
 returns-in_err-rows-clause-stopped g c clean =
@@ -60,7 +60,8 @@ returns-in_err-rows-clause-stopped g c clean =
     (rw c.in_err-rows.was at held).err clean in
     let early : HasCleanDisk old = omega (arith, kept.clean, clean) in
     let told : c.from_residual.result ≡ Err c.in_err-rows.field-0.0 = search rules in
-    subst (λ r. IfErr r (λ e. (e ≡ SqliteFailure OutOfMemory → ⊥) → MayBeStopped old new)) (sym told)
+    subst (λ r. IfErr r (λ e. (e ≡ SqliteFailure OutOfMemory → ⊥) → MayBeStopped old new))
+    (sym told)
     (stops old new _ (c.requires.known early) (c.requires.rests early).is_open failed)
 
 pub returns-in_err-advance-clause-stopped : goal.returns-in_err-advance-clause-stopped
@@ -74,8 +75,7 @@ returns-in_err-advance-clause-stopped g c clean =
     let failed : FailsToAdvance g.S.Store mid now c.in_err-advance.field-0.0 = moved.err late in
     let known = c.requires.known (omega
     (arith, c.rows.invariant.1.clean, moved.survives.clean, late)) in
-    let tables = subst (λ x. x ≡ archive_schema) (sym
-    (ap (λ (d : Database). d.schema) was.2.0.now_is)) known in
+    let tables = archive_as (ap (λ (d : Database). d.schema) was.2.0.now_is) known in
     let told : c.from_residual-in_err-advance.result ≡ Err c.in_err-advance.field-0.0 =
     search rules in
     let left : c.conn-in_err-advance-1.given.0 ≡ now = search rules in
@@ -121,8 +121,7 @@ returns-in_default-clause-checked g c clean =
     (on all_text [] was.0 was.1) in
     let known = c.requires.known (omega
     (arith, c.rows.invariant.1.clean, moved.survives.clean, late)) in
-    let tables = subst (λ x. x ≡ archive_schema) (sym
-    (ap (λ (d : Database). d.schema) was.2.0.now_is)) known in (
+    let tables = archive_as (ap (λ (d : Database). d.schema) was.2.0.now_is) known in (
       was.0,
       subst (λ (d : Database). IsPermutation (cells (d.trees 1)) was.0) was.2.0.now_is
           (finds_all (state g.S.Store mid) (state g.S.Store now) was.0 tables shown),

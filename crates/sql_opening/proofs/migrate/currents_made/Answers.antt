@@ -1,4 +1,4 @@
-use Rattle.std.proofs.Common.{arith}
+use Rattle.std.proofs.Common.{arith, false}
 use Rattle.sqlite.specs.State.{HasCleanDisk}
 use Rattle.sqlite.specs.Held.{state}
 use Rattle.sql_opening.proofs.FirstLemmas.{shows_currents, if_ok}
@@ -10,4 +10,4 @@ returns-clause-made g c clean =
     let early : HasCleanDisk old = omega (arith, c.query_all.ensures.survives.clean, clean) in
     if_ok c.query_all.result (λ rows shown.
     shows_currents old (state g.S.Store c.query_all.new.self.conn.now) rows.items
-    (c.requires early).has shown) (c.query_all.ensures.ok clean)
+    (false, (c.requires early).has) shown) (c.query_all.ensures.ok clean)

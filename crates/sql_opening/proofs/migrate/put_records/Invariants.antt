@@ -1,4 +1,4 @@
-use Rattle.std.proofs.Common.{◌≡◌, take, map}
+use Rattle.std.proofs.Common.{◌≡◌, false, take, map}
 use Rattle.sqlite.specs.State.{HasCleanDisk, Survives}
 use Rattle.sqlite.specs.Held.{state}
 use Rattle.sql_schema.specs.Tables.{archive_schema}
@@ -11,5 +11,5 @@ invariant-loop-row g l =
     let old = state g.S.Store l.fn.tx.conn.now in
     let now = state g.S.Store l.tx.conn.now in
     (l.tx.conn.ghost_name ≡ l.fn.tx.conn.ghost_name) × Survives old now (λ _. ⊥)
-    × (HasCleanDisk now → Making archive_schema now × (now.committed ≡ old.committed)
+    × (HasCleanDisk now → Making (archive_schema false) now × (now.committed ≡ old.committed)
     × PutsRecords (map shown_of (take l.row-index l.rows)) old.now.trees now.now.trees)

@@ -1,8 +1,7 @@
-use Rattle.sql_schema.proofs.StandingLemmas.{archive_has_meta}
-use Rattle.std.proofs.Common.{rules, ◌≡◌, arith, subst, Ok, Err, ap, sym, refl}
+use Rattle.sql_schema.proofs.StandingLemmas.{archive_as, archive_has_meta}
+use Rattle.std.proofs.Common.{rules, ◌≡◌, arith, subst, Ok, Err, ap, refl}
 use Rattle.sql_tables.specs.Rows.{content_in, meta_cells}
 use Rattle.sql_opening.specs.Latest.{Remembers}
-use Rattle.sql_schema.specs.Tables.{archive_schema}
 use Rattle.sql_tables.specs.State.{Found}
 use Rattle.sql_opening.specs.Opening.{checked_meta}
 use Rattle.sqlite.specs.Held.{state}
@@ -13,7 +12,7 @@ use Rattle.sql_opening.proofs.opening.open_tables.Goals as goal
 pub walk-requires-clause-known : goal.walk-requires-clause-known
 walk-requires-clause-known g c clean =
     let e = c.in_ok-told.ensures in
-    subst (λ x. x ≡ archive_schema) (sym (ap (λ (d : Database). d.schema) (e.kept clean refl).same))
+    archive_as (ap (λ (d : Database). d.schema) (e.kept clean refl).same)
     (c.requires.known (omega (arith, e.crash.clean, clean)))
 
 pub returns-in-Ok : goal.returns-in-Ok
