@@ -89,3 +89,14 @@ module _ {S : Type 0} (g : Ghosts S) (old mid : State) (P : Database → Trees �
       subst (λ d. P d (state g a.conn).now.trees) (same (omega (arith, two.clean, clean)))
       (made clean)
   begun_behind (Err e) two made = tt
+
+-- what was made stands in the archive that is begun with it
+pub made_then : {S : Type 0} (g : Ghosts S) (mid : State) (P : Trees → Type 0)
+    (r : Result (Kept S) (StoreFault × Held S)) → (HasCleanDisk mid → P mid.now.trees)
+    → IfOk r (λ a. HasCleanDisk (state g a.conn) → (state g a.conn).now ≡ mid.now)
+    → IfOk r (λ a. Survives mid (state g a.conn) (λ _. ⊥))
+    → IfOk r (λ a. HasCleanDisk (state g a.conn) → P (state g a.conn).now.trees)
+made_then g mid P (Ok a) made same two = λ clean.
+    let early : HasCleanDisk mid = omega (arith, two.clean, clean) in
+    subst P (sym (ap (λ (d : Database). d.trees) (same clean))) (made early)
+made_then g mid P (Err e) made same two = tt

@@ -1,5 +1,5 @@
 -- How an archive begins, and what its files hold.
-use Rattle.std.proofs.Common.{◌≡◌, ◌⊎◌, inl, inr, ℕ, ℤ, pos, List, [], ◌∷◌, map, length, slice_index_or, Err, IsTrue, sym, ap, subst, ◌∙◌, arith, IsPermutation}
+use Rattle.std.proofs.Common.{◌≡◌, ◌⊎◌, inl, inr, Bool, false, ℕ, ℤ, pos, List, [], ◌∷◌, map, length, slice_index_or, Err, IsTrue, sym, ap, subst, ◌∙◌, arith, IsPermutation}
 use Rattle.std.proofs.Math.Logic.{∥∥₁_elim, ∥∥₁_map}
 use Rattle.sqlite_disk.specs.declared.Disk.{Ghosts}
 use Rattle.sqlite_disk.specs.declared.Files.{Files}
@@ -31,7 +31,7 @@ use Rattle.sqlite.specs.Closing.{IsCopied, files_left}
 use Rattle.sqlite.specs.declared.file.Leftover.{Leftover}
 use Rattle.sqlite.specs.declared.file.Leftover.TheVariants as left
 use Rattle.records.specs.Contents.{Content}
-use Rattle.sql_schema.specs.Tables.{meta, no_schema, schema1, archive_schema, beside_schema}
+use Rattle.sql_schema.specs.Tables.{meta, no_schema, schema1, archive_schema, ListsArchive, beside_schema}
 use Rattle.std.specs.List.{flat_map}
 use Rattle.sqlite_value.specs.Order.{Row}
 use Rattle.records.specs.Lists.{sort_by}
@@ -40,6 +40,7 @@ use Rattle.sql_opening.specs.Clearing.{AreBare, IsCleared}
 use Rattle.std.proofs.lemmas.List.Sorted.{IsPermutation-trans}
 use Rattle.sql_opening.specs.Renewing.{cells1, content1_in, IsStored1, IsStoreOf1, IsRenewed}
 use Rattle.sql_tables.proofs.RowLemmas.{content_from}
+use Rattle.sql_schema.proofs.StandingLemmas.{lists_archive}
 use Rattle.sql_tables.specs.Rows.{content_in, row_of, records_in, meta_row, meta_columns, IsStored, IsStoreOf, meta_cells}
 use Rattle.sql_tables.specs.Derived.{AreKept, AreNumbered, currents_of, current_columns, vectors_of, vector_columns}
 use Rattle.sql_tables.specs.Words.{cells}
@@ -133,7 +134,7 @@ resumes image id own old new opens live found starts =
     go (inr (stored, kept, inl stood)) =
         inr (inl (
           (
-            subst (Lists (old.committed.trees catalog_tree)) stood.0 lists,
+            lists_archive (old.committed.trees catalog_tree) old.now.schema stood.0 lists,
             subst (IsStored id own) same stored,
             subst AreKept same kept,
           ),
@@ -170,8 +171,9 @@ another image id own fault old opens live found refused = record {
 no_beside : no_schema ≡ beside_schema → ⊥
 no_beside e = let n : 0 ≡ 6 = ap (λ (s : Schema). length s.tables) e in absurd (omega (arith, n))
 
-apart_beside : beside_schema ≡ archive_schema → ⊥
-apart_beside e = let n : 6 ≡ 4 = ap (λ (s : Schema). length s.tables) e in absurd (omega (arith, n))
+apart_beside : (indexed : Bool) → beside_schema ≡ archive_schema indexed → ⊥
+apart_beside indexed e = let n : 6 ≡ 4 = ap (λ (s : Schema). length s.tables) e in
+    absurd (omega (arith, n))
 
 first_beside : beside_schema ≡ schema1 → ⊥
 first_beside e = let n : 6 ≡ 4 = ap (λ (s : Schema). length s.tables) e in absurd (omega (arith, n))
@@ -180,12 +182,13 @@ no_first : no_schema ≡ schema1 → ⊥
 no_first e = let n : 0 ≡ 4 = ap (λ (s : Schema). length s.tables) e in absurd (omega (arith, n))
 
 -- the columns of the second table tell them apart
-apart_first : schema1 ≡ archive_schema → ⊥
-apart_first e = let n : 8 ≡ 9 = ap
+apart_first : (indexed : Bool) → schema1 ≡ archive_schema indexed → ⊥
+apart_first indexed e = let n : 8 ≡ 9 = ap
     (λ (s : Schema). length (slice_index_or s.tables 1 meta).columns) e in absurd (omega (arith, n))
 
-two_schemas : no_schema ≡ archive_schema → ⊥
-two_schemas e = let n : 0 ≡ 4 = ap (λ (s : Schema). length s.tables) e in absurd (omega (arith, n))
+two_schemas : (indexed : Bool) → no_schema ≡ archive_schema indexed → ⊥
+two_schemas indexed e = let n : 0 ≡ 4 = ap (λ (s : Schema). length s.tables) e in
+    absurd (omega (arith, n))
 
 -- what is opened of the files of an archive that was closed is its content
 pub closed_is : {D : Type 0} {g : Ghosts D} (c : Held (FileStore D g)) (files : Files D)
@@ -203,19 +206,20 @@ closed_is {D} {g} c files whose number numbers tick stands live copied id own S 
     same = ∥∥₁_elim copied.seen.both (Trees-set _ _) (resumed.found.holds _)
         ∙ ap (λ (d : Database). d.trees) s.idles.settled
 
-    lists : Lists (resumed.db catalog_tree) archive_schema
-    lists = subst (λ (t : Trees). Lists (t catalog_tree) archive_schema) (sym same)
-        (subst (Lists ((file_state c).now.trees catalog_tree)) s.idles.tables
-        (live s.idles.is_open).0.lists)
+    lists : ListsArchive (resumed.db catalog_tree)
+    lists = subst (λ (t : Trees). ListsArchive (t catalog_tree)) (sym same)
+        (lists_archive ((file_state c).now.trees catalog_tree) (file_state c).now.schema
+        s.idles.tables (live s.idles.is_open).0.lists)
 
     go : HoldsContent id own resumed.db S → S ≡ content_in (file_state c).now.trees
-    go (inl none) = absurd (two_schemas
-        (lists_once (resumed.db catalog_tree) no_schema archive_schema none.0 lists))
+    go (inl none) = absurd (two_schemas lists.0
+        (lists_once (resumed.db catalog_tree) no_schema (archive_schema lists.0) none.0 lists.1))
     go (inr (inl all)) = all.1 ∙ ap content_in same
-    go (inr (inr (inl first))) = absurd (apart_first
-        (lists_once (resumed.db catalog_tree) schema1 archive_schema first.0.0 lists))
-    go (inr (inr (inr beside))) = absurd (apart_beside
-        (lists_once (resumed.db catalog_tree) beside_schema archive_schema beside.0.0 lists))
+    go (inr (inr (inl first))) = absurd (apart_first lists.0
+        (lists_once (resumed.db catalog_tree) schema1 (archive_schema lists.0) first.0.0 lists.1))
+    go (inr (inr (inr beside))) = absurd (apart_beside lists.0
+        (lists_once (resumed.db catalog_tree) beside_schema
+        (archive_schema lists.0) beside.0.0 lists.1))
 
 -- and they hold its tables
 pub closed_holds : {D : Type 0} {g : Ghosts D} (c : Held (FileStore D g)) (files : Files D)
@@ -228,9 +232,9 @@ closed_holds c files id own numbers tick stands live copied =
     let s = stands copied.was_clean in
     let same : (file_state c).now.trees ≡ (file_state c).committed.trees =
     sym (ap (λ (d : Database). d.trees) s.idles.settled) in
-    let lists = subst (λ (t : Trees). Lists (t catalog_tree) archive_schema) same
-    (subst (Lists ((file_state c).now.trees catalog_tree)) s.idles.tables
-    (live s.idles.is_open).0.lists) in
+    let lists = subst (λ (t : Trees). ListsArchive (t catalog_tree)) same
+    (lists_archive ((file_state c).now.trees catalog_tree) (file_state c).now.schema
+    s.idles.tables (live s.idles.is_open).0.lists) in
     ∥∥₁_map copied.seen.both (λ held. (
       (file_state c).committed.trees,
       held,
@@ -425,14 +429,14 @@ still_resumed image left id own (old, found, holds) other number R resumed =
     by now (inr (inl new)) (inl none) = inl (new.0, none.1)
     by now (inr (inl new)) (inr (inl all)) = inl (new.0, all.1 ∙ nothing_in now new.1.records)
     by now (inr (inl new)) (inr (inr (inl first))) =
-        absurd (apart_first (lists_once
-        (now catalog_tree) schema1 archive_schema first.0.0 new.1.lists))
+        absurd (apart_first false (lists_once
+        (now catalog_tree) schema1 (archive_schema false) first.0.0 new.1.lists))
     by now (inr (inl new)) (inr (inr (inr beside))) =
-        absurd (apart_beside (lists_once
-        (now catalog_tree) beside_schema archive_schema beside.0.0 new.1.lists))
+        absurd (apart_beside false (lists_once
+        (now catalog_tree) beside_schema (archive_schema false) beside.0.0 new.1.lists))
     by now (inr (inr (inl made))) (inl none) =
-        absurd (two_schemas (lists_once
-        (now catalog_tree) no_schema archive_schema none.0 made.1.lists))
+        absurd (two_schemas false (lists_once
+        (now catalog_tree) no_schema (archive_schema false) none.0 made.1.lists))
     by now (inr (inr (inl made))) (inr (inl (store, is))) =
         inr (inr (inl (
           (made.0.0, first_of now made store.1.stands.meta),
@@ -440,14 +444,14 @@ still_resumed image left id own (old, found, holds) other number R resumed =
               ∙ renewed_content id own (pos own) old now made.0.1 made.1,
         )))
     by now (inr (inr (inl made))) (inr (inr (inl first))) =
-        absurd (apart_first (lists_once
-        (now catalog_tree) schema1 archive_schema first.0.0 made.1.lists))
+        absurd (apart_first false (lists_once
+        (now catalog_tree) schema1 (archive_schema false) first.0.0 made.1.lists))
     by now (inr (inr (inl made))) (inr (inr (inr beside))) =
-        absurd (apart_beside (lists_once
-        (now catalog_tree) beside_schema archive_schema beside.0.0 made.1.lists))
+        absurd (apart_beside false (lists_once
+        (now catalog_tree) beside_schema (archive_schema false) beside.0.0 made.1.lists))
     by now (inr (inr (inr cleared))) (inl none) =
-        absurd (two_schemas (lists_once
-        (now catalog_tree) no_schema archive_schema none.0 cleared.2.lists))
+        absurd (two_schemas false (lists_once
+        (now catalog_tree) no_schema (archive_schema false) none.0 cleared.2.lists))
     by now (inr (inr (inr cleared))) (inr (inl (store, is))) =
         inr (inr (inr (
           (
@@ -459,8 +463,8 @@ still_resumed image left id own (old, found, holds) other number R resumed =
           is ∙ same_content old now cleared.2,
         )))
     by now (inr (inr (inr cleared))) (inr (inr (inl first))) =
-        absurd (apart_first (lists_once
-        (now catalog_tree) schema1 archive_schema first.0.0 cleared.2.lists))
+        absurd (apart_first false (lists_once
+        (now catalog_tree) schema1 (archive_schema false) first.0.0 cleared.2.lists))
     by now (inr (inr (inr cleared))) (inr (inr (inr beside))) =
-        absurd (apart_beside (lists_once
-        (now catalog_tree) beside_schema archive_schema beside.0.0 cleared.2.lists))
+        absurd (apart_beside false (lists_once
+        (now catalog_tree) beside_schema (archive_schema false) beside.0.0 cleared.2.lists))

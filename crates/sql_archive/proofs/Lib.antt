@@ -1,4 +1,5 @@
 pub mod StoreLemmas
+pub mod IndexLemmas
 pub mod LastLemmas
 pub mod NamedLemmas
 pub mod ToldLemmas

@@ -7,7 +7,7 @@ use Rattle.sqlite.specs.State.{State, HasCleanDisk, Survives}
 use Rattle.sqlite.proofs.StateLemmas.{survives_then, survives_weaker}
 use Rattle.archive.specs.declared.fault.StoreFault.{StoreFault}
 use Rattle.archive.specs.Store.{IsOfOpening}
-use Rattle.sql_schema.specs.Tables.{no_schema, archive_schema}
+use Rattle.sql_schema.specs.Tables.{no_schema, IsArchiveSchema}
 use Rattle.sql_tables.specs.Rows.{meta_cells, IsStored}
 use Rattle.sql_tables.specs.Derived.{AreKept}
 use Rattle.sql_tables.specs.State.{IsNewArchive, HasMeta}
@@ -135,7 +135,7 @@ module _ {S : Type 0} (g : Ghosts S) (old : State) where
   started_new id own (Err e) none made = tt
 
   pub started_old : (id : List ℕ) (own : ℕ) (r : Result (Kept S) (StoreFault × Held S))
-      → old.now.schema ≡ archive_schema → IfOk r (λ a. HasCleanDisk (state g a.conn)
+      → IsArchiveSchema old.now.schema → IfOk r (λ a. HasCleanDisk (state g a.conn)
       → IsStored id own old.now.trees)
       → IfOk r (λ a. HasCleanDisk (state g a.conn) → AreKept old.now.trees)
       → IfOk r (λ a. HasCleanDisk (state g a.conn) → (state g a.conn).now ≡ old.now)

@@ -6,7 +6,7 @@ use Rattle.std.proofs.Math.Logic.{∥∥₁_elim}
 use Rattle.sqlite_trees.specs.declared.store.Store.{Ghosts}
 use Rattle.sqlite_trees.specs.Tree.{Trees}
 use Rattle.sqlite_trees.specs.Objects.{catalog_tree}
-use Rattle.sqlite_catalog.specs.Listing.{Lists}
+use Rattle.sql_schema.proofs.StandingLemmas.{lists_archive}
 use Rattle.sqlite_trees.specs.View.{IsClean}
 use Rattle.sqlite.specs.Held.{state}
 use Rattle.sqlite.specs.Effect.{Database}
@@ -161,15 +161,14 @@ module _ {S : Type 0} (g : Ghosts S) (laws : Laws g) where
           sym (laws.settled a.conn.store db s.idles.is_open m
           ∙ ap (λ (d : Database). d.trees) s.idles.settled) in
           subst (IsStoreOf a.id a.number) same (
-            subst
-                (Lists ((state g a.conn).now.trees catalog_tree)) s.idles.tables
-                (live s.idles.is_open).0.lists,
+            lists_archive ((state g a.conn).now.trees catalog_tree) (state g a.conn).now.schema
+                s.idles.tables (live s.idles.is_open).0.lists,
             s.stored,
             s.kept,
           )
 
   -- a crash leaves stores behind a call that commits nothing else
-  stores-left : (a b : Kept S) (Commits : Trees → Type 0) → Serves g a → b.id ≡ a.id
+  pub stores-left : (a b : Kept S) (Commits : Trees → Type 0) → Serves g a → b.id ≡ a.id
       → b.number ≡ a.number → Survives (state g a.conn) (state g b.conn) Commits
       → (HasCleanDisk (state g a.conn) → (db : Trees) → Commits db → IsStoreOf a.id a.number db)
       → LeavesStores g b
@@ -228,7 +227,7 @@ module _ {S : Type 0} (g : Ghosts S) (laws : Laws g) where
       meets (Some f) m = ((m, m), tt)
 
   -- a call that changes nothing leaves it as it was, save that it may break
-  stands-kept-by : (a b : Kept S) → Serves g a → a.broken ≡ false → b.id ≡ a.id
+  pub stands-kept-by : (a b : Kept S) → Serves g a → a.broken ≡ false → b.id ≡ a.id
       → b.number ≡ a.number → (Remembers (content_in (state g a.conn).now.trees) a.numbers a.tick
       → Remembers (content_in (state g a.conn).now.trees) b.numbers b.tick)
       → (HasCleanDisk (state g b.conn) → HasCleanDisk (state g a.conn))
@@ -393,7 +392,7 @@ module _ {S : Type 0} (g : Ghosts S) (laws : Laws g) where
           let all = learned.answered clean in
           let before = was.0 used (omega (arith, learned.crash.clean, clean)) in
           record {
-            idles = all.1;
+            idles = all.1.idles;
             stored = subst (λ i. IsStored i b.number (state g b.conn).now.trees) (sym id)
                 (subst (λ n. IsStored a.id n (state g b.conn).now.trees) (sym own)
                 (stored before.stored all.2));

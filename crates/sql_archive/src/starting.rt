@@ -4,7 +4,7 @@ ghost use Rattle.std.specs.Prelude.{◌≡◌, ◌≢◌, ◌⊎◌, pos, false,
 ghost use Rattle.sqlite.specs.State.{HasCleanDisk, Opens};
 ghost use Rattle.sqlite.specs.Held.{state};
 ghost use Rattle.archive.specs.Store.{IsOfOpening};
-ghost use Rattle.sql_schema.specs.Tables.{no_schema, archive_schema};
+ghost use Rattle.sql_schema.specs.Tables.{no_schema, IsArchiveSchema};
 ghost use Rattle.sql_tables.specs.State.{MayBeStopped, IsNewArchive};
 ghost use Rattle.sql_opening.specs.Opening.{Starts, IsBegunIn, IsRefused, IsNoStore};
 ghost use Rattle.sql_tables.specs.Connections.{WhereClean, HasSchema, tables_of};
@@ -79,7 +79,7 @@ pub(crate) fn start<S: Alter>(
     ensures wrong { IfErr result (λ e. HasCleanDisk (state S.Store e.1) → IsOfOpening e.0
         → IsRefused id number (state S.Store conn).now e.0) }
     ensures refused { IfErr result (λ e. HasCleanDisk (state S.Store e.1)
-        → e.0 ≡ StoreFault.Refused → (state S.Store conn).now.schema ≡ archive_schema
+        → e.0 ≡ StoreFault.Refused → IsArchiveSchema (state S.Store conn).now.schema
         → MayBeStopped (state S.Store conn) (state S.Store e.1)
         ⊎ IsNoStore id number (tables_of S.Store conn)) }
     ensures opened { IfOk result (λ a. MayCommit S.Store conn a.conn (IsBegunIn id number)) }

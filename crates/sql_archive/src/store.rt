@@ -15,6 +15,8 @@ use archive::{Archive, Direction, LearnFault, LogPlace, StoreFault};
 use records::{Entry, Held, Moment, Record};
 use sql_opening::{Latest, latest_after, open_all, read_again};
 use sql_reading::{Between, NodeReading, log_in, outside_in, range_in, records_at, records_since};
+use sql_schema::is_indexed;
+use sql_tables::index_live_values;
 use sqlite::{Alter, Connection, MemStore};
 use stamp::{ReplicaNo, Vector};
 use std::alloc::Global;
@@ -280,13 +282,14 @@ impl<S: Alter> Archive for SqlArchive<S> {
 }
 
 impl<S: Alter> SqlArchive<S> {
-    ghost use Rattle.std.specs.Prelude.{◌≡◌, ◌⊎◌, true, false, Some, ◌≢◌, IfOk};
+    ghost use Rattle.std.specs.Prelude.{◌≡◌, ◌⊎◌, ⊤, Bool, true, false, Some, ◌≢◌, IfOk, OnOk};
     ghost use Rattle.sqlite.specs.State.{HasCleanDisk};
     ghost use Rattle.sqlite.specs.Held.{state};
     ghost use Rattle.sql_tables.specs.State.{MayBeStopped, Idles};
-    ghost use Rattle.archive.specs.Store.{IsOfOpening};
+    ghost use Rattle.archive.specs.Store.{Asks, IsOfOpening};
     ghost use Rattle.archive.specs.Listed.{failures, is_broken};
-    ghost use Rattle.sql_archive.specs.Kept.{Serves, LeavesStores};
+    ghost use Rattle.sql_schema.specs.Tables.{archive_schema};
+    ghost use Rattle.sql_archive.specs.Kept.{Serves, LeavesStores, store_of};
     ghost use Rattle.archive.specs.declared.fault.StoreFault.TheVariants as store;
     ghost use Rattle.std.specs.Prelude.{IfErr, Err};
     ghost use Rattle.sql_opening.specs.Opening.{checked_meta, IsNoStore};
@@ -342,6 +345,31 @@ impl<S: Alter> SqlArchive<S> {
         self.conn
     }
 
+    /// Has the index over live values stand: where it doesn't, it is made in one commit, which takes time and room in the measure of all
+    /// moments that have a value. Reads of current values then go by no deleted one. What the archive holds stays what it is, also
+    /// where this fails.
+    pub fn index_live_values(&mut self) -> Result<(), StoreFault>
+        ensures asks { Asks (store_of S.Store self.old) (store_of S.Store self.new) result
+            (λ _. ⊤) }
+        ensures indexed { HasCleanDisk (state S.Store self.new.conn)
+            → OnOk result ((state S.Store self.new.conn).now.schema ≡ archive_schema true) }
+    {
+        if self.broken {
+            return Err(self.refuse());
+        }
+        let answer = index_live_values(&mut self.conn);
+        tell(&mut self.faults, &mut self.broken, answer)
+    }
+
+    /// Whether the index over live values stands.
+    pub fn is_indexed(&self) -> bool
+        ensures { (indexed : Bool)
+            → (state S.Store self.now.conn).now.schema ≡ archive_schema indexed
+            → result ≡ indexed }
+    {
+        is_indexed(self.conn.schema())
+    }
+
     /// Between any two calls its tables stand for its content, and what a crash leaves is a store that an
     /// opening takes, also where it is broken. This call says so and does nothing.
     pub fn tables_stand(&self)
@@ -370,7 +398,7 @@ impl<S: Alter> SqlArchive<S> {
 }
 
 impl SqlArchive<MemStore> {
-    ghost use Rattle.std.specs.Prelude.{◌≡◌, ◌≢◌, false, [], IfOk, IfErr};
+    ghost use Rattle.std.specs.Prelude.{◌≡◌, ◌≢◌, false, true, [], IfOk, IfErr};
     ghost use Rattle.sqlite.specs.Held.{state};
     ghost use Rattle.sqlite.specs.Steps.{over_memory};
     ghost use Rattle.archive.specs.Store.{IsOfOpening};
@@ -394,5 +422,16 @@ impl SqlArchive<MemStore> {
             Ok(archive) => Ok(archive),
             Err((fault, _)) => Err(as_told(fault)),
         }
+    }
+
+    /// An archive of this id and replica in memory that is broken: each call that reads or writes it answers `Broken`.
+    pub fn broken_in_memory(alloc: Global, id: Uuid, number: ReplicaNo) -> Result<Self, StoreFault>
+        ensures own { IfOk result (λ a. (a.id ≡ id) × (a.number ≡ number)) }
+        ensures broken { IfOk result (λ a. (store_of over_memory a).broken ≡ true) }
+        ensures told { IfErr result (λ e. e ≢ StoreFault.Broken) }
+    {
+        let mut archive = SqlArchive::open_in_memory(alloc, id, number)?;
+        archive.broken = true;
+        Ok(archive)
     }
 }

@@ -2,7 +2,7 @@ use Rattle.std.proofs.Common.{◌∙◌, sym, subst}
 use Rattle.sqlite.specs.Held.{state}
 use Rattle.sql_schema.specs.Tables.{HasMeta}
 use Rattle.sql_opening.specs.Opening.{IsBegunIn}
-use Rattle.sql_schema.proofs.StandingLemmas.{archive_has_meta, beside_has_meta, first_has_meta}
+use Rattle.sql_schema.proofs.StandingLemmas.{archive_as, archive_has_meta, beside_has_meta, first_has_meta}
 use Rattle.sql_archive.proofs.StartLemmas.{any_err, err_then, widened, started_new, started_old, refused_by, opened_quiet, left_quiet, opened_new, left_new, started_renewed, opened_renewed, left_renewed, started_cleared, opened_cleared, left_cleared}
 use Rattle.sql_archive.proofs.starting.start.Goals as goal
 
@@ -15,14 +15,15 @@ returns-in-Ok-Empty-clause-started g c =
 pub returns-in-Ok-Archive-clause-started : goal.returns-in-Ok-Archive-clause-started
 returns-in-Ok-Archive-clause-started g c =
     started_old g.S.Store (state g.S.Store c.args.conn) c.args.id c.args.number c.over.result
-    (sym c.schema.ensures.value ∙ c.in-Ok-Archive.ensures.archive.0 c.in-Ok-Archive.field-0-is)
-    c.over.ensures.stored c.over.ensures.kept c.over.ensures.same
+    (archive_as (sym c.schema.ensures.value)
+    (c.in-Ok-Archive.ensures.archive.0 c.in-Ok-Archive.field-0-is)) c.over.ensures.stored
+    c.over.ensures.kept c.over.ensures.same
 
 pub returns-in-Ok-Archive-clause-wrong : goal.returns-in-Ok-Archive-clause-wrong
 returns-in-Ok-Archive-clause-wrong g c =
     refused_by g.S.Store (state g.S.Store c.args.conn) c.args.id c.args.number c.over.result
-    (archive_has_meta _ (sym c.schema.ensures.value
-    ∙ c.in-Ok-Archive.ensures.archive.0 c.in-Ok-Archive.field-0-is)) c.over.ensures.wrong
+    (archive_has_meta _ (archive_as (sym c.schema.ensures.value)
+    (c.in-Ok-Archive.ensures.archive.0 c.in-Ok-Archive.field-0-is))) c.over.ensures.wrong
 
 pub returns-in-Ok-Archive-clause-opened : goal.returns-in-Ok-Archive-clause-opened
 returns-in-Ok-Archive-clause-opened g c =
@@ -119,27 +120,29 @@ returns-in-Ok-Beside-clause-left g c =
 pub returns-in-Ok-Empty-clause-refused : goal.returns-in-Ok-Empty-clause-refused
 returns-in-Ok-Empty-clause-refused g c =
     any_err c.make.result _ (λ e clean is has. absurd (let other = sym c.in-Ok-Empty.field-0-is
-    ∙ c.in-Ok-Empty.ensures.archive.1 (c.schema.ensures.value ∙ has) in cc))
+    ∙ c.in-Ok-Empty.ensures.archive.1 (archive_as c.schema.ensures.value has) in cc))
 
 pub returns-in-Ok-Beside-clause-refused : goal.returns-in-Ok-Beside-clause-refused
 returns-in-Ok-Beside-clause-refused g c =
-    any_err c.take_out_empty.result _ (λ e clean is has. absurd (let other = sym c.in-Ok-Beside.field-0-is
-    ∙ c.in-Ok-Beside.ensures.archive.1 (c.schema.ensures.value ∙ has) in cc))
+    any_err c.take_out_empty.result _ (λ e clean is has.
+    absurd (let other = sym c.in-Ok-Beside.field-0-is
+    ∙ c.in-Ok-Beside.ensures.archive.1 (archive_as c.schema.ensures.value has) in cc))
 
 pub returns-in-Ok-First-clause-refused : goal.returns-in-Ok-First-clause-refused
 returns-in-Ok-First-clause-refused g c =
-    any_err c.take_over_first.result _ (λ e clean is has. absurd (let other = sym c.in-Ok-First.field-0-is
-    ∙ c.in-Ok-First.ensures.archive.1 (c.schema.ensures.value ∙ has) in cc))
+    any_err c.take_over_first.result _ (λ e clean is has.
+    absurd (let other = sym c.in-Ok-First.field-0-is
+    ∙ c.in-Ok-First.ensures.archive.1 (archive_as c.schema.ensures.value has) in cc))
 
 pub returns-in-Ok-Begun-clause-refused : goal.returns-in-Ok-Begun-clause-refused
 returns-in-Ok-Begun-clause-refused g c clean is has =
     absurd (let other = sym c.in-Ok-Begun.field-0-is
-    ∙ c.in-Ok-Begun.ensures.archive.1 (c.schema.ensures.value ∙ has) in cc)
+    ∙ c.in-Ok-Begun.ensures.archive.1 (archive_as c.schema.ensures.value has) in cc)
 
 pub returns-in-Ok-Foreign-clause-refused : goal.returns-in-Ok-Foreign-clause-refused
 returns-in-Ok-Foreign-clause-refused g c clean is has =
     absurd (let other = sym c.in-Ok-Foreign.field-0-is
-    ∙ c.in-Ok-Foreign.ensures.archive.1 (c.schema.ensures.value ∙ has) in cc)
+    ∙ c.in-Ok-Foreign.ensures.archive.1 (archive_as c.schema.ensures.value has) in cc)
 
 pub returns-in-Ok-Archive-clause-refused : goal.returns-in-Ok-Archive-clause-refused
 returns-in-Ok-Archive-clause-refused g c =
