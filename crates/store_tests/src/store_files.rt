@@ -8,7 +8,7 @@ use history_rows::archives::{Row, learn};
 use history_rows::updates::operates_all;
 use records::{HistoryUpdateType, Record};
 use sql_archive::{FileArchive, SqlArchive};
-use sqlite::{Connection, FileStore, Files, Options, Row as SqlRow};
+use sqlite::{Alter, Connection, FileStore, Files, Options, Row as SqlRow};
 use sqlite_disk::{Disk, Memory};
 use stamp::{ReplicaNo, Vector};
 use std::alloc::Global;
@@ -290,6 +290,52 @@ fn what_is_closed_is_found_again(rt: HostRuntime) {
     assert!(rt; are_found_again(rt.alloc()));
 }
 
+// ---- the index over live values
+
+/// Whether it is made, or stood there, and stands.
+pub(crate) fn is_made<S: Alter>(archive: &mut SqlArchive<S>) -> bool {
+    archive.index_live_values().is_ok() && archive.is_indexed()
+}
+
+/// The files of an archive that had none, had it made twice, and was closed.
+fn left_indexed<D: Disk + Drop>(alloc: Global, files: Files<D>) -> Option<Files<D>> {
+    let mut archive = open_one(alloc, files).ok()?;
+    if !archive.is_indexed() && is_made(&mut archive) && is_made(&mut archive) {
+        archive.close_files().ok()
+    } else {
+        None
+    }
+}
+
+/// Whether the archive in these files has it and holds the five records.
+fn is_found_indexed<D: Disk + Drop>(alloc: Global, files: Files<D>) -> bool {
+    match open_one(alloc, files) {
+        Ok(mut archive) => archive.is_indexed() && does(alloc, &mut archive, Deed::OneMore),
+        Err(_) => false,
+    }
+}
+
+/// Whether an archive of the five records is found again with it, and goes on.
+fn goes_on_indexed<D: Disk + Drop>(alloc: Global, files: Files<D>) -> bool {
+    match left_indexed(alloc, files) {
+        Some(left) => is_found_indexed(alloc, left),
+        None => false,
+    }
+}
+
+/// So it is in memory.
+fn goes_on_with_it(alloc: Global) -> bool {
+    match filled(alloc) {
+        Some(files) => goes_on_indexed(alloc, files),
+        None => false,
+    }
+}
+
+#[test]
+fn an_archive_goes_on_with_an_index_over_live_values(rt: HostRuntime) {
+    assert!(rt; goes_on_with_it(rt.alloc()));
+}
+
 /// The fault that opening files of the five records is refused by, and whether the archive itself
 /// opens the files that were given back.
 fn refused_in<D: Disk + Drop>(
@@ -432,7 +478,7 @@ pub(crate) fn refused_after(
     refused_as(alloc, files, statements, Uuid::nil(), one().ok()?)
 }
 
-static OTHER_TABLES: [&[&str]; 6] = [
+static OTHER_TABLES: [&[&str]; 10] = [
     &[
         "DROP TABLE meta",
         "DROP TABLE records2",
@@ -445,7 +491,14 @@ static OTHER_TABLES: [&[&str]; 6] = [
     &["DROP TABLE vectors", "DROP TABLE currents2"],
     &["CREATE TABLE more (a INTEGER)"],
     &["CREATE INDEX more ON records2 (tick)"],
+    &["CREATE INDEX currents2_live ON currents2 (node, time, pico, live)"],
+    &["CREATE UNIQUE INDEX currents2_live ON currents2 (node, live, time, pico)"],
+    &["CREATE INDEX currents2_other ON currents2 (node, live, time, pico)"],
+    &[LIVE_INDEX, "CREATE INDEX more ON records2 (tick)"],
 ];
+
+/// The index over live values.
+const LIVE_INDEX: &str = "CREATE INDEX currents2_live ON currents2 (node, live, time, pico)";
 
 static OTHER_META: [&[&str]; 2] = [&["DELETE FROM meta"], &["UPDATE meta SET format = 1"]];
 
@@ -561,8 +614,8 @@ const TIED_RECORD: &str =
 
 const TIED_NUMBER: &str = "INSERT INTO vectors SELECT 2, 1, tick FROM vectors WHERE origin = 1";
 
-/// Changed tables that agree: of one record, of two origins, and of two records with one tick.
-static AGREEING: [&[&str]; 3] = [
+/// Changed tables that agree: of one record, of two origins, and of two records with one tick; and with the index over live values.
+static AGREEING: [&[&str]; 4] = [
     &[
         "DELETE FROM records2 WHERE number > 1",
         "UPDATE vectors SET number = 1, tick = 100",
@@ -571,6 +624,7 @@ static AGREEING: [&[&str]; 3] = [
     ],
     &[SECOND_RECORD, SECOND_VALUE, SECOND_NUMBER],
     &[TIED_RECORD, TIED_NUMBER, "UPDATE currents2 SET origin = 2"],
+    &[LIVE_INDEX],
 ];
 
 /// Whether replica 1's archive opens these files.

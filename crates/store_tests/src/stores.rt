@@ -1,6 +1,7 @@
 //! The same queries over an archive in SQLite, which is kept in memory, and a history that is longer than
 //! what it reads by one query.
 
+use crate::store_files::is_made;
 use Direction::{Backward, Forward};
 use HistoryUpdateType::{Delete, Update};
 use archive::{Archive, Direction, LearnFault, StoreFault};
@@ -43,6 +44,31 @@ fn records_are_learned(rt: HostRuntime) -> Result<(), Fail> {
 fn queries_are_answered(rt: HostRuntime) -> Result<(), Fail> {
     let mut archive = sql_archive(rt.alloc())?;
     assert!(rt; answers(rt.alloc(), &mut archive)?);
+    Ok(())
+}
+
+#[test]
+fn queries_are_answered_with_an_index_over_live_values(rt: HostRuntime) -> Result<(), Fail> {
+    let mut archive = sql_archive(rt.alloc())?;
+    assert!(rt; is_made(&mut archive));
+    assert!(rt; answers(rt.alloc(), &mut archive)?);
+    Ok(())
+}
+
+/// Whether each call of an archive that is broken answers so, and counts.
+fn is_broken_so(archive: &mut SqlArchive<MemStore>) -> bool {
+    archive.is_broken()
+        && archive.top() == Err(StoreFault::Broken)
+        && archive.reload() == Err(StoreFault::Broken)
+        && archive.faults() == 2
+        && archive.number().get() == 1
+}
+
+#[test]
+fn a_broken_archive_answers_so(rt: HostRuntime) -> Result<(), Fail> {
+    let number = sql_archive(rt.alloc())?.number();
+    let mut archive = SqlArchive::broken_in_memory(rt.alloc(), Uuid::nil(), number)?;
+    assert!(rt; is_broken_so(&mut archive));
     Ok(())
 }
 
