@@ -26,7 +26,7 @@ use Rattle.historian.specs.Answers as answer
 use Rattle.historian.specs.Answers.{Response}
 use Rattle.historian.specs.Reading as reading
 use Rattle.historian.specs.UserSpaces.{UserSpace, space_for}
-use Rattle.historian.specs.Updating.{node_asked, type_granted, asked_for, update_of, update_item, update_history}
+use Rattle.historian.specs.Updating.{node_asked, type_granted, asked_for, update_of, update_item}
 use Rattle.historian.proofs.UpdatingParts.{update_by, updated_unless}
 use Rattle.historian.specs.Requests as request
 use Rattle.historian.specs.Services.{ServerConfig, answered, answered_request, updates_of}

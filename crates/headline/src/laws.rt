@@ -35,7 +35,7 @@ ghost use Rattle.hist_read.specs.declared.point.Position.{Position};
 ghost use Rattle.hist_read.specs.Chains.{Page, Chain, IsRead, whole_read, values_in, infos_in, joined_values, joined_infos, contents_from};
 ghost use Rattle.hist_read.specs.Asking.{is_given};
 ghost use Rattle.hist_read.specs.Point.{Point, IsDetails, point_in};
-ghost use Rattle.exchange.specs.Worlds.{ReplicaState, World, IsReplicaAt, Sends, Delivers, run};
+ghost use Rattle.exchange.specs.Worlds.{ReplicaState, IsReplicaAt, Sends, Delivers, run};
 ghost use Rattle.headline.specs.Executions.{Execution, IsExecution, IsStateAt, IsReachable, world_at, HaveLearnedSameNames, HasSameVector, Covers, WasAnswered, WasRecorded};
 ghost use Rattle.headline.specs.Answers.{HistoryQuery, replica_answer, results_of, bytes_of, AreFromEither, IsReplicaOf, IsReadAnswered, ReportsNoFailure};
 ghost use Rattle.headline.specs.Messages.{IsServerOf, HaveSameNodes, AsksHistory, response_of, AreAlike, AreFree};

@@ -1,6 +1,6 @@
 //! A witness: archives that run, of which the premises of the laws hold.
 
-ghost use Rattle.std.specs.Prelude.{◌≡◌, ◌∷◌, [], map, IfOk};
+ghost use Rattle.std.specs.Prelude.{◌≡◌, [], map, IfOk};
 ghost use Rattle.std.specs.List.{AllByRecursion};
 ghost use Rattle.exchange.specs.Running.{event_of};
 ghost use Rattle.exchange.specs.Worlds.{IsConsistent, run};
