@@ -1,15 +1,17 @@
 -- When a call is done each end holds all that the other held.
-use Rattle.std.proofs.Common.{◌≡◌, ◌≤◌, ℕ, zero, suc, List, [], ◌∷◌, Option, Some, None, Result, Ok, Err, refl, sym, ap, ◌∙◌, subst, arith, inl, inr}
+use Rattle.std.proofs.Common.{◌≡◌, ◌≤◌, ℕ, zero, suc, ℤ, Bool, true, false, List, [], ◌∷◌, Option, Some, None, Result, Ok, Err, refl, sym, ap, ◌∙◌, subst, arith, inl, inr}
 use Rattle.std.specs.Prelude.{nat_lt}
 use Rattle.std.specs.Option.{option_map_or}
 use Rattle.std.proofs.lemmas.Bool.{cases_Bool, ltb-true, ltb-false}
+use Rattle.std.proofs.lemmas.List.FromFn.{get_or-map-range_with_len}
 use Rattle.std.proofs.lemmas.Option.{none-some, same_Some}
 use Rattle.stamp.specs.Limits.{IsReplica}
 use Rattle.stamp.specs.Numbers.{number_of}
+use Rattle.stamp.proofs.Maps.{number_at}
 use Rattle.records.specs.Contents.{Content, AreCompatible, IsWithin, numbers_of, vec, merged}
 use Rattle.records.specs.declared.record.Record.{Record}
 use Rattle.records.proofs.ContentLemmas.{reached}
-use Rattle.archive.specs.Store.{IsLawfulContent}
+use Rattle.archive.specs.Store.{Store, IsLawfulContent}
 use Rattle.archive.proofs.Vectors.{numbers_are}
 use Rattle.exchange.specs.declared.fault.ExchangeFault.{ExchangeFault}
 use Rattle.exchange.specs.declared.fault.ExchangeFault.TheVariants as exchange
@@ -18,7 +20,7 @@ use Rattle.exchange.specs.declared.message.Message.TheVariants.{Asks, Carries, E
 use Rattle.exchange.specs.declared.message.State.{State}
 use Rattle.exchange.specs.declared.message.State.TheVariants.{Pulling, Pushing, Serving, Done, Failed}
 use Rattle.exchange.specs.Batches.{batch_of, IsBatchFor}
-use Rattle.exchange.specs.Dialogs.{Turn, Way, Clear, Unread, Stopped, Starved, Met, title_by, refusal, pushing, turned, answered_to, Writes}
+use Rattle.exchange.specs.Dialogs.{Turn, Way, Clear, Unread, Stopped, Starved, Met, party_of, title_by, refusal, pushing, turned, answered_to, Writes}
 use Rattle.exchange.specs.Fault.{exchange_number}
 use Rattle.exchange.specs.Frames.{frame_of}
 use Rattle.exchange.proofs.DialogsParts.{learnt}
@@ -27,8 +29,13 @@ use Rattle.exchange.proofs.DialogLemmas.{batch_agree}
 use Rattle.exchange.proofs.TitleLemmas.{batch_is}
 use Rattle.ua_peers.specs.Peers.{Taken, Side, turn_of, side_after, AreAnswered, message_to}
 use Rattle.ua_peers.proofs.Joined.{numbered}
+use Rattle.conversation.specs.declared.other_end.OtherEnd.{OtherEnd}
+use Rattle.conversation.specs.declared.world.World.{World}
+use Rattle.conversation.specs.Comparing.{checks_callee}
+use Rattle.conversation.specs.Events.{Telling}
+use Rattle.conversation.specs.Starting.{GreetsPeer, AsksPeer, BeginsBy, StartsCall}
 use Rattle.headline.specs.Executions.{Execution, IsExecution}
-use Rattle.headline.specs.Calls.{WasHeld, CallState, Round, GoesBy, AskForAll, call_begun}
+use Rattle.headline.specs.Calls.{WasHeld, CallState, Round, GoesBy, AsksForNoLess, call_question, call_begun}
 use Rattle.headline.proofs.Times.{lawful_was, together}
 
 -- a call that stands so
@@ -65,7 +72,7 @@ module _ (e : Execution) (past : IsExecution e) (p q : Party) where
   ]
 
   -- a replica's own numbers ask for all that it lacks
-  own_asks : (R : Content) → WasHeld e R → AskForAll R (numbers_of R)
+  own_asks : (R : Content) → WasHeld e R → AsksForNoLess R (numbers_of R)
   own_asks R held replica is =
       let same = numbers_are R (lawful_held R held) replica in omega (arith, same)
 
@@ -188,12 +195,8 @@ module _ (e : Execution) (past : IsExecution e) (p q : Party) where
 
   -- ---- the caller pulls
 
-  -- the question for what these numbers lack
-  abbrev asking_by : List ℕ → Message
-  asking_by v = Asks (record { id = p.id; sender = p.own; vector = v })
-
   abbrev Pulled : ℕ → Type 0
-  Pulled n = (v : List ℕ) (A B : Content) (after : CallState) → WasHeld e A → AskForAll A v
+  Pulled n = (v : List ℕ) (A B : Content) (after : CallState) → WasHeld e A → AsksForNoLess A v
       → GoesBy e p q n (call_begun p v A B) after → after.state ≡ Done → Both B after
 
   -- it learned all, and asks again; or it failed
@@ -210,7 +213,7 @@ module _ (e : Execution) (past : IsExecution e) (p q : Party) where
 
   -- what it lacked came, or nothing, and then it pushes
   batch_then : (n : ℕ) → Pulled n → (v : List ℕ) (A here there : Content) (state : State)
-      (after : CallState) → AskForAll A v
+      (after : CallState) → AsksForNoLess A v
       → IsWithin A here → WasHeld e A → WasHeld e here → WasHeld e there → (batch : List Record)
       → IsBatchFor there (number_of v) batch
       → (turned p Pulling here (Carries (title_by q there) batch)).result ≡ Ok state
@@ -237,7 +240,7 @@ module _ (e : Execution) (past : IsExecution e) (p q : Party) where
   pulls zero v A B after held asks is done =
       let never : Pulling ≡ Done = ap (λ (x : CallState). x.state) (sym is) ∙ done in absurd cc
   pulls (suc n) v A B after held asks (round, rest) done =
-      asked_so (pulls n) round.asked (same_Some (asking_by v) round.asked round.said) round.told
+      asked_so (pulls n) round.asked (same_Some (call_question p v) round.asked round.said) round.told
       rest
     where
       answered_so : Pulled n → (m : Message)
@@ -256,7 +259,7 @@ module _ (e : Execution) (past : IsExecution e) (p q : Party) where
           (subst (Follows n Pulling round.state round.here round.there after) (sym is) rest) done in
           (within_then B round.there after.here round.grown.1 both.0, both.1)
 
-      asked_so : Pulled n → (m : Message) → asking_by v ≡ m
+      asked_so : Pulled n → (m : Message) → call_question p v ≡ m
           → (turned q Serving round.there m).reply ≡ Some round.answer
           → Follows n Pulling round.state round.here (turned q Serving round.there m).content after
           round.answer → Both B after
@@ -268,7 +271,7 @@ module _ (e : Execution) (past : IsExecution e) (p q : Party) where
           (turned q Serving round.there x).content after round.answer) (sym is) rest)
 
   pub done_both : (here there : Content) (asked : List ℕ) (rounds : ℕ) (after : CallState)
-      → WasHeld e here → AskForAll here asked
+      → WasHeld e here → AsksForNoLess here asked
       → GoesBy e p q rounds (call_begun p asked here there) after → after.state ≡ Done
       → IsWithin there after.here × IsWithin after.here after.there
   done_both here there asked rounds after held asks goes done =
@@ -317,3 +320,49 @@ taken_plainly p side t next answered ok = go answered.0.1
           ap (λ (x : Turn). x.content) plain.2,
           wrote.1 ∙ ap (λ (x : Turn). option_map_or frame_of x.reply []) plain.2,
         )
+
+-- ---- how a call begins
+
+-- a content's own numbers, each of its replica
+number_reached : (R : Content) (replica : ℕ) → IsReplica replica
+    → number_of (numbers_of R) replica ≡ vec R replica
+unfolding numbers_of
+number_reached R zero is = absurd (omega (arith, is.0))
+number_reached R (suc o) is = number_at (numbers_of R) o (suc o) (omega arith)
+    ∙ get_or-map-range_with_len (vec R) 1 64 o (suc o) 0 (omega (arith, is.1)) (omega arith)
+
+-- over an archive it was asked so
+abbrev AsksSo : (old : Store) → (frame : List ℕ) → Type 0
+AsksSo old frame =
+    (asked : List ℕ) × AsksForNoLess old.content asked
+    × (frame ≡ frame_of (call_question (party_of old) asked))
+
+-- by its first frame
+greeting_asks : (checks : Bool) (old new : Store) (frame : List ℕ) (done : Unit {0})
+    → GreetsPeer checks old new frame (Ok done) → new.honest → AsksSo old frame
+greeting_asks false old new frame done greets honest = (
+  numbers_of old.content,
+  λ replica is. let same = number_reached old.content replica is in omega (arith, same),
+  greets.frame honest,
+)
+greeting_asks true old new frame done greets honest =
+    let (numbers, before, made) = greets.frame honest in
+    (numbers, λ replica is. let less = before.less replica is in omega (arith, less), made)
+
+-- where it was made, and the call began
+pub call_asks : {A C L : Type 0} (state : A → Store) (gave : C → List ℤ → C → Type 0)
+    (told : Telling L) (callee : ℕ) (v w : World A C L) (made : List ℕ) (other : OtherEnd)
+    → StartsCall state gave told callee v made (Some other) w
+    → (state w.server.replica.archive).honest → AsksSo (state v.server.replica.archive) made
+call_asks {A} {C} {L} state gave told callee v w made other starts honest =
+    go starts.result starts.asks starts.begins
+  where
+    go : (result : Result (Unit {0}) ExchangeFault)
+        → AsksPeer (checks_callee v.server.settings callee) (state v.server.replica.archive)
+        (state starts.between.server.replica.archive) made result
+        → BeginsBy gave told callee starts.between (Some other) w result
+        → AsksSo (state v.server.replica.archive) made
+    go (Ok done) (inl greets) begins = greeting_asks _ _ _ made done greets
+        (subst (λ (u : World A C L). (state u.server.replica.archive).honest) begins.1 honest)
+    go (Ok done) (inr wanting) begins = absurd cc
+    go (Err fault) asks begins = absurd (none-some other (sym begins.0))

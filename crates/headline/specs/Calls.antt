@@ -56,16 +56,21 @@ GoesBy e caller called (suc rounds) before after =
     (round : Round e caller called before)
     × GoesBy e caller called rounds (call_behind e caller called before round) after
 
--- what R lacks these numbers lack too, and perhaps more: none is greater than R's own number of its
--- replica
-abbrev pub AskForAll : Content → (numbers : List ℕ) → Type 0
-AskForAll R numbers =
+-- the question of who calls for what these numbers lack
+abbrev pub call_question : (caller : Party) → (numbers : List ℕ) → Message
+call_question caller numbers =
+    Asks (record { id = caller.id; sender = caller.own; vector = numbers })
+
+-- who asks by these numbers asks for no less than by those that R has of its own: none is greater
+-- than R's number of its replica
+abbrev pub AsksForNoLess : Content → (numbers : List ℕ) → Type 0
+AsksForNoLess R numbers =
     (replica : ℕ) → IsReplica replica → number_of numbers replica ≤ vec R replica
 
 -- a call begins: the caller asked for what these numbers lack
 abbrev pub call_begun : (caller : Party) → (numbers : List ℕ) → (here there : Content) → CallState
 call_begun caller numbers here there = record {
-  said = Some (Asks (record { id = caller.id; sender = caller.own; vector = numbers }));
+  said = Some (call_question caller numbers);
   state = Pulling;
   here = here;
   there = there;

@@ -1,6 +1,6 @@
 //! The laws of one turn, and of machines that take turns.
 
-ghost use Rattle.std.specs.Prelude.{◌≡◌, ℕ, false, List, [], ◌∷◌, map, length, Option, option_to_list, Result, Ok};
+ghost use Rattle.std.specs.Prelude.{◌≡◌, ℕ, false, List, [], ◌∷◌, map, length, Option, Some, option_to_list, Result, Ok};
 ghost use Rattle.std.specs.Option.{option_map_or};
 ghost use Rattle.std.specs.List.{AllByRecursion};
 ghost use Rattle.records.specs.Lists.{Has};
@@ -33,7 +33,7 @@ ghost use Rattle.conversation.specs.OtherEnds.{ConversationEnding};
 ghost use Rattle.conversation.specs.Answering.{AnswersClient, AnswersPeer, LearnsFromPeer, RefusesPeer, EndsByComparing};
 ghost use Rattle.conversation.specs.Comparing.{FindsNone};
 ghost use Rattle.conversation.specs.Starting.{StartsCall};
-ghost use Rattle.headline.specs.Calls.{WasHeld, CallState, GoesBy, AskForAll, call_begun};
+ghost use Rattle.headline.specs.Calls.{WasHeld, CallState, GoesBy, AsksForNoLess, call_question, call_begun};
 ghost use Rattle.headline.specs.Executions.{Execution, IsExecution};
 ghost use Rattle.headline.specs.Machines.{RestartsAs, IsMachine};
 ghost use Rattle.headline.specs.Plants.{BringsSent, IsReplaced, AreLawfulBatches, AreUnforged, AreWholeFrames, CameOver, Plant, plant_after, IsNewPlant, PlantSimulates, PlantExtendsTo, IsClientTurn, IsPeerTurn, IsCallTurn, IsLearningTurn, IsRefusalTurn, IsRestart, ArePlantSteps, AreSimulated};
@@ -184,13 +184,19 @@ pub fn conversations_take_turns<A: Archive, C: Clock, L: Log>()
 /// When a call is done each end holds all that the other one held: whatever other turns come in between, which only add to what either
 /// holds, if the caller ended the call well then it holds all that the one that it called held when the call began, and that one holds all
 /// that the caller holds by then.
-/// That is so too where it first asked for more than it lacks, as a call does that looks for numbers that were given twice.
+/// It asks first for no less than it lacks, and perhaps for records that it holds. So does each call that `conversation` begins over a
+/// store that returned what was written to it, also one that looks for numbers that were given twice.
 /// All that either holds is held by replicas of a past. A round of a call is what its two ends make of each other's frames where nothing
 /// comes in the way, and that is so of each frame after which an end goes on, or is done.
-pub fn a_call_that_is_done_leaves_all_at_both()
+pub fn a_call_that_is_done_leaves_all_at_both<A: Archive, C: Clock, L: Log>()
+    ensures begins { (callee : ℕ) (v w : Shared A C L) (made : List ℕ) (other : OtherEnd)
+        → StartsCall A.state C.gave L.told callee v made (Some other) w
+        → (A.state w.server.replica.archive).honest
+        → (asked : List ℕ) × AsksForNoLess (A.state v.server.replica.archive).content asked
+        × (made ≡ frame_of (call_question (party_of (A.state v.server.replica.archive)) asked)) }
     ensures done { (e : Execution) (caller called : Party) (here there : Content)
         (asked : List ℕ) (rounds : ℕ) (after : CallState) → IsExecution e → WasHeld e here
-        → AskForAll here asked
+        → AsksForNoLess here asked
         → GoesBy e caller called rounds (call_begun caller asked here there) after
         → after.state ≡ State.Done
         → IsWithin there after.here × IsWithin after.here after.there }
