@@ -8,6 +8,9 @@ use Rattle.sql_opening.proofs.RenewLemmas.{renewed_is_own}
 use Rattle.sql_archive.proofs.BeginLemmas.{opened_turned, left_turned, begun_turned, crash_turned}
 use Rattle.sql_archive.proofs.renewing.begin.Goals as goal
 
+pub over-requires : goal.over-requires
+over-requires g c clean = (c.in-Ok.ensures.made clean).0
+
 pub returns-in-Ok-clause-renewed : goal.returns-in-Ok-clause-renewed
 returns-in-Ok-clause-renewed g c =
     let old = state g.S.Store c.args.conn in

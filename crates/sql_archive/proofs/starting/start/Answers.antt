@@ -12,6 +12,10 @@ returns-in-Ok-Empty-clause-started g c =
     (sym c.schema.ensures.value ∙ c.in-Ok-Empty.ensures.empty.0 c.in-Ok-Empty.field-0-is)
     c.make.ensures.made
 
+pub returns-in-Ok-Empty-clause-wrong : goal.returns-in-Ok-Empty-clause-wrong
+returns-in-Ok-Empty-clause-wrong g c =
+    err_then c.make.result _ _ (λ e none clean of. absurd (none clean of)) c.make.ensures.wrong
+
 pub returns-in-Ok-Archive-clause-started : goal.returns-in-Ok-Archive-clause-started
 returns-in-Ok-Archive-clause-started g c =
     started_old g.S.Store (state g.S.Store c.args.conn) c.args.id c.args.number c.over.result
