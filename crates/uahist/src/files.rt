@@ -107,7 +107,7 @@ fn prepare(rt: &HostRuntime, path: &str) -> Result<(), StoreFault> {
 }
 
 /// An archive that was opened, with an index of live values where the terms want one. Where none can be made it is refused.
-pub fn indexed<S: Alter>(
+pub fn indexed<S: Alter + Drop>(
     opened: Result<SqlArchive<S>, StoreFault>,
     terms: StoreTerms,
 ) -> Result<SqlArchive<S>, StoreFault> {
