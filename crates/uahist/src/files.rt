@@ -3,7 +3,6 @@
 use crate::causes;
 use archive::StoreFault;
 use sql_archive::{FileArchive, SqlArchive};
-use sqlite::Alter;
 use std::fs::{File, OpenOptions};
 use std::io::{ErrorKind, Write};
 use std::os::unix::fs::{MetadataExt, OpenOptionsExt, PermissionsExt};
@@ -106,12 +105,11 @@ fn prepare(rt: &HostRuntime, path: &str) -> Result<(), StoreFault> {
     Ok(())
 }
 
-/// An archive that was opened, with an index of live values where the terms want one. Where none can be made it is refused.
-pub fn indexed<S: Alter + Drop>(
-    opened: Result<SqlArchive<S>, StoreFault>,
-    terms: StoreTerms,
-) -> Result<SqlArchive<S>, StoreFault> {
-    let mut archive = opened?;
+/// The archive of the store at a path, which is made where none stands, with an index of live values where the terms want one.
+/// Where that can't be made it is refused.
+pub fn open(rt: &HostRuntime, path: &str, terms: StoreTerms) -> Result<FileArchive, StoreFault> {
+    prepare(rt, path)?;
+    let mut archive = SqlArchive::open(rt, path, terms.archive, terms.replica)?;
     if !terms.is_indexed {
         return Ok(archive);
     }
@@ -120,15 +118,6 @@ pub fn indexed<S: Alter + Drop>(
         Err(StoreFault::Broken) => Err(StoreFault::Refused),
         Err(fault) => Err(fault),
     }
-}
-
-/// The archive of the store at a path, which is made where none stands.
-pub fn open(rt: &HostRuntime, path: &str, terms: StoreTerms) -> Result<FileArchive, StoreFault> {
-    prepare(rt, path)?;
-    indexed(
-        SqlArchive::open(rt, path, terms.archive, terms.replica),
-        terms,
-    )
 }
 
 /// Closes the archive of a store that broke, and says why it broke, as far as its files tell.
