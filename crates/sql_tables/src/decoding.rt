@@ -70,6 +70,7 @@ pub fn number_at(row: &Row, at: usize) -> Result<u64, RecordFault>
     }
 }
 
+/// The whole number in a column from 0 to 255; else `BadField`.
 fn byte_at(row: &Row, at: usize) -> Result<u8, RecordFault>
     ensures found { IfOk result (λ n. number_in (column row.now at) ≡ n) }
     ensures same { IfOk result (λ n. column row.now at ≡ value.Int (pos n)) }
@@ -97,6 +98,7 @@ pub fn short_at(row: &Row, at: usize) -> Result<u16, RecordFault>
     }
 }
 
+/// The text of at most 256 bytes in a column; else a fault.
 #[inline(always)]
 fn text_at(row: &Row, at: usize) -> Result<&str, RecordFault>
     ensures found { IfOk result (λ s. column row.now at ≡ value.Blob s.now) }
@@ -167,7 +169,7 @@ fn asked_at(row: &Row) -> Result<HistoryUpdateType, RecordFault>
     }
 }
 
-/// Whether a node is written as these bytes; it is written into a buffer.
+/// Whether a node is written as these bytes. It is written into `buffer`, in place of what stood there, to be compared with them.
 #[inline(always)]
 fn is_node_so(buffer: &mut Vec<u8>, node: &NodeId, bytes: &[u8]) -> Result<bool, RecordFault>
     requires { IsShortNode node.now }
@@ -197,7 +199,7 @@ fn node_at(alloc: Global, buffer: &mut Vec<u8>, row: &Row) -> Result<NodeId, Rec
     Ok(node)
 }
 
-/// Whether a value is written as these bytes; it is written into a buffer.
+/// Whether a value is written as these bytes. It is written into `buffer`, in place of what stood there, to be compared with them.
 #[inline(always)]
 fn is_value_so(buffer: &mut Vec<u8>, value: &DataValue, bytes: &[u8]) -> Result<bool, RecordFault>
     requires { IsShortData value.now }
@@ -237,6 +239,7 @@ struct Marks {
     asked: HistoryUpdateType,
 }
 
+/// What a row says beside its node, its user and its value.
 #[tactic(auto, using(crate::proofs::UnreadLemmas::no_number, crate::proofs::UnreadLemmas::no_tick))]
 #[inline(always)]
 fn marks_at(row: &Row) -> Result<Marks, RecordFault>
@@ -283,8 +286,9 @@ fn is_spelled(r: &Record) -> bool
     tick >= 1 && tick <= GREATEST_TICK && r.is_lawful()
 }
 
-/// The record that a row of nine columns spells; what its bytes spell is written into a buffer, so that another spelling isn't taken.
-/// `OutOfMemory` for want of memory; a row that is no record's is another fault.
+/// The record that a row of nine columns spells. Its node and its value are read of their bytes, written again into `buffer`, and compared
+/// with the bytes that were read: another spelling of them is a fault. `OutOfMemory` for want of memory; a row that is no record's is
+/// another fault.
 #[tactic(auto, using(crate::proofs::UnreadLemmas::row_is, crate::proofs::UnreadLemmas::read_by, crate::proofs::UnreadLemmas::no_other))]
 pub fn decode(alloc: Global, buffer: &mut Vec<u8>, row: &Row) -> Result<Record, RecordFault>
     ensures found { IfOk result (λ r. records_in row.now ≡ r ∷ []) }

@@ -49,7 +49,7 @@ module _ {A C E : Type 0} (state : A → Store) (gave : Readings C) (told : Know
       × TellsBreak state gave told between new
 
   -- what is said on connections over an archive, and told of them on standard error; in each round
-  -- it is told where it is news that the store broke; and nobody is served where it is to be told why
+  -- it is told where it is news that the store broke; nobody is served where it is due to say why
   abbrev pub conversations : Behavior OtherEnd (World A C (ErrorLog E C)) ConversationEnding
   conversations =
       let behavior = behavior_over state gave (logs_to told gave) in
