@@ -138,6 +138,7 @@ try:
     place = system("bullseye")
     shutil.copy(os.path.join(here, "clients", "freeopcua.py"), os.path.join(place, "root"))
     fine = compare("python-opcua", run_in(place, "python3", "/root/freeopcua.py", address), FREEOPCUA) and fine
+    print("clients of two other makers: " + ("each is answered as it should be" if fine else "some answers are others"))
 finally:
     serving.terminate()
     serving.wait()
