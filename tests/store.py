@@ -172,8 +172,26 @@ def index_of_kills():
     print(f"killed {rounds} times as it began, it had made the index of live values {stood} times; the records were what they were")
 
 
+def has_page():
+    """Whether the log has a page, behind its header and a frame's: an opening may empty it into the database."""
+    return os.path.getsize(store + "-wal") >= 32 + 24 + 512
+
+
+def insert_one(n):
+    client = Client()
+    sent = client.hello() + client.open() + client.create_session() + client.activate("ann", b"pw")
+    sent += client.update(node("T", 1), 1, [value_at(int32(n), EPOCH + 2 * 10**9 + n)]) + client.close_session()
+    done = subprocess.run([program, "answer", "--settings", settings], input=sent, stdout=subprocess.PIPE, check=True)
+    assert INSERTED in done.stdout, done.stdout[-200:].hex()
+
+
 def files_alone():
     """The files are their owner's alone, and a store that is gone or empty beside its log is refused."""
+    for n in range(3):
+        if not has_page():
+            insert_one(n)
+            dumped()
+    assert has_page(), "the log has no page"
     kept = {end: open(store + end, "rb").read() for end in ("", "-wal")}
     found = dumped()
     modes = [f"{os.stat(store + end).st_mode & 0o777:o}" for end in ("", "-wal")]
