@@ -38,7 +38,7 @@ def write_settings(port, indexed=False):
 
 
 def connect(port):
-    until = time.monotonic() + 10
+    until = time.monotonic() + 60
     while True:
         try:
             return socket.create_connection(("127.0.0.1", port))
@@ -91,18 +91,21 @@ def dumped():
     return [line.split() for line in done.stdout.splitlines()]
 
 
-def whole():
-    """What sqlite3 says of a copy of the files."""
+def of_copy(asked):
+    """What sqlite3 says of a copy of the files, which themselves stay as they are."""
     copy = os.path.join(folder, "copy.db")
     for end in ("", "-wal"):
         if os.path.exists(store + end):
             shutil.copyfile(store + end, copy + end)
-    asked = "PRAGMA integrity_check; SELECT count(*) FROM records2; SELECT count(*) FROM currents2 JOIN records2 USING (node, time, pico, tick, origin, value) WHERE live AND NOT extra; SELECT max(number) FROM vectors"
     said = subprocess.run(["sqlite3", copy, asked], stdout=subprocess.PIPE, text=True, check=True)
     for end in ("", "-wal", "-shm"):
         if os.path.exists(copy + end):
             os.remove(copy + end)
     return said.stdout.split()
+
+
+def whole():
+    return of_copy("PRAGMA integrity_check; SELECT count(*) FROM records2; SELECT count(*) FROM currents2 JOIN records2 USING (node, time, pico, tick, origin, value) WHERE live AND NOT extra; SELECT coalesce(max(number), 0) FROM vectors")
 
 
 def rounds_of_kills(numbers, indexed):
@@ -125,29 +128,70 @@ def rounds_of_kills(numbers, indexed):
 
 
 def has_index():
-    done = subprocess.run(["sqlite3", store, "SELECT name FROM sqlite_schema WHERE name = 'currents2_live'"], stdout=subprocess.PIPE, text=True, check=True)
-    return done.stdout == "currents2_live\n"
+    return of_copy("SELECT name FROM sqlite_schema WHERE name = 'currents2_live'") == ["currents2_live"]
+
+
+def fill():
+    """Inserts 5,000 values more, so that the index takes a time to be made."""
+    port = free_port()
+    write_settings(port)
+    server = subprocess.Popen([program, "serve", "--settings", settings, "--connections", "1"], stderr=subprocess.DEVNULL)
+    with connect(port) as line:
+        client = Client()
+        for sent in (client.hello(), client.open(), client.create_session(), client.activate("ann", b"pw")):
+            ask(line, sent)
+        for k in range(0, 5000, 1000):
+            answer = ask(line, client.update(node("T", 1), 1, [value_at(int32(n), EPOCH + 10**9 + k + n) for n in range(1000)]))
+            assert answer.count(INSERTED) == 1000, answer[:100].hex()
+    assert server.wait(30) == 0
 
 
 def index_of_kills():
     """Kills the program while it makes the index of live values; the one or the other stands then, and the records as they were."""
-    found, stood = dumped(), 0
+    fill()
+    found, stood, wait = dumped(), 0, 0.01
     for _ in range(rounds):
         subprocess.run(["sqlite3", store, "DROP INDEX IF EXISTS currents2_live"], check=True)
+        assert not os.path.exists(store + "-wal"), "sqlite3 left a log"
         write_settings(free_port(), True)
         server = subprocess.Popen([program, "serve", "--settings", settings], stderr=subprocess.DEVNULL)
-        time.sleep(chance.uniform(0, 0.2))
+        while not os.path.exists(store + "-wal"):
+            assert server.poll() is None, "it ended by itself"
+            time.sleep(0.0005)
+        time.sleep(wait * chance.uniform(0.5, 1))
         server.kill()
         server.wait()
         assert whole() == ["ok"] + [str(len(found))] * 3
-        stood += has_index()
+        is_made = has_index()
         write_settings(free_port())
         assert dumped() == found, "the records changed"
+        assert has_index() == is_made, "a dump made the index, or took it out"
+        stood += is_made
+        wait *= 0.5 if is_made else 2  # so that the kills are about the moment at which it stands
+    assert rounds < 10 or 0 < stood < rounds, f"the index stood {stood} times"
     print(f"killed {rounds} times as it began, it had made the index of live values {stood} times; the records were what they were")
+
+
+def has_page():
+    """Whether the log has a page, behind its header and a frame's: an opening may empty it into the database."""
+    return os.path.getsize(store + "-wal") >= 32 + 24 + 512
+
+
+def insert_one(n):
+    client = Client()
+    sent = client.hello() + client.open() + client.create_session() + client.activate("ann", b"pw")
+    sent += client.update(node("T", 1), 1, [value_at(int32(n), EPOCH + 2 * 10**9 + n)]) + client.close_session()
+    done = subprocess.run([program, "answer", "--settings", settings], input=sent, stdout=subprocess.PIPE, check=True)
+    assert INSERTED in done.stdout, done.stdout[-200:].hex()
 
 
 def files_alone():
     """The files are their owner's alone, and a store that is gone or empty beside its log is refused."""
+    for n in range(3):
+        if not has_page():
+            insert_one(n)
+            dumped()
+    assert has_page(), "the log has no page"
     kept = {end: open(store + end, "rb").read() for end in ("", "-wal")}
     found = dumped()
     modes = [f"{os.stat(store + end).st_mode & 0o777:o}" for end in ("", "-wal")]
