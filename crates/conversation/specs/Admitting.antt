@@ -109,8 +109,8 @@ abbrev pub IsAdmitted : SettingsValues → (time : ℤ) → Option Bound → Par
 IsAdmitted settings time bound p waiting =
     first_admitted (admission_at settings time bound) p waiting ≡ Ok tt
 
--- the records of the first frame aren't taken, where not all records are, and this fault says why;
--- or memory to judge them was wanting
+-- the settings limit which records are taken, and the first one of the first frame that isn't taken
+-- is refused by this fault; or the fault is OutOfMemory, which says nothing of the records
 pub record IsUnadmitted (settings : SettingsValues) (time : ℤ) (bound : Option Bound) (p : Party)
     (waiting : List ℕ) (fault : ExchangeFault) : Type 0 where
   pub closed : is_open (admission_at settings time bound) ≡ false

@@ -59,8 +59,8 @@ pub record AnswersStretch {A C L : Type 0} (state : A → Store) (gave : C → L
       ends later
   pub leaves : next ≡ unless_over (client_ending ends) (Client later)
 
--- while nobody else changes the world a client is answered, from its first byte on, as on a
--- connection of its own
+-- while nobody else changes the server or its clock, a client that sent three letters or more, and
+-- for all of whose bytes memory was there, is answered as on a connection of its own
 abbrev pub ClientAloneIsAnswered : {R W A C L : Type 0} → Input R → Output W → (A → Store)
     → (C → List ℤ → C → Type 0) → Telling L → Type 0
 ClientAloneIsAnswered {R} {W} {A} {C} {L} input output state gave told =

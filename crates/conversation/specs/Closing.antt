@@ -89,14 +89,15 @@ pub record EndsCall {A C L : Type 0} (gave : C → List ℤ → C → Type 0) (t
   pub calls : w.calls ≡ after_call callee (call_end at outcome moved) v.calls
   pub same : w ≡ record v { clock = w.clock; log = w.log; calls = w.calls }
 
--- a call of a peer ended so, of this number, if there is one
+-- the same of a peer that the settings have or lack: of none nothing is told, and all stays
 abbrev pub TellsCallOf : {A C L : Type 0} → (C → List ℤ → C → Type 0) → Telling L → World A C L
     → (callee : ℕ) → Result (Unit {0}) SyncFault → Synced → World A C L → Option PeerCall → Type 0
 TellsCallOf gave told v callee outcome moved w None = w ≡ v
 TellsCallOf gave told v callee outcome moved w (Some peer) =
     EndsCall gave told v callee peer.address outcome moved w
 
--- a call of the peer of this number in the settings ended so, if there is one
+-- it is told, and kept as the last call of that peer, that a call of the peer of this number ended
+-- so; where the settings have no peer of this number nothing is told, and all stays
 abbrev pub TellsCall : {A C L : Type 0} → (C → List ℤ → C → Type 0) → Telling L → World A C L
     → (callee : ℕ) → Result (Unit {0}) SyncFault → Synced → World A C L → Type 0
 TellsCall gave told v callee outcome moved w =

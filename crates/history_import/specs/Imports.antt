@@ -48,8 +48,8 @@ DoesRows settings asked old new rows ends =
 abbrev pub import_text : List RowEnd → List ℕ
 import_text ends = lines_from 1 ends ++ summary_of (counts_of ends)
 
--- what is told of rows as far as an import came: their lines, and where the text has no more rows
--- the summary too
+-- a text that is told of rows: a line for each that was refused; or, where the input has just these
+-- rows behind the header, these lines and the summary
 abbrev pub IsToldSoFar : (input : Option (List ℕ)) → List (List (List ℕ)) → List RowEnd → List ℕ
     → Type 0
 IsToldSoFar input rows ends text =

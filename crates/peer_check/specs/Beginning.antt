@@ -26,7 +26,8 @@ pub record IsBeforeLast (R : Content) (numbers : List ℕ) : Type 0 where
   pub vector : IsVector numbers
   pub less : (replica : ℕ) → IsReplica replica → number_of numbers replica ≡ vec R replica - 1
 
--- it was asked for what stands behind such numbers; or a fault came, and nothing was written
+-- of an honest store: the last record held of each replica, and what comes after it, was asked of
+-- a peer by one frame; or a fault came, and nothing was written; the content stays
 pub record GreetsBefore (old new : Store) (out written : List ℕ)
     (result : Result (Unit {0}) ExchangeFault) : Type 0 where
   pub frame : new.honest → IfOk result (λ _. (numbers : List ℕ) × IsBeforeLast old.content numbers

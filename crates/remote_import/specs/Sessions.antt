@@ -26,8 +26,8 @@ session_request client now =
     head_of client 461 now ++ create_session_request.canon
     (None, (Some (codes "uahist import"), hour))
 
--- a channel was opened that is good for an hour, then a session was made, and it was activated as
--- who claims to be this
+-- a channel was opened that is good for an hour, then a session was made, and it was activated by
+-- this claim of a user's name and password, or as anonymous
 pub record OpensSession (claim : Claim) (now : Ticks) (old : Flow) (new : SessionState)
     : Type 0 where
   pub connected : SessionState

@@ -124,7 +124,8 @@ pub record Replies (given : Answering) (used : Environment) (made : List ℕ) (e
   pub goes : ending ≡ None → last.client ≡ client
   pub does : YieldsWith given used (record { out = made; ending = ending; state = last })
 
--- these bytes were appended, by steps over an archive
+-- these bytes were appended: of each content that may be held before, what is given makes just
+-- these, this end, and the client that goes on, by all that came from outside
 pub record Answered (old new : Store) (given : Content → Answering) (used : Environment)
     (before after : List ℕ) (ending : Option Ending) (client : Client) : Type 0 where
   pub made : List ℕ

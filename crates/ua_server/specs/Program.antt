@@ -282,8 +282,8 @@ CallsAt known compared address old new result =
     × (ending : Result Synced CallFault) × PrintsCall old.written new.written ending result
     × ExchangesOver known compared reader writer (record old { host = between }) new ending
 
--- The peer at an address was called; or nothing is had there, or the text is no address, and the
--- archive and the output stay.
+-- The peer at an address was called, and what came of it printed, or its fault told; or the text is
+-- no address, or no connection was had: the result is Address, and the archive and the output stay.
 abbrev pub CallsPeer : (known : KnownMachine) → (compared : Option Extent) → List ℕ
     → (old new : Calling known.Host known.Archive) → Result (Unit {0}) ProgramFault → Type 0
 CallsPeer known compared text old new result =

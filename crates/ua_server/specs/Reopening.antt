@@ -117,8 +117,8 @@ abbrev pub keeping_of : {C E : Type 0} → (known : KnownMachine) → Stage know
 keeping_of known stage =
     record { host = stage.host; archive = stage.loop.world.server.replica.archive }
 
--- between two turns what takes the place of a broken store was opened, or refused, and that was
--- told; each connection, and all else that a server knows, stays
+-- between two turns what takes the place of a broken store was opened, and of a file that is told;
+-- or it was refused, which is told at the run's end; each connection, and all else, stays
 pub record Reopens {C E : Type 0} (known : KnownMachine) (told : Known E) (next : Successor)
     (old new : Stage known C E) (result : Result (Unit {0}) StoreFault) : Type 0 where
   pub tries : TriesAnew known next (keeping_of known old) (keeping_of known new) result

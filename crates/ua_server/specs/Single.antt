@@ -25,7 +25,7 @@ EndsAs P result =
       | Err (hexed.Serve fault) ↦ P (Err fault)
     ]
 
--- the input was this text, as far as its bytes are known
+-- the input was this text, where its bytes are known; of an unknown input any text may be it
 abbrev pub WasText : Option (List ℕ) → List ℕ → Type 0
 WasText input text = IfSome input (λ known. text ≡ known)
 
