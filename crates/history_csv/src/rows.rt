@@ -22,24 +22,24 @@ use ua_variant::ValueType;
 // ---- reading
 
 /// The fields of a row, where they are four.
-fn four(record: &StringRecord) -> Option<Fields<'_>>
-    ensures { MatchOption result (length (fields_of record.now) ≢ 4)
-        (λ row. fields_of record.now
+fn four(line: &StringRecord) -> Option<Fields<'_>>
+    ensures { MatchOption result (length (fields_of line.now) ≢ 4)
+        (λ row. fields_of line.now
         ≡ row.node.now ∷ row.time.now ∷ row.value.now ∷ row.status.now ∷ []) }
 {
-    if record.len() != 4 {
+    if line.len() != 4 {
         return None;
     }
-    let Some(node) = record.get(0) else {
+    let Some(node) = line.get(0) else {
         return None;
     };
-    let Some(time) = record.get(1) else {
+    let Some(time) = line.get(1) else {
         return None;
     };
-    let Some(value) = record.get(2) else {
+    let Some(value) = line.get(2) else {
         return None;
     };
-    let Some(status) = record.get(3) else {
+    let Some(status) = line.get(3) else {
         return None;
     };
     Some(Fields {
@@ -58,11 +58,11 @@ fn four(record: &StringRecord) -> Option<Fields<'_>>
 pub fn read_row(
     alloc: Global,
     value_type: ValueType,
-    record: &StringRecord,
+    line: &StringRecord,
 ) -> Result<Row, RowFault>
-    ensures { Answers (row_of value_type (fields_of record.now)) result }
+    ensures { Answers (row_of value_type (fields_of line.now)) result }
 {
-    match four(record) {
+    match four(line) {
         Some(fields) => row_in(alloc, value_type, fields),
         None => Err(RowFault::Fields),
     }

@@ -90,7 +90,8 @@ module _ {H R W V E : Type 0} (input : Input R) (output : Output W) (handler : B
       active = now;
     }
 
-  -- what stood first was answered, where nothing waited; the answer waits
+  -- what stood first was answered, where nothing waited to be written. The answer waits to be
+  -- written, at least as long as the handler delays it, and the connection counts as heard now
   pub record IsAnswering (now : ℕ) (v : V) (old : Slot H R W E) (made : List ℕ) (end : Option E)
       (w : V) (new : Slot H R W E) : Type 0 where
     pub responsive : IsResponsive old

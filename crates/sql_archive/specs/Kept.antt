@@ -12,6 +12,8 @@ use Rattle.sql_tables.specs.Rows.{content_in, IsStored, IsStoreOf}
 use Rattle.sql_tables.specs.Derived.{AreKept}
 use Rattle.sql_tables.specs.State.{Idles, RefusesFor, AreWhole}
 
+-- what an archive is made of: its connection, whose store it is, what it remembers of the records
+-- there, how many faults it met, and whether it is broken
 pub record Kept (S : Type 0) : Type 0 where
   pub conn : Held S
   pub id : List ℕ

@@ -77,6 +77,7 @@ HasChecked db walk = (rows : List Row) × IsPermutation (cells (db 1)) rows × H
 
 -- ---- whose store it is
 
+-- the value is this number
 abbrev pub has_number : Value → ℕ → Bool
 has_number Null n = false
 has_number (Int (pos m)) n = m == n
@@ -85,6 +86,7 @@ has_number (Real x) n = false
 has_number (Text t) n = false
 has_number (Bytes b) n = false
 
+-- the value is a blob of these bytes
 abbrev pub has_bytes : Value → List ℕ → Bool
 has_bytes Null bytes = false
 has_bytes (Int m) bytes = false

@@ -20,7 +20,8 @@ use Rattle.archive.specs.declared.reading.Direction.{Direction}
 use Rattle.archive.specs.declared.reading.Direction.TheVariants.{Forward, Backward}
 use Rattle.archive.specs.declared.reading.LogPlace.{LogPlace}
 
--- the moment of a place, whose picoseconds may be one below or above those of a moment
+-- the moment of a place, in steps of 10 picoseconds, of which a tick has 10,000; `pico` may be one
+-- below or above those that a moment has
 abbrev pub moment_at : ℤ → ℤ → ℤ
 moment_at ticks pico = ticks *ℤ pos 10000 +ℤ pico
 

@@ -16,6 +16,7 @@ use Rattle.sqlite_value.specs.Order.{Row}
 use Rattle.sqlite_catalog.specs.Change.{created}
 use Rattle.sqlite_catalog.specs.Listing.{Lists}
 
+-- a column of this name and kind in a STRICT table; where it is needed it is NOT NULL
 abbrev pub strict : List ℕ → Kind → Bool → Column
 strict name kind needed =
     record {
@@ -27,6 +28,7 @@ strict name kind needed =
       collation = Binary;
     }
 
+-- a table of these columns that has no key, no constraint and nothing computed, and no tree yet
 abbrev pub bare : List ℕ → List Column → Table
 bare name columns = record {
   name = name;
@@ -43,6 +45,7 @@ bare name columns = record {
   is_counted = false;
 }
 
+-- the one row that says whose store this is: its format, the archive and the replica
 abbrev pub meta : Table
 meta =
     record
@@ -54,6 +57,7 @@ meta =
       checks = op2 (Compare Eq Binary) (col 1 0) (lit (Int (pos 1))) ∷ [];
     }
 
+-- the records. The key is origin and number; no two are equal in node, moment, tick and origin
 abbrev pub records2 : Table
 records2 =
     record
@@ -68,6 +72,7 @@ records2 =
       orders = plain ∷ plain ∷ [];
     }
 
+-- the last record of each node and moment, and whether it is live and others stand there too
 abbrev pub currents2 : Table
 currents2 =
     record
@@ -81,6 +86,7 @@ currents2 =
       orders = plain ∷ [];
     }
 
+-- the number and tick of each origin's last record
 abbrev pub vectors : Table
 vectors =
     record
@@ -91,8 +97,7 @@ vectors =
       primary = 0 ∷ [];
     }
 
--- the tables of records and of current values of a store of format 1, whose moments have no
--- picoseconds
+-- the records of a store of format 1, whose moments have no picoseconds
 abbrev pub records1 : Table
 records1 =
     record
@@ -107,6 +112,7 @@ records1 =
       orders = plain ∷ plain ∷ [];
     }
 
+-- its current values
 abbrev pub currents1 : Table
 currents1 =
     record
@@ -120,21 +126,27 @@ currents1 =
       orders = plain ∷ [];
     }
 
+-- no tables
 abbrev pub no_schema : Schema
 no_schema = record { tables = []; indexes = []; views = [] }
 
+-- the tables of an archive as they are made, one after the other
 abbrev pub with_meta : Schema
 with_meta = created no_schema meta
 
+-- and the records
 abbrev pub with_records : Schema
 with_records = created with_meta records2
 
+-- and the current values
 abbrev pub with_currents : Schema
 with_currents = created with_records currents2
 
+-- and the last records: all four
 abbrev pub with_vectors : Schema
 with_vectors = created with_currents vectors
 
+-- an index of this name and tree, over these columns of the table of that tree: that of a key
 abbrev pub index_of : List ℕ → ℕ → ℕ → List ℕ → Index
 index_of name tree table columns =
     record
@@ -163,9 +175,11 @@ IsArchiveSchema schema = (indexed : Bool) × (schema ≡ archive_schema indexed)
 abbrev pub ListsArchive : List Row → Type 0
 ListsArchive objects = (indexed : Bool) × Lists objects (archive_schema indexed)
 
+-- the tables of a store of format 1 as they are made: `meta` and the records
 abbrev pub with_records1 : Schema
 with_records1 = created with_meta records1
 
+-- and the current values
 abbrev pub with_currents1 : Schema
 with_currents1 = created with_records1 currents1
 
@@ -216,6 +230,7 @@ indexes1 =
 abbrev pub with_records_beside : Schema
 with_records_beside = created (archive_schema false) records1
 
+-- and the current values of format 1
 abbrev pub beside_schema : Schema
 beside_schema = created with_records_beside currents1
 

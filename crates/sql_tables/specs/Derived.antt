@@ -13,6 +13,7 @@ use Rattle.sqlite_trees.specs.Tree.{Trees, IsAscending, rowid}
 use Rattle.sqlite_trees.specs.View.{is_int}
 use Rattle.sql_tables.specs.Words.{cells, cells_of}
 
+-- the number of a value, 0 where it is none
 abbrev pub int_in : Value → ℤ
 int_in Null = pos 0
 int_in (Int n) = n
@@ -22,9 +23,11 @@ int_in (Bytes b) = pos 0
 
 -- ---- as SQL compares
 
+-- they are equal; NULL is equal to nothing
 abbrev pub same : Value → Value → Bool
 same a b = is_true (binary (Compare Eq Binary) a b)
 
+-- the first is greater
 abbrev pub above : Value → Value → Bool
 above a b = is_true (binary (Compare Gt Binary) a b)
 
@@ -58,6 +61,7 @@ is_newer r s = same (column s 0) (column r 0) && above (column s 1) (column r 1)
 
 -- ---- the rows
 
+-- a truth as a number
 abbrev pub flag : Bool → Value
 flag b = Int (pos (if b then 1 else 0))
 
@@ -84,6 +88,7 @@ vectors_of rows = map last_of (filter (λ r. not (list_any (is_newer r) rows)) r
 
 -- ---- the tables
 
+-- a row of currents2 by its columns, without the rowid that stands first
 abbrev pub current_columns : Row → Row
 current_columns r =
     column r 1 ∷ column r 2 ∷ column r 3 ∷ column r 4 ∷ column r 5 ∷ column r 6 ∷ column r 7

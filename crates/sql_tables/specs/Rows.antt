@@ -45,6 +45,7 @@ spelled c =
     ((number_in (column c 6) ∷ [])
     ++ text.canon (Some (bytes (column c 7)))))))))) ++ bytes (column c 8)
 
+-- the record that was read, where one was
 abbrev pub found : Result Record RecordFault → List Record
 found (Ok r) = r ∷ []
 found (Err e) = []
@@ -75,6 +76,7 @@ meta_row id own = Int (pos 1) ∷ Int (pos 2) ∷ Bytes id ∷ Int (pos own) ∷
 abbrev pub meta_columns : Row → Row
 meta_columns r = column r 0 ∷ column r 2 ∷ column r 3 ∷ column r 4 ∷ []
 
+-- the rows of meta by their columns; the key `one` is the rowid
 abbrev pub meta_cells : Trees → List Row
 meta_cells db = map meta_columns (db 0)
 
