@@ -55,11 +55,7 @@ fn four(line: &StringRecord) -> Option<Fields<'_>>
 /// where one String or ByteString is wanted an empty one, and where one StatusCode is a good one. A row that hasn't four
 /// fields is `Fields`, and else the first field that is wrong is told with what was expected;
 /// `OutOfMemory` says that memory ran out.
-pub fn read_row(
-    alloc: Global,
-    value_type: ValueType,
-    line: &StringRecord,
-) -> Result<Row, RowFault>
+pub fn read_row(alloc: Global, value_type: ValueType, line: &StringRecord) -> Result<Row, RowFault>
     ensures { Answers (row_of value_type (fields_of line.now)) result }
 {
     match four(line) {
