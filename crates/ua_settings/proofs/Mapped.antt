@@ -1,5 +1,5 @@
 -- What is asked of the items of a list, and of what they are seen as.
-use Rattle.std.proofs.Common.{Bor, ◌≡◌, ◌+◌, ◌<◌, ◌||◌, ℕ, ◌++◌, length, get_or, take, drop, append_assoc, Bool, true, false, List, [], ◌∷◌, map, find, cond, refl, ap, sym, ◌∙◌, subst, Option, None, Some, option_map, nat_eq, is_some, is_ok, Result, Ok, Err, IsOk, ◌↔◌}
+use Rattle.std.proofs.Common.{Bor, ◌≡◌, ◌+◌, ◌<◌, ◌&&◌, ◌||◌, ℕ, ◌++◌, length, get_or, take, drop, append_assoc, Bool, true, false, List, [], ◌∷◌, map, find, cond, refl, ap, ap₂, arith, sym, ◌∙◌, subst, Option, None, Some, option_map, nat_eq, is_some, is_ok, Result, Ok, Err, IsOk, ◌↔◌}
 use Rattle.std.proofs.lemmas.Bool.{false≢true}
 use Rattle.std.specs.Prelude.{position, if◌then◌else◌}
 use Rattle.std.specs.List.{list_any, count_by, fold, position_from}
@@ -70,6 +70,16 @@ id_told (Ok id) None told = absurd (none_told (told.0 refl))
     none_told (id, same) = cc
 id_told (Err e) None told = refl
 id_told (Err e) (Some text) told = absurd (false≢true (told.1 (text, refl)))
+
+-- two texts are equal either way
+pub turned : (a b : List ℕ) → pointwise nat_eq a b ≡ pointwise nat_eq b a
+turned [] [] = refl
+turned [] (y ∷ ys) = refl
+turned (x ∷ xs) [] = refl
+turned (x ∷ xs) (y ∷ ys) = ap₂ ◌&&◌ (numbers x y) (turned xs ys)
+  where
+    numbers : (m n : ℕ) → nat_eq m n ≡ nat_eq n m
+    numbers m n = grind arith
 
 -- ---- the first of some items, by its place
 

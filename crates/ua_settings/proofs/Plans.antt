@@ -21,7 +21,7 @@ use Rattle.ua_space.specs.declared.node.Folder.{Folder as SpaceFolder}
 use Rattle.ua_space.specs.Space.{IsCountable, HasShortTexts, HasCountableName}
 use Rattle.ua_settings.specs.declared.fault.SettingsFault.{SettingsFault}
 use Rattle.ua_settings.specs.declared.fault.SettingsFault.TheVariants.{OutOfMemory, Space}
-use Rattle.ua_settings.specs.declared.keys.Section.TheVariants.{User, Folder, Variable, Peer}
+use Rattle.ua_settings.specs.declared.keys.Section.TheVariants.{User, Folder, Variable}
 use Rattle.ua_settings.specs.File.{tables, text_at, is_name, names_in}
 use Rattle.ua_settings.specs.Judging.{is_short}
 use Rattle.ua_settings.specs.Reading.{folder_in, variable_in, user_in, users_in, table_at, truth_at, access_at, listed_in, values_of, set_values, space_fault, space_in, IsSpaceOrStarved, IsAcceptedOrStarved}
@@ -74,9 +74,8 @@ name_bounds text named =
 IsIdentified : Entry → Type 0
 IsIdentified entry = (0 < length entry.id) × (length entry.id ≤ 256)
 
-IsAmong : List (List ℕ) → Entry → Type 0
-IsAmong ids entry = IfSome entry.folder (λ id. list_any (λ folder. pointwise nat_eq folder id) ids
-    ≡ true)
+IsAmong : (List ℕ → Bool) → Entry → Type 0
+IsAmong is_folder entry = IfSome entry.folder (λ id. is_folder id ≡ true)
 
 HasCountable : Entry → Type 0
 HasCountable entry = IsCountable entry.name
@@ -94,20 +93,22 @@ module _ (lines : List PasswordLine) (document : Members) (sound : IsSound lines
       (all_to variable_in (IsSoundVariable (names_in lines document).folders) IsIdentified
       (λ members held. name_bounds _ held.id) (tables document Variable) sound.variables))
 
-  folder_ids : (names_in lines document).folders ≡ map (λ folder. folder.id.now) folders
+  folder_ids : map (text_at (codes "id")) (tables document Folder)
+      ≡ map (λ folder. folder.id.now) folders
   folder_ids =
       sym (map_twice (λ folder. folder.id) folder_in (tables document Folder))
       ∙ ap (map (λ folder. folder.id)) (sym same_folders)
       ∙ map_twice (λ folder. folder.id) folder_of folders
 
   lent_folder : (folder : Option (Bor (List ℕ)))
-      → IfSome (option_copied folder) (λ id.
-      list_any (λ f. pointwise nat_eq f id) (names_in lines document).folders ≡ true)
+      → IfSome (option_copied folder) (λ id. (names_in lines document).folders id ≡ true)
       → IfSome folder (λ id. list_any (λ f. pointwise nat_eq f.id.now id.now) folders ≡ true)
   lent_folder None held = tt
   lent_folder (Some id) held =
       sym (any_of_mapped (λ f. f.id.now) (λ f. pointwise nat_eq f id.now) folders)
-      ∙ ap (list_any (λ f. pointwise nat_eq f id.now)) (sym folder_ids) ∙ held
+      ∙ ap (list_any (λ f. pointwise nat_eq f id.now)) (sym folder_ids)
+      ∙ any_of_mapped (text_at (codes "id")) (λ f. pointwise nat_eq f id.now)
+      (tables document Folder) ∙ held
 
   pub folders_planned : AllByRecursion (HasFolder folders) variables
   unfolding IsAmong

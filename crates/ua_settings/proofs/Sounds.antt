@@ -1,9 +1,8 @@
 -- A document in which nothing is wrong is sound.
-use Rattle.std.proofs.Common.{◌≡◌, ◌&&◌, ◌+◌, ℕ, Bool, true, false, not, cond, List, [], ◌∷◌, find, codes, refl, Option, None, Some, IfSome, option_map, option_and_then, unwrap_or, is_some, is_none, nat_eq}
+use Rattle.std.proofs.Common.{◌≡◌, ◌&&◌, ◌+◌, ℕ, Bool, true, false, not, cond, List, [], ◌∷◌, find, codes, refl, Option, None, Some, IfSome, option_map, option_and_then, unwrap_or, is_some, is_none}
 use Rattle.std.specs.Option.{option_to_list}
 use Rattle.std.proofs.lemmas.Bool.{false≢true, and_parts}
-use Rattle.std.specs.List.{list_any, AllByRecursion}
-use Rattle.std.specs.Cmp.Lexicographic.{pointwise}
+use Rattle.std.specs.List.{AllByRecursion}
 use Rattle.toml.specs.Data.{Data, Members, no_members, get_member, as_str, as_integer, as_table}
 use Rattle.ua_settings.specs.declared.keys.Section.{Section}
 use Rattle.ua_settings.specs.declared.keys.Section.TheVariants.{Document, Archive, Server, User, Folder, Variable, Peer, Door, Web, Log}
@@ -199,7 +198,7 @@ server_sound names members right =
           spoils.1.1.1.1.1.1.1.1.1.1.0;
     }
 
-name_of_user : (users : List (List ℕ)) (name : List ℕ) (b : Bool) → (is_name name && b) ≡ true
+name_of_user : (users : List ℕ → ℕ) (name : List ℕ) (b : Bool) → (is_name name && b) ≡ true
     → is_name name ≡ true
 name_of_user users name b good = (and_parts (is_name name) b good).0
 
@@ -258,7 +257,7 @@ variable_sound names members right =
     record {
       id = text_held is_name (codes "id") members lacks.0 spoils.0;
       name = text_held is_short (codes "name") members lacks.1.0 spoils.1.0;
-      folder = optional_held (λ id. list_any (λ folder. pointwise nat_eq folder id) names.folders)
+      folder = optional_held names.folders
           as_str (get_member (codes "folder") members) spoils.1.1.1.1.0;
     }
 

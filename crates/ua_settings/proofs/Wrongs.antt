@@ -12,7 +12,8 @@ use Rattle.ua_settings.specs.declared.keys.Wrong.{Wrong}
 use Rattle.ua_settings.specs.File.{Names, Rule, rules, keys_in}
 use Rattle.std.specs.Option.{option_or}
 use Rattle.ua_settings.specs.declared.judging.Spot.{Spot as Found}
-use Rattle.ua_settings.specs.Judging.{first_some, is_key, wrong_key, wrong_from}
+use Rattle.ua_settings.specs.declared.password.PasswordLine.{PasswordLine}
+use Rattle.ua_settings.specs.Judging.{Spot, first_some, is_key, wrong_at, wrong_key, wrong_from}
 use Rattle.ua_settings.proofs.FileParts.{name_of, or_later}
 use Rattle.ua_settings.specs.Keys.{rule_of, spot_of}
 use Rattle.ua_settings.proofs.Mapped.{find_of_mapped, found_rule}
@@ -82,3 +83,17 @@ pub goes_on_behind : {A B : Type 0} (f : A → Option B) (xs : List A) (i : ℕ)
 goes_on_behind f xs i d within none =
     ap (first_some f) (drop_more xs i d within)
     ∙ ap (λ found. option_or found (first_some f (drop (i + 1) xs))) none
+
+-- ---- the ways one after the other
+
+abbrev pub told_at : List PasswordLine → Members → Wrong → Option (Wrong × Spot)
+told_at lines document wrong = option_map (λ spot. (wrong, spot)) (wrong_at lines document wrong)
+
+-- where nothing is wrong in a way, which was found by equal lines
+pub way_passed : (lines same : List PasswordLine) (document : Members) (wrong : Wrong)
+    (found : Option Found) → lines ≡ same
+    → option_map spot_of found ≡ wrong_at lines document wrong → found ≡ None
+    → told_at same document wrong ≡ None
+way_passed lines same document wrong found is told none =
+    ap (option_map (λ spot. (wrong, spot)))
+    (ap (λ ls. wrong_at ls document wrong) (sym is) ∙ sym told ∙ ap (option_map spot_of) none)

@@ -1,6 +1,6 @@
 -- What a settings file says (TOML 1.1): its tables, their keys, what each key must hold, and how a
 -- file is wrong.
-use Rattle.std.specs.Prelude.{◌==◌, ◌&&◌, ◌||◌, ℕ, pos, negsuc, Bool, true, false, not, List, [], ◌∷◌, length, map, find, codes, nat_eq, nat_le, Option, None, Some, is_some, is_none, option_and_then, unwrap_or, ℤ}
+use Rattle.std.specs.Prelude.{◌==◌, ◌&&◌, ◌||◌, ℕ, pos, negsuc, Bool, true, false, not, List, [], ◌∷◌, length, find, codes, nat_eq, nat_le, Option, None, Some, is_some, is_none, option_and_then, unwrap_or, ℤ}
 use Rattle.std.specs.Option.{option_map_or, option_to_list}
 use Rattle.std.specs.List.{list_all, list_any, count_by, filter_map}
 use Rattle.std.specs.Cmp.Lexicographic.{pointwise}
@@ -154,18 +154,20 @@ abbrev pub password_line : List PasswordLine → (path : List ℕ) → List ℕ
 password_line lines path =
     option_map_or (λ p. p.line) (find (λ p. pointwise nat_eq p.path path) lines) []
 
--- what a value may depend on: the names of the users, the ids of the folders, and what password
--- files say
+-- what a value may depend on: how many users have a name, whether a folder has an id, and what
+-- password files say
 abbrev pub Names : Type 0
 Names =
-    record { users : List (List ℕ); folders : List (List ℕ); passwords : List PasswordLine }
+    record { users : List ℕ → ℕ; folders : List ℕ → Bool; passwords : List PasswordLine }
 
--- the names of the users and the ids of the folders of a document, and these password files
+-- those of a document, where password files say this
 abbrev pub names_in : List PasswordLine → Members → Names
 names_in lines document =
     record {
-      users = map (text_at (codes "name")) (tables document User);
-      folders = map (text_at (codes "id")) (tables document Folder);
+      users = λ name. count_by (λ user. pointwise nat_eq name (text_at (codes "name") user))
+          (tables document User);
+      folders = λ id. list_any (λ folder. pointwise nat_eq (text_at (codes "id") folder) id)
+          (tables document Folder);
       passwords = lines;
     }
 
@@ -186,11 +188,7 @@ abbrev pub is_user_name : Names → List ℕ → Bool
 is_user_name names name =
     is_name name
     && (not (pointwise nat_eq name (codes "anonymous"))
-    && (count_by (pointwise nat_eq name) names.users == 1))
-
--- the id of a folder
-abbrev pub is_folder : Names → List ℕ → Bool
-is_folder names id = list_any (λ folder. pointwise nat_eq folder id) names.folders
+    && (names.users name == 1))
 
 -- what a user may do, as it is spelled
 abbrev pub is_access : List ℕ → Bool
@@ -228,7 +226,7 @@ fits names (UpTo most) value = option_map_or (is_up_to most) (as_integer value) 
 fits names Truth value = is_some (as_bool value)
 fits names NodeName value = option_map_or is_name (as_str value) false
 fits names UserName value = option_map_or (is_user_name names) (as_str value) false
-fits names FolderId value = option_map_or (is_folder names) (as_str value) false
+fits names FolderId value = option_map_or names.folders (as_str value) false
 fits names Access value = option_map_or is_access (as_str value) false
 fits names AfterBreak value = option_map_or is_after_break (as_str value) false
 fits names PasswordFile value = option_map_or (is_password_file names) (as_str value) false

@@ -1,7 +1,7 @@
 -- What the steps say by which a file is judged.
 use Rattle.std.specs.Prelude.{◌+◌, ◌==◌, ◌&&◌, ◌||◌, ℕ, ℤ, pos, negsuc, Bool, false, not, List, [], ◌∷◌, length, codes, nat_eq, nat_le, Option, None, is_some, is_none, option_map, find}
 use Rattle.std.specs.Option.{option_map_or, option_or}
-use Rattle.std.specs.List.{list_any, count_by}
+use Rattle.std.specs.List.{list_any}
 use Rattle.std.specs.Cmp.Lexicographic.{pointwise}
 use Rattle.toml.specs.Data.{Members, get_member}
 use Rattle.uuid.specs.Text.{parsed}
@@ -20,12 +20,9 @@ test p given = option_map_or p given false
 abbrev pub is_short : List ℕ → Bool
 is_short text = nat_le (length text) 65536
 
-abbrev pub is_user_name : List (List ℕ) → List ℕ → Bool
+abbrev pub is_user_name : (users : List ℕ → ℕ) → List ℕ → Bool
 is_user_name users name =
-    is_name name
-    &&
-    (not (pointwise nat_eq name (codes "anonymous"))
-    && (count_by (pointwise nat_eq name) users == 1))
+    is_name name && (not (pointwise nat_eq name (codes "anonymous")) && (users name == 1))
 
 abbrev pub is_replica : ℤ → Bool
 is_replica v = elim v [ pos n ↦ nat_le 1 n && nat_le n 64 | negsuc n ↦ false ]

@@ -1,7 +1,6 @@
 -- What holds of a document in which nothing is wrong.
-use Rattle.std.specs.Prelude.{◌≡◌, true, codes, nat_eq, List, ℕ, IfSome, is_some, option_and_then}
-use Rattle.std.specs.List.{list_any, AllByRecursion}
-use Rattle.std.specs.Cmp.Lexicographic.{pointwise}
+use Rattle.std.specs.Prelude.{◌≡◌, true, codes, Bool, List, ℕ, IfSome, is_some, option_and_then}
+use Rattle.std.specs.List.{AllByRecursion}
 use Rattle.toml.specs.Data.{Members, get_member, as_str, as_integer, as_table}
 use Rattle.ua_settings.specs.declared.keys.Section.TheVariants.{User, Folder, Variable, Peer, Door, Web}
 use Rattle.ua_settings.specs.declared.password.PasswordLine.{PasswordLine}
@@ -45,11 +44,11 @@ pub record IsSoundDoor (door : Members) : Type 0 where
 pub record IsSoundWeb (web : Members) : Type 0 where
   pub connections : IsUpTo 1000 (codes "connections") web
 
-pub record IsSoundVariable (folders : List (List ℕ)) (variable : Members) : Type 0 where
+pub record IsSoundVariable (is_folder : List ℕ → Bool) (variable : Members) : Type 0 where
   pub id : is_name (text_at (codes "id") variable) ≡ true
   pub name : is_short (text_at (codes "name") variable) ≡ true
   pub folder : IfSome (option_and_then as_str (get_member (codes "folder") variable))
-      (λ id. list_any (λ folder. pointwise nat_eq folder id) folders ≡ true)
+      (λ id. is_folder id ≡ true)
 
 pub record IsSound (lines : List PasswordLine) (document : Members) : Type 0 where
   pub has_archive : is_some (option_and_then as_table (get_member (codes "archive") document))

@@ -1,6 +1,6 @@
 //! Where a settings file is wrong.
 
-ghost use Rattle.std.specs.Prelude.{◌≡◌, ◌+◌, ◌<◌, map, find, Option, option_map, IfOk, string_bytes};
+ghost use Rattle.std.specs.Prelude.{◌≡◌, ◌+◌, ◌<◌, ℕ, List, map, find, Option, option_map, IfOk, string_bytes};
 ghost use Rattle.std.specs.List.{list_any};
 ghost use Rattle.std.specs.Cmp.Lexicographic.{pointwise};
 ghost use Rattle.std.specs.Prelude.{nat_eq, is_some, not, option_copied};
@@ -12,12 +12,13 @@ ghost use Rattle.toml.specs.View.{view, table_view};
 ghost use Rattle.std.specs.Option.{option_map_or};
 ghost use Rattle.ua_settings.specs.File.{is_name, is_up_to, is_text, is_held, fits, has_instead, keys_in, rules, names_in, text_at};
 ghost use Rattle.ua_settings.specs.Judging.{is_user_name, is_id, is_replica, is_key, is_missing, is_bad, wrong_key, wrong_from, wrong_at, first_wrong};
-ghost use Rattle.ua_settings.specs.Keys.{rule_of, known_of, spot_of, refusal_of};
+ghost use Rattle.ua_settings.specs.Keys.{count_at, is_counted, rule_of, known_of, spot_of, refusal_of};
 
 use crate::keys::{Holds, Key, Section, Wrong, keys_of};
 use crate::looking::{find, replica, tables_of, text};
 use crate::password::{PasswordLine, line_of};
 use std::alloc::{AllocError, Global};
+use std::collections::HashMap;
 use toml::value::Array;
 use toml::{Table, Value};
 use uuid::Uuid;
@@ -45,11 +46,14 @@ const SECTIONS: [Section; 10] = [
 /// What may be wrong, in the order in which it is judged.
 const WRONGS: [Wrong; 3] = [Wrong::Unknown, Wrong::Missing, Wrong::Bad];
 
-/// What a value may depend on: the names of the users, the ids of the folders, and what password files say.
+/// How many of some texts are equal to each of them.
+type Counts<'a> = HashMap<&'a str, usize>;
+
+/// What a value may depend on: how many users have each name, how many folders each id, and what password files say.
 #[derive(Debug, Drop)]
 pub(crate) struct Known<'a> {
-    users: Vec<&'a str>,
-    folders: Vec<&'a str>,
+    users: Counts<'a>,
+    folders: Counts<'a>,
     passwords: &'a [PasswordLine],
 }
 
@@ -75,22 +79,37 @@ fn is_id(text: &str) -> bool
     Uuid::parse_str(text).is_ok()
 }
 
-/// How many of the users have this name.
-fn count_named(users: &[&str], name: &str) -> usize
-    ensures { result ≡ count_by (λ user. pointwise nat_eq name.now user.now) users.now }
+/// How many of these texts are equal to each of them.
+fn count<'a>(alloc: Global, texts: &[&'a str]) -> Result<Counts<'a>, AllocError>
+    ensures counts { IfOk result
+        (λ counts. (text : List ℕ) → count_at counts text
+        ≡ count_by (λ one. pointwise nat_eq text one.now) texts.now) }
+    ensures keys { IfOk result
+        (λ counts. (text : List ℕ) → is_counted counts text
+        ≡ list_any (λ one. pointwise nat_eq one.now text) texts.now) }
 {
-    users.iter().filter(|user| name == **user).count()
+    let mut counts = HashMap::new(alloc);
+    for text in texts {
+        *counts.entry(*text)?.or_insert(0) += 1;
+    }
+    Ok(counts)
 }
 
 /// Whether a user may have this name.
-#[tactic(auto, using(crate::proofs::Mapped::count_of_mapped))]
 fn is_user_name(known: &Known<'_>, name: &str) -> bool
     ensures { result ≡ is_user_name (known_of known.now).users name.now }
 {
-    is_name(name) && name != "anonymous" && count_named(known.users.as_slice(), name) == 1
+    is_name(name) && name != "anonymous" && known.users.get(name).copied().unwrap_or(0) == 1
 }
 
-/// Whether one of the folders has this id.
+/// Whether a folder has this id.
+fn is_folder(known: &Known<'_>, id: &str) -> bool
+    ensures { result ≡ (known_of known.now).folders id.now }
+{
+    known.folders.contains_key(id)
+}
+
+/// Whether an id is one of these.
 pub(crate) fn is_among(id: &str, folders: &[&str]) -> bool
     ensures { result ≡ list_any (λ folder. pointwise nat_eq folder.now id.now) folders.now }
 {
@@ -98,7 +117,6 @@ pub(crate) fn is_among(id: &str, folders: &[&str]) -> bool
 }
 
 /// Whether a text is what a key must hold.
-#[tactic(auto, using(crate::proofs::Mapped::any_of_mapped))]
 fn fits_text(known: &Known<'_>, holds: Holds, text: &str) -> bool
     ensures { result ≡ fits (known_of known.now) holds (string text.now) }
 {
@@ -107,7 +125,7 @@ fn fits_text(known: &Known<'_>, holds: Holds, text: &str) -> bool
         Holds::Id => is_id(text),
         Holds::NodeName => is_name(text),
         Holds::UserName => is_user_name(known, text),
-        Holds::FolderId => is_among(text, known.folders.as_slice()),
+        Holds::FolderId => is_folder(known, text),
         Holds::Access => text == "read" || text == "write",
         Holds::AfterBreak => text == "stop" || text == "reopen",
         Holds::PasswordFile => !line_of(known.passwords, text).is_empty(),
@@ -378,20 +396,23 @@ pub(crate) fn texts<'a>(
     Ok(texts)
 }
 
-/// The names of the users and the ids of the folders, where password files say this.
+/// What the values of a document may depend on, where password files say this.
 fn known_in<'a>(
     alloc: Global,
     document: &'a Table,
     passwords: &'a [PasswordLine],
 ) -> Result<Known<'a>, AllocError>
-    ensures { IfOk result
+    ensures names { IfOk result
         (λ known. known_of known ≡ names_in passwords.now (table_view document.now)) }
+    ensures passwords { IfOk result (λ known. known.passwords.now ≡ passwords.now) }
 {
     let users = tables_of(alloc, document, Section::User)?;
     let folders = tables_of(alloc, document, Section::Folder)?;
+    let names = texts(alloc, users.as_slice(), "name")?;
+    let ids = texts(alloc, folders.as_slice(), "id")?;
     Ok(Known {
-        users: texts(alloc, users.as_slice(), "name")?,
-        folders: texts(alloc, folders.as_slice(), "id")?,
+        users: count(alloc, names.as_slice())?,
+        folders: count(alloc, ids.as_slice())?,
         passwords,
     })
 }

@@ -1,4 +1,4 @@
-use Rattle.std.proofs.Common.{◌≡◌, ap, sym, ◌∙◌, map}
+use Rattle.std.proofs.Common.{ap, sym, ◌∙◌, map}
 use Rattle.std.specs.List.{list_any}
 use Rattle.toml.specs.View.{table_view}
 use Rattle.ua_settings.specs.Reading.{has_password}

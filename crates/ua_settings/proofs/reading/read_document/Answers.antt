@@ -1,7 +1,7 @@
 use Rattle.std.proofs.Common.{ap, unwrap_or}
 use Rattle.toml.specs.Data.{no_members}
 use Rattle.toml.specs.View.{table_view}
-use Rattle.ua_settings.proofs.Plans.{accepted, unlisted, unspaced}
+use Rattle.ua_settings.proofs.Plans.{accepted, unspaced}
 use Rattle.ua_settings.proofs.reading.read_document.Goals as goal
 
 pub returns-in-Err : goal.returns-in-Err
