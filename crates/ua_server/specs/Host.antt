@@ -12,12 +12,14 @@ use Rattle.multiplex.specs.Effects.{Effects}
 use Rattle.multiplex.specs.Input.{Input}
 use Rattle.multiplex.specs.Output.{Output}
 
--- by which terms the store of settings is opened: whose archive it is, and whether it is indexed
+-- by which terms the store of settings is opened: whose archive it is, whether it is indexed, and
+-- whether progress is told, as it is where events are
 abbrev pub store_terms : SettingsValues → StoreTerms
 store_terms settings = record {
   archive = settings.archive;
   replica = settings.replica;
   is_indexed = settings.is_indexed;
+  tells_progress = settings.events;
 }
 
 -- what a machine does in a call, from its state before to that after

@@ -24,6 +24,8 @@ pub struct StoreTerms {
     pub replica: ReplicaNo,
     /// Whether it has an index of live values.
     pub is_indexed: bool,
+    /// Whether it is told how far what takes long has come, as events are told.
+    pub tells_progress: bool,
 }
 
 impl StoreTerms {
@@ -38,6 +40,7 @@ impl StoreTerms {
             archive: settings.archive(),
             replica: settings.replica(),
             is_indexed: settings.is_indexed(),
+            tells_progress: settings.tells_events(),
         }
     }
 }
