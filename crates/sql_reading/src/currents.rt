@@ -146,7 +146,10 @@ fn helds_in(alloc: Global, rows: &[Row]) -> Result<Vec<Held>, RecordFault>
     ensures unread { IfErr result (λ fault. (fault ≡ RecordFault.OutOfMemory)
         ⊎ HasUnreadable rows.now) }
 {
-    let mut all = Vec::new(alloc);
+    let mut all = match Vec::with_capacity(alloc, rows.len()) {
+        Ok(all) => all,
+        Err(_) => return Err(RecordFault::OutOfMemory),
+    };
     for row in rows {
         let one = held_in(alloc, row)?;
         match all.push(one) {

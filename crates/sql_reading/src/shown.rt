@@ -1,8 +1,8 @@
 //! What a story shows.
 
-ghost use Rattle.std.specs.Prelude.{◌≡◌, ◌++◌, [], None, filter, reverse, IfOk, IfErr};
+ghost use Rattle.std.specs.Prelude.{◌≡◌, ◌++◌, ◌∷◌, [], None, Some, if◌then◌else◌, filter, reverse, IfOk, IfErr};
 ghost use Rattle.std.specs.List.{cons_option};
-ghost use Rattle.records.specs.Records.{held, entries_after};
+ghost use Rattle.records.specs.Records.{held, entries_after, is_delete, kind};
 ghost use Rattle.archive.specs.Reading.{in_direction, follows};
 ghost use Rattle.archive.specs.declared.fault.StoreFault.TheVariants as store;
 
@@ -10,6 +10,7 @@ use archive::{Direction, LogPlace, StoreFault};
 use records::{Entry, Held, Record, entries_in, held_of};
 use stamp::Stamp;
 use std::alloc::Global;
+use ua_variant::{DataValue, HistoryUpdateType};
 
 /// Puts what a story leaves behind other values.
 pub(crate) fn push_value(found: &mut Vec<Held>, records: Vec<Record>) -> Result<(), StoreFault>
@@ -58,8 +59,63 @@ fn turn(entries: &mut Vec<Entry>, direction: Direction)
     }
 }
 
+/// What a record did without one before it.
+fn kind_alone(asked: HistoryUpdateType) -> HistoryUpdateType
+    ensures { result ≡ kind None asked }
+{
+    match asked {
+        HistoryUpdateType::Delete => HistoryUpdateType::Delete,
+        _ => HistoryUpdateType::Insert,
+    }
+}
+
+/// The value that a record shows without one before it: its own, unless it deletes.
+fn value_alone(asked: HistoryUpdateType, value: DataValue) -> Option<DataValue>
+    ensures { result ≡ (if is_delete asked then None else Some value) }
+{
+    match asked {
+        HistoryUpdateType::Delete => None,
+        _ => Some(value),
+    }
+}
+
+/// The modification that a record shows which stands alone at its moment.
+fn entry_alone(r: Record) -> Entry
+    ensures { result ∷ [] ≡ entries_after None (r ∷ []) }
+{
+    Entry {
+        time: r.time,
+        value: value_alone(r.asked, r.value),
+        kind: kind_alone(r.asked),
+        tick: r.tick,
+        origin: r.origin,
+        user: r.user,
+    }
+}
+
+/// Puts it behind others, where it stands behind a place, where one is given.
+fn push_alone(
+    found: &mut Vec<Entry>,
+    r: Record,
+    direction: Direction,
+    after: &Option<LogPlace>,
+) -> Result<(), StoreFault>
+    ensures value { IfOk result (λ _. found.new.items ≡ found.old.items ++ filter (follows direction
+        after.now) (in_direction direction (reverse (entries_after None (r ∷ []))))) }
+    ensures memory { IfErr result (λ e. e ≡ store.OutOfMemory) }
+{
+    let entry = entry_alone(r);
+    if !follows(direction, after, &entry) {
+        return Ok(());
+    }
+    match found.push(entry) {
+        Ok(()) => Ok(()),
+        Err(_) => Err(StoreFault::OutOfMemory),
+    }
+}
+
 /// Puts the modifications of a story that stand behind a place, where one is given, behind others.
-pub(crate) fn push_entries(
+fn push_all(
     alloc: Global,
     found: &mut Vec<Entry>,
     story: &[Record],
@@ -76,5 +132,26 @@ pub(crate) fn push_entries(
     match found.append(&mut shown) {
         Ok(()) => Ok(()),
         Err(_) => Err(StoreFault::OutOfMemory),
+    }
+}
+
+/// The same of a story that is used up: what stands alone isn't copied.
+pub(crate) fn push_entries(
+    alloc: Global,
+    found: &mut Vec<Entry>,
+    mut story: Vec<Record>,
+    direction: Direction,
+    after: &Option<LogPlace>,
+) -> Result<(), StoreFault>
+    ensures value { IfOk result (λ _. found.new.items ≡ found.old.items ++ filter (follows direction
+        after.now) (in_direction direction (reverse (entries_after None story.items)))) }
+    ensures memory { IfErr result (λ e. e ≡ store.OutOfMemory) }
+{
+    if story.len() != 1 {
+        return push_all(alloc, found, &story, direction, after);
+    }
+    match story.pop() {
+        Some(r) => push_alone(found, r, direction, after),
+        None => Ok(()),
     }
 }

@@ -176,7 +176,7 @@ pub(crate) fn entries<S: Alter>(
         push_entries(
             reading.alloc,
             &mut found,
-            &story.records,
+            story.records,
             reading.direction,
             after,
         )?;
