@@ -1,6 +1,6 @@
 -- Tables of format 1 behind those of an archive: whether they hold a row, and how they are taken
 -- out.
-use Rattle.std.proofs.Common.{◌≡◌, ℕ, true, false, Bool, cond, None, not, List, [], ◌∷◌, map, filter, codes, Option, Some, Ok, Err, Result, IfOk, IfErr, OnOk, refl, sym, ap, subst, ◌∙◌, slice_get, IsPermutation}
+use Rattle.std.proofs.Common.{◌≡◌, ℕ, true, false, Bool, cond, None, List, [], ◌∷◌, map, filter, codes, Option, Some, Ok, Err, Result, IfOk, IfErr, OnOk, refl, sym, ap, subst, ◌∙◌, slice_get, IsPermutation}
 use Rattle.std.specs.List.{AllByRecursion}
 use Rattle.std.proofs.lemmas.Bool.{true≢false}
 use Rattle.sqlite_value.specs.declared.value.Value.TheVariants as value
@@ -38,7 +38,7 @@ use Rattle.sql_tables.proofs.WriteLemmas.{went, same_value}
 use Rattle.sql_tables.specs.Asking.{IsAnswered}
 use Rattle.sql_tables.proofs.AnsweredLemmas.{Suits, answered_by}
 use Rattle.sql_opening.specs.Clearing.{AreBare, KeepsTables, IsCleared}
-use Rattle.sql_opening.specs.Opening.{checked_meta, judged_as, AnyReason, OpensBeside}
+use Rattle.sql_opening.specs.Opening.{checked_meta, AnyReason, OpensBeside}
 
 -- ---- whether they hold a row
 

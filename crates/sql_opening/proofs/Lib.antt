@@ -4,3 +4,4 @@ pub mod RenewLemmas
 pub mod AgainLemmas
 pub mod ClearLemmas
 pub mod UnreadLemmas
+pub mod LastsLemmas

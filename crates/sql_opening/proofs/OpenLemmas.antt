@@ -28,8 +28,7 @@ use Rattle.sql_tables.proofs.Texts.{all_text}
 use Rattle.sql_tables.proofs.QueryLemmas.{begins_named}
 use Rattle.sql_schema.specs.Tables.{IsArchiveSchema}
 use Rattle.sql_schema.proofs.StandingLemmas.{archive_as}
-use Rattle.std.proofs.Common.{rules, IsSorted, ℤ}
-use Rattle.sql_tables.specs.Words.{cells_of}
+use Rattle.std.proofs.Common.{rules, IsSorted}
 use Rattle.records.specs.declared.fault.RecordFault.{RecordFault}
 use Rattle.records.specs.declared.fault.RecordFault.TheVariants as memory
 use Rattle.archive.specs.Fault.{of_record}

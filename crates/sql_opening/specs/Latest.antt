@@ -5,9 +5,13 @@ use Rattle.stamp.specs.Numbers.{number_of}
 use Rattle.records.specs.Contents.{Content, vec, top}
 use Rattle.records.specs.declared.record.Record.{Record}
 
--- these are the content's last numbers, and its greatest tick
+-- these are the content's last numbers
+abbrev pub AreLasts : Content → List ℕ → Type 0
+AreLasts R numbers = (replica : ℕ) → number_of numbers replica ≡ vec R replica
+
+-- they are, and this is its greatest tick
 pub record Remembers (R : Content) (numbers : List ℕ) (tick : ℤ) : Type 0 where
-  pub lasts : (replica : ℕ) → number_of numbers replica ≡ vec R replica
+  pub lasts : AreLasts R numbers
   pub newest : tick ≡ top R
 
 -- the numbers and the tick, with a record's where it is added

@@ -6,7 +6,7 @@ ghost use Rattle.sql_tables.specs.Derived.{vector_columns};
 ghost use Rattle.sql_tables.specs.State.{LeavesUnchanged, LeavesUnchangedOr, Idles};
 ghost use Rattle.stamp.specs.Numbers.{entries};
 ghost use Rattle.sql_opening.specs.Opening.{AnyReason};
-ghost use Rattle.sql_opening.specs.Again.{last_in, top_in, IsAsHeld};
+ghost use Rattle.sql_opening.specs.Again.{has_last, last_in, top_in, IsAsHeld};
 ghost use Rattle.sql_tables.specs.Connections.{WhereClean, tables_of};
 
 use crate::latest::Latest;
@@ -18,7 +18,7 @@ use stamp::{ReplicaNo, Vector};
 use uuid::Uuid;
 
 /// The rows of vectors, by origin.
-fn last_rows<S: Alter>(conn: &mut Connection<S>) -> Result<Vec<Row>, StoreFault>
+pub(crate) fn last_rows<S: Alter>(conn: &mut Connection<S>) -> Result<Vec<Row>, StoreFault>
     requires { WhereClean S.Store conn.old Idles }
     ensures { LeavesUnchanged (state S.Store conn.old) (state S.Store conn.new) result
         (λ rows. IsPermutation (map vector_columns (tables_of S.Store conn.old 6)) rows.items) }
@@ -31,8 +31,9 @@ fn last_rows<S: Alter>(conn: &mut Connection<S>) -> Result<Vec<Row>, StoreFault>
 }
 
 /// Whether a row of vectors has this origin and this last number.
-fn is_last(row: &Row, origin: u8, number: u64) -> bool
-    ensures { IsTrue result → last_in row.now ≡ (origin, number) }
+pub(crate) fn is_last(row: &Row, origin: u8, number: u64) -> bool
+    ensures same { result ≡ has_last origin number row.now }
+    ensures told { IsTrue result → last_in row.now ≡ (origin, number) }
 {
     match (number_at(row, 0), number_at(row, 1)) {
         (Ok(found), Ok(last)) => found == u64::from(origin) && last == number,

@@ -6,6 +6,7 @@ mod again;
 mod backfill;
 mod checking;
 mod clearing;
+mod lasts;
 mod latest;
 mod migrate;
 mod opening;

@@ -13,9 +13,10 @@ ghost use Rattle.sql_opening.specs.Opening.{has_number, has_bytes, judged_row, j
 ghost use Rattle.sql_tables.specs.Connections.{WhereClean, tables_of, content_of, CommitsNothing};
 
 use crate::checking::check_rows;
+use crate::lasts::check_kept;
 use crate::latest::Latest;
 use archive::StoreFault;
-use sql_tables::{check_kept, fault_of, rows_of_meta};
+use sql_tables::{fault_of, rows_of_meta};
 use sqlite::{Alter, Connection, Row};
 use sqlite_value::value::ValueRef;
 use stamp::ReplicaNo;
@@ -147,7 +148,7 @@ pub fn open_all<S: Alter>(
         (λ l. Remembers (content_of S.Store conn.old) l.numbers l.tick) result }
 {
     let latest = open_tables(alloc, conn, id, number)?;
-    check_kept(conn)?;
+    check_kept(conn, &latest.numbers)?;
     Ok(latest)
 }
 

@@ -22,7 +22,7 @@ use Rattle.sqlite_sql.specs.Term.{Term, Env, lit, col, eval_all}
 use Rattle.sqlite_sql.specs.declared.ops.UnaryOp.TheVariants.{ToNumeric}
 use Rattle.sqlite_sql.specs.declared.ops.BinaryOp.TheVariants.{Compare}
 use Rattle.sqlite_sql.specs.declared.ops.CompareOp.TheVariants.{Ne}
-use Rattle.sqlite_sql.specs.Query.{Query, Join, inner, end, counted, Output, output, page, matches, IsAnswer}
+use Rattle.sqlite_sql.specs.Query.{Query, Join, inner, end, Output, output, page, matches, IsAnswer}
 use Rattle.sqlite_sql.specs.Program.{overlay}
 use Rattle.sqlite_schema.specs.declared.command.Command.TheVariants.{Select}
 use Rattle.sqlite_schema.specs.declared.schema.Column.{Column}

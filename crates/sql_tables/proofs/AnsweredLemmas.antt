@@ -34,7 +34,7 @@ use Rattle.sqlite_schema.specs.declared.schema.Index.{Index}
 use Rattle.sqlite_schema.specs.declared.schema.View.{View}
 use Rattle.sql_schema.specs.Tables.{archive_schema, IsArchiveSchema, schema1, first_table, HasMeta}
 use Rattle.sql_tables.specs.Asking.{IsAnswered, ArchivesAnswer}
-use Rattle.sql_tables.proofs.Texts.{at_text, all_text, whose_text, named_text, last_text, since_text, after_text, before_text, some_at_text, currents_stray_text, currents_alone_text, currents_hide_text, currents_held_text, vectors_stray_text, vectors_behind_text, vectors_held_text, lives_after_text, lives_before_text, records1_text, currents1_text, all_vectors_text}
+use Rattle.sql_tables.proofs.Texts.{at_text, all_text, whose_text, named_text, last_text, since_text, after_text, before_text, some_at_text, currents_stray_text, currents_alone_text, currents_hide_text, currents_held_text, vectors_stray_text, vectors_held_text, lives_after_text, lives_before_text, records1_text, currents1_text, all_vectors_text}
 
 abbrev pub has_no_table : List Table → Bool
 has_no_table [] = true
@@ -330,15 +330,6 @@ pub vectors_stray_answered : ArchivesAnswer vectors_stray_text []
 vectors_stray_answered = λ indexed.
     let s = vectors_stray_suits indexed in
     answered_by (archive_schema indexed) vectors_stray_text _ s.0 s.1
-
-vectors_behind_suits : (indexed : Bool) → MayAsk (archive_schema indexed) vectors_behind_text []
-unfolding understood everything
-vectors_behind_suits indexed = (refl, ((refl, refl), refl, refl, refl))
-
-pub vectors_behind_answered : ArchivesAnswer vectors_behind_text []
-vectors_behind_answered = λ indexed.
-    let s = vectors_behind_suits indexed in
-    answered_by (archive_schema indexed) vectors_behind_text _ s.0 s.1
 
 vectors_held_suits : (indexed : Bool) → MayAsk (archive_schema indexed) vectors_held_text []
 unfolding understood everything

@@ -1,5 +1,5 @@
 -- What an opening asks of vectors, and that it holds what follows from records2 then.
-use Rattle.std.proofs.Common.{◌≡◌, ◌⊎◌, ◌≤◌, ◌+◌, inl, inr, ℕ, ℤ, pos, not, ◌&&◌, Bool, true, false, cond, List, [], ◌∷◌, length, map, filter, codes, Some, refl, sym, ap, ap₂, subst, ◌∙◌, arith, IsPermutation, is_eq, is_gt}
+use Rattle.std.proofs.Common.{◌≡◌, ◌⊎◌, ◌≤◌, ◌<◌, ◌+◌, inl, inr, ℕ, ℤ, pos, not, ◌&&◌, Bool, true, false, cond, List, [], ◌∷◌, length, map, filter, codes, Some, refl, sym, ap, ap₂, subst, ◌∙◌, arith, IsPermutation, is_eq, is_gt}
 use Rattle.std.specs.List.{list_any, AllByRecursion}
 use Rattle.std.specs.Ordering.{int_cmp, is_ge}
 use Rattle.std.proofs.lemmas.Cmp.{tied_itself}
@@ -12,13 +12,13 @@ use Rattle.sqlite_value.specs.declared.keys.Collation.TheVariants.{Binary}
 use Rattle.sqlite_value.specs.Order.{Row, column, value_cmp}
 use Rattle.sqlite_value.proofs.OrderLemmas.{value_cmp_total, value_cmp-Int}
 use Rattle.sqlite_sql.specs.Ops.{is_true, binary, from_truth}
-use Rattle.sqlite_sql.specs.Term.{Term, col, op2}
+use Rattle.sqlite_sql.specs.Term.{Term, col}
 use Rattle.sqlite_sql.specs.declared.ops.BinaryOp.TheVariants.{Compare}
 use Rattle.sqlite_sql.specs.declared.ops.CompareOp.TheVariants.{Ge}
 use Rattle.sqlite_schema.specs.declared.command.Command.TheVariants.{Select}
 use Rattle.sqlite_trees.specs.Tree.{Trees, IsAscending}
 use Rattle.sqlite_rules.specs.Lists.{Has}
-use Rattle.sqlite_keyed.proofs.ListLemmas.{all_weaker, all_map, all_unmap, ascending-map, ascending_weaker, any_from_none, none_from_any}
+use Rattle.sqlite_keyed.proofs.ListLemmas.{all_weaker, all_unmap, ascending-map, ascending_weaker, any_from_none, none_from_any}
 use Rattle.sqlite_tied.specs.Compute.{everything}
 use Rattle.sqlite.specs.Listing.{understood}
 use Rattle.sqlite.specs.Effect.{Database}
@@ -34,9 +34,9 @@ use Rattle.sql_schema.specs.Tables.{archive_schema, IsArchiveSchema}
 use Rattle.sql_tables.specs.Words.{cells, columns_of}
 use Rattle.sql_tables.specs.Derived.{AreNumbered, IsCells, same, is_newer, int_in, last_of, vectors_of, vector_columns}
 use Rattle.sql_tables.specs.Agreeing.{command_in, ShowsOf, ShowsSome, AreOfRecords, AreReached, HasVectors, reaches}
-use Rattle.sql_tables.specs.Rows.{row_of, AreRecords, IsFilled}
-use Rattle.sql_tables.proofs.Texts.{vectors_stray_text, vectors_behind_text}
-use Rattle.sql_tables.proofs.MadeLemmas.{eq, two_true, any_alike, any_mapped}
+use Rattle.sql_tables.specs.Rows.{row_of, AreRecords}
+use Rattle.sql_tables.proofs.Texts.{vectors_stray_text}
+use Rattle.sql_tables.proofs.MadeLemmas.{eq}
 use Rattle.sql_tables.proofs.DerivedLemmas.{same_turned, filled_by, vectors_permuted}
 use Rattle.sql_tables.proofs.KeptLemmas.{same_ints, newer_is, not_above, same_origins, equal_origins}
 use Rattle.sql_tables.proofs.AgreeLemmas.{HasNumbers, typed_vectors, three_parts, int_equal, any_has, has_mapped, all_has}
@@ -55,17 +55,6 @@ pub vectors_stray_is : (indexed : Bool)
     (codes "origin" ∷ [])
 unfolding understood everything
 vectors_stray_is indexed = refl
-
--- a row of vectors is of the origin of a row of records2, and its number isn't less
-abbrev pub behind_tests : List Term
-behind_tests = eq (col 2 0) (col 1 1) ∷ op2 (Compare Ge Binary) (col 2 2) (col 1 2) ∷ []
-
-pub vectors_behind_is : (indexed : Bool)
-    → command_in (understood (archive_schema indexed) vectors_behind_text)
-    ≡ Select (record { lets = []; body = lacking 1 6 [] behind_tests (col 1 1 ∷ []) })
-    (codes "origin" ∷ [])
-unfolding understood everything
-vectors_behind_is indexed = refl
 
 -- ---- lists
 
@@ -224,6 +213,12 @@ none_newer R s above =
         → is_newer (row_of s) c ≡ false
     one c (r, h, is) = subst (λ z. is_newer (row_of s) z ≡ false) (sym is) (each r h)
 
+-- the last number of each origin that has one stands in these rows of vectors
+abbrev pub HasLasts : Content → List Row → Type 0
+HasLasts R V =
+    (o : ℕ) → 0 < vec R o
+    → (v : Row) × Has V v × (column v 0 ≡ Int (pos o)) × (column v 1 ≡ Int (pos (vec R o)))
+
 -- ---- rows of vectors that are of records, and that reach each record
 
 module _ (R : Content) (closed : IsClosed R) (V : List Row) where
@@ -299,22 +294,35 @@ module _ (R : Content) (closed : IsClosed R) (V : List Row) where
             by_number (ap (λ (x : Row). int_in (column x 1)) alike) in
             omega (arith, over, number)
 
-  -- where the rows of vectors are those that follow, they reach each record
-  pub follow_reaches : ((x : Row) → Has (vectors_of M) x → Has V x) → (r : Record)
-      → HasRecord R r → list_any (reaches (row_of r)) V ≡ true
-  follow_reaches there r h = elim (vec_attained R r.origin) [
-    | inl none ↦ absurd (omega (arith, none, vec_bounds R r h, closed.numbers r h))
+  -- the last number of each origin that has one is there, and so each record is reached
+  lasts_reach_each : HasLasts R V → (r : Record) → HasRecord R r
+      → list_any (reaches (row_of r)) V ≡ true
+  lasts_reach_each lasts r h =
+      let some : 0 < vec R r.origin = omega (arith, vec_bounds R r h, closed.numbers r h) in
+      let it = lasts r.origin some in
+      any_by (reaches (row_of r)) V it.0 it.1
+      (ap₂ (λ x y. same x (Int (pos r.origin))
+      && is_true (binary (Compare Ge Binary) y (Int (pos r.number)))) it.2 it.3
+      ∙ ap₂ ◌&&◌ (same_ints (pos r.origin) (pos r.origin))
+      (least_ints (pos (vec R r.origin)) (pos r.number))
+      ∙ is_least r.origin r.origin (vec R r.origin) r.number refl (vec_bounds R r h))
+
+  -- where the rows of vectors are those that follow, the last number of each origin is there
+  lasts_follow : ((x : Row) → Has (vectors_of M) x → Has V x) → HasLasts R V
+  lasts_follow there o some = elim (vec_attained R o) [
+    | inl none ↦ absurd (omega (arith, none, some))
     | inr last ↦
         let newest = none_newer R last.0 (λ q k same_origin. omega (
           arith,
           last.2.1,
-          subst (λ o. q.number ≤ vec R o) (same_origin ∙ last.2.0) (vec_bounds R q k),
-        )) in
-        any_by (reaches (row_of r)) V (last_of (row_of last.0)) (there (last_of (row_of last.0))
-        (has_mapped last_of (filter top M) (row_of last.0)
-        (has_kept top M (row_of last.0) (has_rows R last.0 last.1) (ap not newest))))
-        (reaches_is r last.0 ∙ is_least last.0.origin r.origin last.0.number r.number last.2.0
-        (omega (arith, last.2.1, vec_bounds R r h)))
+          subst (λ p. q.number ≤ vec R p) (same_origin ∙ last.2.0) (vec_bounds R q k),
+        )) in (
+          last_of (row_of last.0),
+          there (last_of (row_of last.0)) (has_mapped last_of (filter top M) (row_of last.0)
+              (has_kept top M (row_of last.0) (has_rows R last.0 last.1) (ap not newest))),
+          ap (λ n. Int (pos n)) last.2.0,
+          ap (λ n. Int (pos n)) last.2.1,
+        )
   ]
 
 -- ---- of the tables
@@ -377,32 +385,35 @@ vectors_follow db R closed stand differ stands reached ids =
         (all_has (Has (map row_of R)) (cells (db 1)) c
         (all_has_permuted _ _ (IsPermutation-sym _ _ stand)) h))
 
-pub kept_reach : (db : Trees) → IsFilled db → HasVectors db → AreReached db
-kept_reach db (R, l, stand) kept =
+-- so each record of the tables is reached
+pub lasts_reach : (db : Trees) (R : Content) → IsClosed R → AreRecords R db
+    → HasLasts R (map vector_columns (db 6)) → AreReached db
+lasts_reach db R closed stand lasts =
     let V = map vector_columns (db 6) in
-    let follow = vectors_permuted (map row_of R) (cells (db 1)) stand in
-    let has = λ (x : Row) (h : Has (vectors_of (map row_of R)) x).
-    all_has (Has V) (vectors_of (map row_of R)) x
-    (all_has_permuted _ _ (IsPermutation-trans _ _ _ follow kept.0)) h in
     all_permuted (λ r. list_any (reaches r) V ≡ true) (map row_of R) (cells (db 1)) stand
     (all_from (λ r. list_any (reaches r) V ≡ true) (map row_of R)
-    (λ c h. one has c (rows_have R c h)))
+    (λ c h. one c (rows_have R c h)))
   where
-    one : ((x : Row) → Has (vectors_of (map row_of R)) x → Has (map vector_columns (db 6)) x)
-        → (c : Row) → (r : Record) × HasRecord R r × (c ≡ row_of r)
+    one : (c : Row) → (r : Record) × HasRecord R r × (c ≡ row_of r)
         → list_any (reaches c) (map vector_columns (db 6)) ≡ true
-    one has c (r, h, is) =
+    one c (r, h, is) =
         subst (λ z. list_any (reaches z) (map vector_columns (db 6)) ≡ true) (sym is)
-        (follow_reaches R l.closed (map vector_columns (db 6)) has r h)
+        (lasts_reach_each R closed (map vector_columns (db 6)) lasts r h)
+
+-- and where the rows of vectors are those that follow, the last numbers are there
+pub kept_lasts : (db : Trees) (R : Content) → IsClosed R → AreRecords R db → HasVectors db
+    → HasLasts R (map vector_columns (db 6))
+kept_lasts db R closed stand kept =
+    let V = map vector_columns (db 6) in
+    let follow = vectors_permuted (map row_of R) (cells (db 1)) stand in
+    lasts_follow R closed V (λ x h. all_has (Has V) (vectors_of (map row_of R)) x
+    (all_has_permuted _ _ (IsPermutation-trans _ _ _ follow kept.0)) h)
 
 -- ---- what the texts show
 
 module _ (db : Trees) where
   abbrev stands_for : Row → Row → Bool
   stands_for = meets db 6 1 [] stray_tests (col 1 0 ∷ [])
-
-  abbrev reaches_row : Row → Row → Bool
-  reaches_row = meets db 1 6 [] behind_tests (col 1 1 ∷ [])
 
   is_last_of : (v r : Row) → IsCells (columns_of r) → HasNumbers v → stands_for v r ≡ true
       → vector_columns v ≡ last_of (columns_of r)
@@ -462,28 +473,6 @@ module _ (db : Trees) where
           (same_int (column row.0 3) (column v 3) it.tick (sym (eqs 2))
           (eqs 2 ∙ ap (λ x. column x 2) it.is)))
 
-  reaches_alike : (r : Row) → list_any (reaches_row r) (db 6)
-      ≡ list_any (reaches (columns_of r)) (map vector_columns (db 6))
-  reaches_alike r =
-      any_alike (reaches_row r) (λ v. reaches (columns_of r) (vector_columns v))
-      (λ v. two_true (same (column v 0) (column r 1))
-      (is_true (binary (Compare Ge Binary) (column v 2) (column r 2)))) (db 6)
-      ∙ sym (any_mapped (reaches (columns_of r)) vector_columns (db 6))
-
-  all_reached : AllByRecursion (λ r. list_any (reaches_row r) (db 6) ≡ true) (db 1) → AreReached db
-  all_reached all =
-      all_map (λ c. list_any (reaches c) (map vector_columns (db 6)) ≡ true) columns_of (db 1)
-      (all_weaker (λ r. list_any (reaches_row r) (db 6) ≡ true)
-      (λ r. list_any (reaches (columns_of r)) (map vector_columns (db 6)) ≡ true)
-      (λ r on. sym (reaches_alike r) ∙ on) (db 1) all)
-
-  all_reach : AreReached db → AllByRecursion (λ r. list_any (reaches_row r) (db 6) ≡ true) (db 1)
-  all_reach all =
-      all_weaker (λ r. list_any (reaches (columns_of r)) (map vector_columns (db 6)) ≡ true)
-      (λ r. list_any (reaches_row r) (db 6) ≡ true) (λ r on. reaches_alike r ∙ on) (db 1)
-      (all_unmap (λ c. list_any (reaches c) (map vector_columns (db 6)) ≡ true) columns_of (db 1)
-      all)
-
 module _ (d : Database) (has : IsArchiveSchema d.schema) where
   pub vectors_stand_of : IsSound d.schema d.trees → AllByRecursion IsCells (cells (d.trees 1))
       → ShowsOf vectors_stray_text d [] → AreNumbered (d.trees 6) → AreOfRecords d.trees
@@ -500,18 +489,3 @@ module _ (d : Database) (has : IsArchiveSchema d.schema) where
       some_lack vectors_stray_text 6 1 [] stray_tests (col 1 0 ∷ []) _ vectors_stray_is d has some
       (all_asked (λ v. list_any (stands_for d.trees v) (d.trees 1)) (d.trees 6)
       (all_stand d.trees typed kept))
-
-  pub vectors_reach_of : ShowsOf vectors_behind_text d [] → AreReached d.trees
-  vectors_reach_of none =
-      all_reached d.trees
-      (met_all (λ r. list_any (reaches_row d.trees r) (d.trees 6)) (d.trees 1)
-      (none_lack vectors_behind_text 1 6 [] behind_tests (col 1 1 ∷ []) _ vectors_behind_is d has
-      none))
-
-  pub vectors_behind_some : IsFilled d.trees → ShowsSome vectors_behind_text d
-      → HasVectors d.trees → ⊥
-  vectors_behind_some filled some kept =
-      some_lack vectors_behind_text 1 6 [] behind_tests
-      (col 1 1 ∷ []) _ vectors_behind_is d has some
-      (all_asked (λ r. list_any (reaches_row d.trees r) (d.trees 6)) (d.trees 1)
-      (all_reach d.trees (kept_reach d.trees filled kept)))

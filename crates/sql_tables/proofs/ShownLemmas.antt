@@ -13,7 +13,7 @@ use Rattle.sqlite_value.specs.Keys.{first_key, plain}
 use Rattle.sqlite_value.specs.Order.{Row, column, value_cmp}
 use Rattle.sqlite_value.proofs.OrderLemmas.{value_cmp_total, value_cmp-Int}
 use Rattle.sqlite_sql.specs.Ops.{is_null, is_true, unary, binary, truth, from_truth, and3, or3}
-use Rattle.sqlite_sql.specs.Term.{Term, lit, col, op1, op2, holds}
+use Rattle.sqlite_sql.specs.Term.{Term, lit, col, op1, op2}
 use Rattle.sqlite_sql.specs.declared.ops.UnaryOp.TheVariants.{ToNumeric}
 use Rattle.sqlite_sql.specs.declared.ops.BinaryOp.TheVariants.{Compare, And, Or}
 use Rattle.sqlite_sql.specs.declared.ops.CompareOp.TheVariants.{Eq, Ne, Gt}

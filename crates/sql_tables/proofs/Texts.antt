@@ -121,10 +121,6 @@ abbrev pub vectors_stray_text : List ℕ
 vectors_stray_text =
     codes "SELECT v.origin FROM vectors AS v WHERE NOT EXISTS (SELECT 1 FROM records2 AS r WHERE r.origin = v.origin AND r.number = v.number AND r.tick = v.tick) LIMIT 1"
 
-abbrev pub vectors_behind_text : List ℕ
-vectors_behind_text =
-    codes "SELECT r.origin FROM records2 AS r WHERE NOT EXISTS (SELECT 1 FROM vectors AS v WHERE v.origin = r.origin AND v.number >= r.number) LIMIT 1"
-
 abbrev pub vectors_held_text : List ℕ
 vectors_held_text = codes "SELECT origin FROM vectors ORDER BY origin"
 

@@ -16,7 +16,7 @@ use Rattle.sqlite_value.specs.Keys.{ascending}
 use Rattle.sqlite_value.specs.Order.{Row, column, value_cmp}
 use Rattle.sqlite_value.proofs.OrderLemmas.{value_cmp_total, value_cmp-Int, then-Equal}
 use Rattle.sqlite_sql.specs.Term.{Term, Env, col, eval_all}
-use Rattle.sqlite_sql.specs.Query.{Query, Join, inner, end, counted, Output, output, output_cmp, key_cmp, matches, IsAnswer, IsSureStart}
+use Rattle.sqlite_sql.specs.Query.{Query, Join, inner, end, Output, output, output_cmp, key_cmp, matches, IsAnswer, IsSureStart}
 use Rattle.sqlite_sql.specs.Program.{overlay, IsProgramStart}
 use Rattle.sqlite_schema.specs.declared.schema.Schema.{Schema}
 use Rattle.sqlite_schema.specs.declared.command.Command.TheVariants.{Select}

@@ -5,11 +5,11 @@ ghost use Rattle.sqlite.specs.State.{HasCleanDisk, IsUnchanged};
 ghost use Rattle.sqlite.specs.Held.{state};
 ghost use Rattle.sqlite_value.specs.Order.{Row as Columns};
 ghost use Rattle.archive.specs.Store.{IsOfOpening};
-ghost use Rattle.sql_tables.specs.Derived.{AreKept, AreNumbered};
+ghost use Rattle.sql_tables.specs.Derived.{AreNumbered};
 ghost use Rattle.sql_tables.specs.Rows.{IsFilled};
 ghost use Rattle.sql_tables.specs.Asking.{ArchivesAnswer};
 ghost use Rattle.sql_tables.specs.State.{MayBeStopped, LeavesUnchanged, LeavesUnchangedOr, Holds, Idles};
-ghost use Rattle.sql_tables.specs.Agreeing.{ShowsOf, HasRisen, HasCounted, AreUncountable, BeginsUncountable, ShowsSome, AreStamped, AreSingle, AreTelling, AreShown, HasCurrents, AreOfRecords, AreReached, HasVectors};
+ghost use Rattle.sql_tables.specs.Agreeing.{ShowsOf, HasRisen, HasCounted, AreUncountable, BeginsUncountable, ShowsSome, AreStamped, AreSingle, AreTelling, AreShown, HasCurrents, AreOfRecords, HasVectors};
 ghost use Rattle.sql_tables.specs.Connections.{WhereClean, Sees, tables_of, CommitsNothing};
 
 use crate::decoding::int_at;
@@ -218,8 +218,8 @@ fn all_hold(one: bool, other: bool, third: bool) -> Result<(), StoreFault>
 }
 
 /// Refuses current values that aren't those of the records: each has to be of a record, and each record has to be shown by the one of
-/// its moment.
-fn check_currents<S: Alter>(conn: &mut Connection<S>) -> Result<(), StoreFault>
+/// its moment. Nothing is changed, and no row is kept in memory.
+pub fn check_currents<S: Alter>(conn: &mut Connection<S>) -> Result<(), StoreFault>
     requires idles { WhereClean S.Store conn.old Idles }
     requires filled { WhereClean S.Store conn.old (Sees IsFilled) }
     ensures { LeavesUnchanged (state S.Store conn.old) (state S.Store conn.new) result
@@ -233,7 +233,7 @@ fn check_currents<S: Alter>(conn: &mut Connection<S>) -> Result<(), StoreFault>
 }
 
 /// Whether each last number is a record's, as it is where they are kept.
-fn vectors_stand<S: Alter>(conn: &mut Connection<S>) -> Result<bool, StoreFault>
+pub fn vectors_stand<S: Alter>(conn: &mut Connection<S>) -> Result<bool, StoreFault>
     requires idles { WhereClean S.Store conn.old Idles }
     requires filled { WhereClean S.Store conn.old (Sees IsFilled) }
     ensures { LeavesUnchanged (state S.Store conn.old) (state S.Store conn.new) result
@@ -248,64 +248,11 @@ fn vectors_stand<S: Alter>(conn: &mut Connection<S>) -> Result<bool, StoreFault>
     )
 }
 
-/// Whether each record's origin has a last number that isn't below the record's, as it is where they are kept.
-fn vectors_reach<S: Alter>(conn: &mut Connection<S>) -> Result<bool, StoreFault>
-    requires idles { WhereClean S.Store conn.old Idles }
-    requires filled { WhereClean S.Store conn.old (Sees IsFilled) }
-    ensures { LeavesUnchanged (state S.Store conn.old) (state S.Store conn.new) result
-        (λ reach. (IsTrue reach → AreReached (tables_of S.Store conn.old))
-        × (reach ≡ false → HasVectors (tables_of S.Store conn.old) → ⊥)) }
-{
-    shows_none(
-        conn,
-        "SELECT r.origin FROM records2 AS r WHERE NOT EXISTS (SELECT 1 FROM vectors AS v WHERE v.origin = r.origin AND v.number >= r.number) LIMIT 1",
-    )
-}
-
-/// How many last numbers there are.
-fn vectors_held<S: Alter>(conn: &mut Connection<S>) -> Result<u64, StoreFault>
+/// How many last numbers there are. It is refused where two are of one origin.
+pub fn vectors_held<S: Alter>(conn: &mut Connection<S>) -> Result<u64, StoreFault>
     requires idles { WhereClean S.Store conn.old Idles }
     ensures { LeavesUnchanged (state S.Store conn.old) (state S.Store conn.new) result (λ n. (n
         ≡ length (tables_of S.Store conn.old 6)) × AreNumbered (tables_of S.Store conn.old 6)) }
 {
     ids_in(conn, "SELECT origin FROM vectors ORDER BY origin")
-}
-
-/// Nothing, where both are so.
-fn both_hold(one: bool, other: bool) -> Result<(), StoreFault>
-    ensures same { OnOk result (IsTrue one × IsTrue other) }
-    ensures met { IfErr result (λ fault. IsOfOpening fault → ⊥) }
-    ensures refused { IfErr result (λ _. IsTrue one → IsTrue other → ⊥) }
-{
-    if one && other {
-        return Ok(());
-    }
-    Err(StoreFault::Refused)
-}
-
-/// Refuses last numbers that aren't those of the records: each has to be a record's, each record's origin has to have one that isn't
-/// below it, and no origin two.
-fn check_vectors<S: Alter>(conn: &mut Connection<S>) -> Result<(), StoreFault>
-    requires idles { WhereClean S.Store conn.old Idles }
-    requires filled { WhereClean S.Store conn.old (Sees IsFilled) }
-    ensures { LeavesUnchanged (state S.Store conn.old) (state S.Store conn.new) result
-        (λ _. HasVectors (tables_of S.Store conn.old)) }
-{
-    let stand = vectors_stand(conn)?;
-    let reach = vectors_reach(conn)?;
-    let _held = vectors_held(conn)?;
-    both_hold(stand, reach)
-}
-
-/// Refuses tables of current values and of vectors whose rows aren't those that follow from the records. Nothing is changed, and no
-/// row is kept in memory: of current values it is asked whether each is of a record and tells of others where there are some, and shows
-/// the records of its moment; of last numbers whether each is a record's, and reaches the records of its origin.
-pub fn check_kept<S: Alter>(conn: &mut Connection<S>) -> Result<(), StoreFault>
-    requires idles { WhereClean S.Store conn.old Idles }
-    requires filled { WhereClean S.Store conn.old (Sees IsFilled) }
-    ensures { LeavesUnchanged (state S.Store conn.old) (state S.Store conn.new) result
-        (λ _. AreKept (tables_of S.Store conn.old)) }
-{
-    check_currents(conn)?;
-    check_vectors(conn)
 }

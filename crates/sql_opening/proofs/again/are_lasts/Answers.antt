@@ -1,8 +1,6 @@
-use Rattle.std.proofs.Common.{rules, ◌≡◌, ◌+◌, take, map, refl, sym, ap, ◌∙◌, arith, length, get_or, ◌<◌, ◌≤◌, List, [], ℕ, subst, IsTrue}
-use Rattle.std.proofs.lemmas.List.{take_all}
+use Rattle.std.proofs.Common.{◌≡◌, ◌+◌, take, map, refl, sym, ap, ◌∙◌, arith, length, ◌<◌, subst}
 use Rattle.std.proofs.lemmas.Bool.{eqb-true, ltb-true}
-use Rattle.sqlite_value.specs.Order.{Row}
-use Rattle.stamp.specs.Numbers.{entries, number_of, IsVector}
+use Rattle.stamp.specs.Numbers.{entries, number_of}
 use Rattle.sql_opening.specs.Again.{last_in}
 use Rattle.sql_opening.proofs.AgainLemmas.{lasts_more, lasts_none, lasts_all}
 use Rattle.sql_opening.proofs.again.are_lasts.Goals.{then-number-gt0+in-Some-get, else-number-gt0}
@@ -28,7 +26,7 @@ loop-place-preserved c =
             c.loop-place.place + 1,
             number_of c.args.numbers.now (c.loop-place.place + 1),
           ) =
-          w.is_last.ensures w.if-is_last.true ∙ ap (λ n. (c.loop-place.place + 1, n)) number in
+          w.is_last.ensures.told w.if-is_last.true ∙ ap (λ n. (c.loop-place.place + 1, n)) number in
           let so_far = lasts_more c.args.rows.now c.args.numbers.now c.loop-place.gone
           c.loop-place.place row lt place (omega (arith, number, w.if-number-gt0.true))
           (ap last_in (sym looked.1) ∙ is) c.loop-place.invariant.0 in (

@@ -1,9 +1,8 @@
-use Rattle.std.proofs.Common.{rules, FitsSigned, to_z, of_z, ◌≡◌, ◌+◌, take, refl, sym, ap, subst, ◌∙◌, arith, length, get_or, ◌<◌, ◌≤◌, ℤ, pos, List, []}
+use Rattle.std.proofs.Common.{rules, FitsSigned, to_z, ◌≡◌, sym, ap, ◌∙◌, length, get_or, ◌<◌}
 use Rattle.std.specs.Int.{int_max, w64}
 use Rattle.std.proofs.lemmas.Int.{to_z-of_z}
 use Rattle.sqlite_value.specs.Order.{Row, column}
 use Rattle.sql_tables.specs.Derived.{int_in}
-use Rattle.sql_opening.specs.Again.{top_in}
 use Rattle.sql_opening.proofs.AgainLemmas.{top_more, max_is}
 use Rattle.sql_opening.proofs.again.is_top.Goals as goal
 

@@ -1,7 +1,5 @@
-use Rattle.std.proofs.Common.{◌≡◌, arith, subst, sym, ap, Ok}
-use Rattle.sqlite.specs.Effect.{Database}
+use Rattle.std.proofs.Common.{◌≡◌, arith, subst, Ok}
 use Rattle.sqlite.specs.Held.{state}
-use Rattle.sql_schema.specs.Tables.{beside_schema}
 use Rattle.sql_schema.proofs.StandingLemmas.{beside_has_meta}
 use Rattle.sql_tables.specs.Rows.{meta_cells}
 use Rattle.sql_tables.specs.State.{Found}

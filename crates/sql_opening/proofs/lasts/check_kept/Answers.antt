@@ -1,6 +1,6 @@
 use Rattle.sqlite.specs.Held.{state}
 use Rattle.sql_tables.proofs.AgreedLemmas.{checked_both}
-use Rattle.sql_tables.proofs.integrity.check_kept.Goals as goal
+use Rattle.sql_opening.proofs.lasts.check_kept.Goals as goal
 
 pub returns : goal.returns
 returns g c = checked_both (state g.S.Store c.args.conn.now)

@@ -1,6 +1,6 @@
 use Rattle.sqlite.specs.Held.{state}
 use Rattle.sql_tables.proofs.AgreedLemmas.{checked_vectors}
-use Rattle.sql_tables.proofs.integrity.check_vectors.Goals as goal
+use Rattle.sql_opening.proofs.lasts.check_vectors.Goals as goal
 
 pub returns : goal.returns
 returns g c =
