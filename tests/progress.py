@@ -74,7 +74,7 @@ def main():
     lines = []
     for line in server.stderr:
         lines.append(line.rstrip("\n"))
-        if " started " in line:
+        if " started:" in line:
             break
     shows(lines, OPENING, "an opening of `serve` is told of too")
     small = settings("small", replica=2)

@@ -1,6 +1,5 @@
 -- Rows that show no value.
-use Rattle.std.proofs.Common.{rules, ◌≡◌, ◌⊎◌, inl, inr, ℕ, ℤ, pos, ◌<◌, ◌≤◌, List, length, get_or, Err, Ok, refl, sym, ap, ◌∙◌, arith}
-use Rattle.sqlite_value.specs.declared.value.Value.{Value}
+use Rattle.std.proofs.Common.{rules, ◌≡◌, ◌⊎◌, inl, inr, ℕ, ℤ, pos, ◌<◌, List, length, get_or, Err, Ok, refl, sym, ap, ◌∙◌, arith}
 use Rattle.sqlite_value.specs.declared.value.Value.TheVariants.{Int, Blob}
 use Rattle.sqlite_value.specs.Order.{Row, column, bytes}
 use Rattle.sqlite_trees.specs.Objects.{number_in}
@@ -8,7 +7,6 @@ use Rattle.ua_variant.specs.DataValue.{data_value}
 use Rattle.ua_variant.specs.declared.fault.VariantFault.{VariantFault}
 use Rattle.ua_variant.specs.declared.fault.VariantFault.TheVariants as value
 use Rattle.records.specs.Fault.{value_fault}
-use Rattle.records.specs.Lists.{Has}
 use Rattle.records.specs.declared.fault.RecordFault.{RecordFault}
 use Rattle.records.specs.declared.fault.RecordFault.TheVariants.{Binary, BadField, NotCanonical, OutOfMemory}
 use Rattle.archive.specs.Fault.{of_record}

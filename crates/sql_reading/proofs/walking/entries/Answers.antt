@@ -1,10 +1,10 @@
-use Rattle.std.proofs.Common.{rules, take, ◌≡◌, ◌∙◌, ◌≤◌, arith, refl, sym, ap, subst, Some, None, Ok, Err, Vec, List, length}
+use Rattle.std.proofs.Common.{rules, take, ◌≡◌, ◌≤◌, arith, refl, sym, subst, Some, None, Ok, Err, Vec, List, length}
 use Rattle.std.specs.declared.alloc.Global.{Global}
 use Rattle.sqlite.specs.Held.{state}
 use Rattle.stamp.specs.Numbers.{number_of}
 use Rattle.archive.specs.declared.fault.StoreFault.TheVariants.{Refused}
 use Rattle.records.specs.declared.shown.Entry.{Entry}
-use Rattle.std.proofs.Common.{filter, reverse, ◌++◌}
+use Rattle.std.proofs.Common.{filter, reverse}
 use Rattle.records.specs.Records.{entries_after}
 use Rattle.archive.specs.Reading.{in_direction, follows}
 use Rattle.sql_tables.specs.State.{LeavesUnchanged}
@@ -194,11 +194,7 @@ times-preserved g c =
           c.in-Some.story c.times.invariant.0 e
           (moment_of_place c.in-Some.story.time c.place_of-place.result.ticks
           c.place_of-place.result.pico p.0 p.1)
-          (c.in_ok-push_entries.ensures.value
-          ∙ ap (λ rs. c.times.found.items
-          ++ filter (follows c.args.reading.now.direction c.args.after.now)
-          (in_direction c.args.reading.now.direction (reverse (entries_after None rs))))
-          c.deref.ensures.value),
+          c.in_ok-push_entries.ensures.value,
       is_place c.args.reading.now.direction c.in-Some.story.time c.place_of-place.result.pico p.1,
       λ clean.
           let passed = passed_ok b d (Some c.in-Some.story) _ e in
