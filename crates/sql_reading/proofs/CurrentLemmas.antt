@@ -51,7 +51,7 @@ use Rattle.archive.specs.declared.reading.Direction.{Direction}
 use Rattle.archive.specs.declared.reading.Direction.TheVariants.{Forward, Backward}
 use Rattle.archive.proofs.Turning.{has-map, has_from_map, has-in_direction, pairwise-map}
 use Rattle.archive.proofs.Timing.{times_rise, has_from_get}
-use Rattle.sql_tables.specs.Words.{cells, IsPage}
+use Rattle.sql_tables.specs.Words.{cells, IsPage, holds_either}
 use Rattle.sql_tables.specs.Rows.{row_of, content_in, IsFilled, AreRecords}
 use Rattle.sql_reading.specs.Tables.{current_row, last_row, AreCurrents, AreLasts}
 use Rattle.sql_tables.proofs.KeptLemmas.{newer_is, not_above, is_above as is_above_number, same_origins}
@@ -63,7 +63,7 @@ use Rattle.sql_tables.proofs.RowLemmas.{each_record, content_is}
 use Rattle.sql_reading.proofs.StoryLemmas.{same_moment, nodes_as, numbers_cmp, filter_as}
 use Rattle.sql_tables.proofs.DerivedLemmas.{currents_permuted, vectors_permuted}
 use Rattle.sql_reading.proofs.WalkLemmas.{along, along_total, turned_total, turned_rise}
-use Rattle.sql_reading.proofs.PageLemmas.{page_of, from_some, truly, compared, either_of, after_by, before_by, time_there}
+use Rattle.sql_reading.proofs.PageLemmas.{page_of, from_some, truly, compared, either_of, first_of, after_by, before_by, time_there}
 use Rattle.sql_reading.proofs.RangeLemmas.{flat_map-filter}
 
 -- ---- lists
@@ -691,11 +691,11 @@ module _ (R : Content) (l : IsLawfulContent R) where
   after_as node t q far r ok h place =
       ap₂ ◌&&◌ (nodes_as node r ok (own_node r (has_from_filter is_top R r h).0))
       (ap₂ ◌&&◌ (ap is_true (compared Ge a t) ∙ truly _)
-      (ap₂ ◌&&◌ (ap is_true (ap₂ (binary Or) (compared Gt a t) (compared Gt p q))
-      ∙ either_of _ _)
+      (ap₂ ◌&&◌ (ap₂ holds_either (compared Gt a t) (compared Gt p q)
+      ∙ first_of _ _)
       (ap₂ ◌&&◌ (ap is_true (compared Le a f) ∙ truly _)
-      (ap₂ ◌&&◌ (ap is_true (ap₂ (binary Or) (compared Lt a f) (compared Le p g))
-      ∙ either_of _ _) (live_as r.asked)))))
+      (ap₂ ◌&&◌ (ap₂ holds_either (compared Lt a f) (compared Le p g)
+      ∙ first_of _ _) (live_as r.asked)))))
       ∙ (regroup_five (same_node r.node node) (is_ge (int_cmp a t))
       (is_gt (int_cmp a t) || is_gt (int_cmp p q)) (is_le (int_cmp a f))
       (is_lt (int_cmp a f) || is_le (int_cmp p g)) (not (told.is_delete r.asked))
@@ -725,11 +725,11 @@ module _ (R : Content) (l : IsLawfulContent R) where
   before_as node t q far r ok h place =
       ap₂ ◌&&◌ (nodes_as node r ok (own_node r (has_from_filter is_top R r h).0))
       (ap₂ ◌&&◌ (ap is_true (compared Le a t) ∙ truly _)
-      (ap₂ ◌&&◌ (ap is_true (ap₂ (binary Or) (compared Lt a t) (compared Lt p q))
-      ∙ either_of _ _)
+      (ap₂ ◌&&◌ (ap₂ holds_either (compared Lt a t) (compared Lt p q)
+      ∙ first_of _ _)
       (ap₂ ◌&&◌ (ap is_true (compared Ge a f) ∙ truly _)
-      (ap₂ ◌&&◌ (ap is_true (ap₂ (binary Or) (compared Gt a f) (compared Ge p g))
-      ∙ either_of _ _) (live_as r.asked)))))
+      (ap₂ ◌&&◌ (ap₂ holds_either (compared Gt a f) (compared Ge p g)
+      ∙ first_of _ _) (live_as r.asked)))))
       ∙ (regroup_five (same_node r.node node) (is_le (int_cmp a t))
       (is_lt (int_cmp a t) || is_lt (int_cmp p q)) (is_ge (int_cmp a f))
       (is_gt (int_cmp a f) || is_ge (int_cmp p g)) (not (told.is_delete r.asked))

@@ -39,7 +39,7 @@ use Rattle.archive.specs.declared.reading.Direction.{Direction}
 use Rattle.archive.specs.declared.reading.Direction.TheVariants.{Forward, Backward}
 use Rattle.archive.proofs.SetLemmas.{has-once, has_from_once}
 use Rattle.archive.proofs.Turning.{has-map, has_from_map}
-use Rattle.sql_tables.specs.Words.{cells, is_after, is_before, moment_order, IsPage, AreNextRows}
+use Rattle.sql_tables.specs.Words.{cells, holds_either, is_after, is_before, moment_order, IsPage, AreNextRows}
 use Rattle.sql_tables.specs.Rows.{row_of, records_in, content_in, AreRecords, IsFilled}
 use Rattle.sql_reading.specs.Walking.{moment_at, IsStartPlace, IsNextTime, first_time, time_order, walk_cmp, records_beyond}
 use Rattle.sql_tables.proofs.RowLemmas.{each_record, records_back, content_is}
@@ -170,6 +170,11 @@ either_of true false = refl
 either_of false true = refl
 either_of false false = refl
 
+-- the first one of two that is true
+pub first_of : (a b : Bool) → holds_either (from_truth (Some a)) (from_truth (Some b)) ≡ (a || b)
+first_of true b = refl
+first_of false b = truly b
+
 pub compared : (op : CompareOp) (m n : ℤ)
     → binary (Compare op Binary) (Int m) (Int n) ≡ from_truth (Some (test op (int_cmp m n)))
 unfolding binary
@@ -193,7 +198,7 @@ after_as : (node : NodeId) (t q : ℤ) (r : Record) → IsNodeId node → IsNode
     ≡ beyond_place Forward node (moment_at t q) r
 after_as node t q r ok own place =
     ap₂ ◌&&◌ (nodes_as node r ok own) (ap₂ ◌&&◌ (ap is_true (compared Ge a t) ∙ truly _)
-    (ap is_true (ap₂ (binary Or) (compared Gt a t) (compared Gt p q)) ∙ either_of _ _)
+    (ap₂ holds_either (compared Gt a t) (compared Gt p q) ∙ first_of _ _)
     ∙ (after_by a t p q (omega (arith, ints)) (omega (arith, ints, pico_within r.time)) place
     ∙ ap (is_past Forward (moment_at t q)) (whole_again r.time)))
   where
@@ -208,7 +213,7 @@ before_as : (node : NodeId) (t q : ℤ) (r : Record) → IsNodeId node → IsNod
     ≡ beyond_place Backward node (moment_at t q) r
 before_as node t q r ok own place =
     ap₂ ◌&&◌ (nodes_as node r ok own) (ap₂ ◌&&◌ (ap is_true (compared Le a t) ∙ truly _)
-    (ap is_true (ap₂ (binary Or) (compared Lt a t) (compared Lt p q)) ∙ either_of _ _)
+    (ap₂ holds_either (compared Lt a t) (compared Lt p q) ∙ first_of _ _)
     ∙ (before_by a t p q (omega (arith, ints)) (omega (arith, ints, pico_within r.time)) place
     ∙ ap (is_past Backward (moment_at t q)) (whole_again r.time)))
   where

@@ -52,7 +52,7 @@ fn currents_after<S: Alter>(
 {
     select(
         conn,
-        "SELECT time, pico, extra, value FROM currents2 WHERE node = ?1 AND time >= ?2 AND (time > ?2 OR pico > ?3) AND time <= ?4 AND (time < ?4 OR pico <= ?5) AND live = 1 ORDER BY time, pico LIMIT ?6",
+        "SELECT time, pico, extra, value FROM currents2 WHERE node = ?1 AND time >= ?2 AND CASE WHEN time > ?2 THEN 1 ELSE pico > ?3 END AND time <= ?4 AND CASE WHEN time < ?4 THEN 1 ELSE pico <= ?5 END AND live = 1 ORDER BY time, pico LIMIT ?6",
         params![
             node,
             &along.near.ticks,
@@ -79,7 +79,7 @@ fn currents_before<S: Alter>(
 {
     select(
         conn,
-        "SELECT time, pico, extra, value FROM currents2 WHERE node = ?1 AND time <= ?2 AND (time < ?2 OR pico < ?3) AND time >= ?4 AND (time > ?4 OR pico >= ?5) AND live = 1 ORDER BY time DESC, pico DESC LIMIT ?6",
+        "SELECT time, pico, extra, value FROM currents2 WHERE node = ?1 AND time <= ?2 AND CASE WHEN time < ?2 THEN 1 ELSE pico < ?3 END AND time >= ?4 AND CASE WHEN time > ?4 THEN 1 ELSE pico >= ?5 END AND live = 1 ORDER BY time DESC, pico DESC LIMIT ?6",
         params![
             node,
             &along.near.ticks,

@@ -12,7 +12,7 @@ use Rattle.sqlite_value.specs.Keys.{ascending}
 use Rattle.sqlite_value.specs.Order.{Row, column, value_cmp}
 use Rattle.sqlite_value.proofs.OrderLemmas.{value_cmp-Null, then-Equal}
 use Rattle.sqlite_sql.specs.Ops.{binary, is_true, from_truth, is_null}
-use Rattle.sqlite_sql.specs.Term.{Term, lit, col, op2, holds}
+use Rattle.sqlite_sql.specs.Term.{Term, case, lit, col, op2, holds}
 use Rattle.sqlite_sql.specs.declared.ops.BinaryOp.TheVariants.{Compare, Or}
 use Rattle.sqlite_sql.specs.declared.ops.CompareOp.TheVariants.{Eq, Gt, Ge, Lt, Le}
 use Rattle.sqlite_sql.specs.Query.{Query, inner, end, Output, output, output_cmp, key_cmp, page, limited, as_count, IsAnswer}
@@ -484,12 +484,12 @@ finds_since old new origin number limit rows has h =
 
 abbrev after_tests : List Term
 after_tests = eq (col 1 4) (col 0 0) ∷ op2 (Compare Ge Binary) (col 1 5) (col 0 1)
-    ∷ op2 Or (op2 (Compare Gt Binary) (col 1 5) (col 0 1))
+    ∷ case (op2 (Compare Gt Binary) (col 1 5) (col 0 1)) (lit (Int (pos 1)))
     (op2 (Compare Gt Binary) (col 1 6) (col 0 2)) ∷ []
 
 abbrev before_tests : List Term
 before_tests = eq (col 1 4) (col 0 0) ∷ op2 (Compare Le Binary) (col 1 5) (col 0 1)
-    ∷ op2 Or (op2 (Compare Lt Binary) (col 1 5) (col 0 1))
+    ∷ case (op2 (Compare Lt Binary) (col 1 5) (col 0 1)) (lit (Int (pos 1)))
     (op2 (Compare Lt Binary) (col 1 6) (col 0 2)) ∷ []
 
 abbrev down : Key
@@ -597,19 +597,19 @@ live_test = eq (col 1 6) (lit (Int (pos 1)))
 abbrev lives_after_tests : List Term
 lives_after_tests =
     eq (col 1 1) (col 0 0) ∷ op2 (Compare Ge Binary) (col 1 2) (col 0 1)
-    ∷ op2 Or (op2 (Compare Gt Binary) (col 1 2) (col 0 1))
+    ∷ case (op2 (Compare Gt Binary) (col 1 2) (col 0 1)) (lit (Int (pos 1)))
     (op2 (Compare Gt Binary) (col 1 3) (col 0 2))
     ∷ op2 (Compare Le Binary) (col 1 2) (col 0 3)
-    ∷ op2 Or (op2 (Compare Lt Binary) (col 1 2) (col 0 3))
+    ∷ case (op2 (Compare Lt Binary) (col 1 2) (col 0 3)) (lit (Int (pos 1)))
     (op2 (Compare Le Binary) (col 1 3) (col 0 4)) ∷ live_test ∷ []
 
 abbrev lives_before_tests : List Term
 lives_before_tests =
     eq (col 1 1) (col 0 0) ∷ op2 (Compare Le Binary) (col 1 2) (col 0 1)
-    ∷ op2 Or (op2 (Compare Lt Binary) (col 1 2) (col 0 1))
+    ∷ case (op2 (Compare Lt Binary) (col 1 2) (col 0 1)) (lit (Int (pos 1)))
     (op2 (Compare Lt Binary) (col 1 3) (col 0 2))
     ∷ op2 (Compare Ge Binary) (col 1 2) (col 0 3)
-    ∷ op2 Or (op2 (Compare Gt Binary) (col 1 2) (col 0 3))
+    ∷ case (op2 (Compare Gt Binary) (col 1 2) (col 0 3)) (lit (Int (pos 1)))
     (op2 (Compare Ge Binary) (col 1 3) (col 0 4)) ∷ live_test ∷ []
 
 abbrev up_time : List (Term × Key)

@@ -67,11 +67,11 @@ since_text = codes
 
 abbrev pub after_text : List ℕ
 after_text = codes
-    "SELECT origin, number, tick, node, time, pico, asked, who, value FROM records2 WHERE node = ?1 AND time >= ?2 AND (time > ?2 OR pico > ?3) ORDER BY time, pico, tick, origin LIMIT ?4"
+    "SELECT origin, number, tick, node, time, pico, asked, who, value FROM records2 WHERE node = ?1 AND time >= ?2 AND CASE WHEN time > ?2 THEN 1 ELSE pico > ?3 END ORDER BY time, pico, tick, origin LIMIT ?4"
 
 abbrev pub before_text : List ℕ
 before_text = codes
-    "SELECT origin, number, tick, node, time, pico, asked, who, value FROM records2 WHERE node = ?1 AND time <= ?2 AND (time < ?2 OR pico < ?3) ORDER BY time DESC, pico DESC, tick DESC, origin DESC LIMIT ?4"
+    "SELECT origin, number, tick, node, time, pico, asked, who, value FROM records2 WHERE node = ?1 AND time <= ?2 AND CASE WHEN time < ?2 THEN 1 ELSE pico < ?3 END ORDER BY time DESC, pico DESC, tick DESC, origin DESC LIMIT ?4"
 
 abbrev pub raise_current_text : List ℕ
 raise_current_text =
@@ -126,11 +126,11 @@ vectors_held_text = codes "SELECT origin FROM vectors ORDER BY origin"
 
 abbrev pub lives_after_text : List ℕ
 lives_after_text =
-    codes "SELECT time, pico, extra, value FROM currents2 WHERE node = ?1 AND time >= ?2 AND (time > ?2 OR pico > ?3) AND time <= ?4 AND (time < ?4 OR pico <= ?5) AND live = 1 ORDER BY time, pico LIMIT ?6"
+    codes "SELECT time, pico, extra, value FROM currents2 WHERE node = ?1 AND time >= ?2 AND CASE WHEN time > ?2 THEN 1 ELSE pico > ?3 END AND time <= ?4 AND CASE WHEN time < ?4 THEN 1 ELSE pico <= ?5 END AND live = 1 ORDER BY time, pico LIMIT ?6"
 
 abbrev pub lives_before_text : List ℕ
 lives_before_text =
-    codes "SELECT time, pico, extra, value FROM currents2 WHERE node = ?1 AND time <= ?2 AND (time < ?2 OR pico < ?3) AND time >= ?4 AND (time > ?4 OR pico >= ?5) AND live = 1 ORDER BY time DESC, pico DESC LIMIT ?6"
+    codes "SELECT time, pico, extra, value FROM currents2 WHERE node = ?1 AND time <= ?2 AND CASE WHEN time < ?2 THEN 1 ELSE pico < ?3 END AND time >= ?4 AND CASE WHEN time > ?4 THEN 1 ELSE pico >= ?5 END AND live = 1 ORDER BY time DESC, pico DESC LIMIT ?6"
 
 abbrev pub records1_text : List ℕ
 records1_text = codes

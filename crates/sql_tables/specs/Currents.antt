@@ -6,7 +6,7 @@ use Rattle.sqlite_value.specs.declared.value.Value.TheVariants.{Int, Blob as Byt
 use Rattle.sqlite_value.specs.Order.{Row, column, value_cmp, bytes}
 use Rattle.sqlite_value.specs.declared.keys.Collation.TheVariants.{Binary}
 use Rattle.sqlite_sql.specs.Ops.{binary, is_true}
-use Rattle.sqlite_sql.specs.declared.ops.BinaryOp.TheVariants.{Compare, Or}
+use Rattle.sqlite_sql.specs.declared.ops.BinaryOp.TheVariants.{Compare}
 use Rattle.sqlite_sql.specs.declared.ops.CompareOp.TheVariants.{Gt, Ge, Lt, Le}
 use Rattle.sqlite_trees.specs.Objects.{number_in}
 use Rattle.ua_variant.specs.declared.data.DataValue.{DataValue}
@@ -16,7 +16,7 @@ use Rattle.records.specs.Moments.{moment}
 use Rattle.records.specs.declared.shown.Held.{Held}
 use Rattle.archive.specs.declared.reading.Direction.{Direction}
 use Rattle.archive.specs.declared.reading.Direction.TheVariants.{Forward, Backward}
-use Rattle.sql_tables.specs.Words.{IsPage}
+use Rattle.sql_tables.specs.Words.{IsPage, holds_either}
 use Rattle.sql_tables.specs.Derived.{int_in}
 
 -- ---- what is asked
@@ -32,15 +32,13 @@ is_live_after node time pico far far_pico c =
     &&
     (is_true (binary (Compare Ge Binary) (column c 1) (Int time))
     &&
-    (is_true
-    (binary Or (binary (Compare Gt Binary) (column c 1) (Int time))
-    (binary (Compare Gt Binary) (column c 2) (Int pico)))
+    (holds_either (binary (Compare Gt Binary) (column c 1) (Int time))
+    (binary (Compare Gt Binary) (column c 2) (Int pico))
     &&
     (is_true (binary (Compare Le Binary) (column c 1) (Int far))
     &&
-    (is_true
-    (binary Or (binary (Compare Lt Binary) (column c 1) (Int far))
-    (binary (Compare Le Binary) (column c 2) (Int far_pico))) && is_live c))))
+    (holds_either (binary (Compare Lt Binary) (column c 1) (Int far))
+    (binary (Compare Le Binary) (column c 2) (Int far_pico)) && is_live c))))
 
 -- the same before it, down to the far one
 abbrev pub is_live_before : List ℕ → ℤ → ℤ → ℤ → ℤ → Row → Bool
@@ -49,15 +47,13 @@ is_live_before node time pico far far_pico c =
     &&
     (is_true (binary (Compare Le Binary) (column c 1) (Int time))
     &&
-    (is_true
-    (binary Or (binary (Compare Lt Binary) (column c 1) (Int time))
-    (binary (Compare Lt Binary) (column c 2) (Int pico)))
+    (holds_either (binary (Compare Lt Binary) (column c 1) (Int time))
+    (binary (Compare Lt Binary) (column c 2) (Int pico))
     &&
     (is_true (binary (Compare Ge Binary) (column c 1) (Int far))
     &&
-    (is_true
-    (binary Or (binary (Compare Gt Binary) (column c 1) (Int far))
-    (binary (Compare Ge Binary) (column c 2) (Int far_pico))) && is_live c))))
+    (holds_either (binary (Compare Gt Binary) (column c 1) (Int far))
+    (binary (Compare Ge Binary) (column c 2) (Int far_pico)) && is_live c))))
 
 -- by time and picoseconds
 abbrev pub current_order : Row → Row → Ordering

@@ -1,12 +1,13 @@
 -- What the tables hold.
-use Rattle.std.specs.Prelude.{◌≡◌, ℕ, ℤ, List, [], ◌∷◌, map, filter, IsPermutation, IsSorted, Bool, ◌&&◌, Option}
+use Rattle.std.specs.Prelude.{◌≡◌, ℕ, ℤ, pos, if◌then◌else◌, List, [], ◌∷◌, map, filter, IsPermutation, IsSorted, Bool, ◌&&◌, Option}
 use Rattle.std.specs.declared.cmp.Ordering.{Ordering}
 use Rattle.std.specs.Ordering.{is_eq, ordering_then}
+use Rattle.sqlite_value.specs.declared.value.Value.{Value}
 use Rattle.sqlite_value.specs.declared.value.Value.TheVariants.{Int, Blob as Bytes}
 use Rattle.sqlite_value.specs.Order.{Row, column, value_cmp}
 use Rattle.sqlite_value.specs.declared.keys.Collation.TheVariants.{Binary}
 use Rattle.sqlite_sql.specs.Ops.{binary, is_true}
-use Rattle.sqlite_sql.specs.declared.ops.BinaryOp.TheVariants.{Compare, Or}
+use Rattle.sqlite_sql.specs.declared.ops.BinaryOp.TheVariants.{Compare}
 use Rattle.sqlite_sql.specs.declared.ops.CompareOp.TheVariants.{Gt, Ge, Lt, Le}
 use Rattle.sqlite_sql.specs.Query.{limited}
 use Rattle.sql_tables.specs.declared.writes.Cells.{Cells}
@@ -79,15 +80,18 @@ name_order a b =
 
 -- ---- beyond a time
 
+-- the first is true, or else the second is, which isn't asked for where the first one is
+abbrev pub holds_either : Value → Value → Bool
+holds_either a b = is_true (if is_true a then Int (pos 1) else b)
+
 -- the row is of this node, and its time is after the place, as SQL compares
 abbrev pub is_after : List ℕ → ℤ → ℤ → Row → Bool
 is_after node time pico c =
     is_eq (value_cmp (column c 3) (Bytes node))
     &&
     (is_true (binary (Compare Ge Binary) (column c 4) (Int time))
-    && is_true
-    (binary Or (binary (Compare Gt Binary) (column c 4) (Int time))
-    (binary (Compare Gt Binary) (column c 5) (Int pico))))
+    && holds_either (binary (Compare Gt Binary) (column c 4) (Int time))
+    (binary (Compare Gt Binary) (column c 5) (Int pico)))
 
 -- the same of a time before it
 abbrev pub is_before : List ℕ → ℤ → ℤ → Row → Bool
@@ -95,9 +99,8 @@ is_before node time pico c =
     is_eq (value_cmp (column c 3) (Bytes node))
     &&
     (is_true (binary (Compare Le Binary) (column c 4) (Int time))
-    && is_true
-    (binary Or (binary (Compare Lt Binary) (column c 4) (Int time))
-    (binary (Compare Lt Binary) (column c 5) (Int pico))))
+    && holds_either (binary (Compare Lt Binary) (column c 4) (Int time))
+    (binary (Compare Lt Binary) (column c 5) (Int pico)))
 
 -- by time, picoseconds, tick and origin
 abbrev pub moment_order : Row → Row → Ordering

@@ -88,7 +88,7 @@ fn rows_after<S: Alter>(
 {
     select(
         conn,
-        "SELECT origin, number, tick, node, time, pico, asked, who, value FROM records2 WHERE node = ?1 AND time >= ?2 AND (time > ?2 OR pico > ?3) ORDER BY time, pico, tick, origin LIMIT ?4",
+        "SELECT origin, number, tick, node, time, pico, asked, who, value FROM records2 WHERE node = ?1 AND time >= ?2 AND CASE WHEN time > ?2 THEN 1 ELSE pico > ?3 END ORDER BY time, pico, tick, origin LIMIT ?4",
         params![node, &next.place.ticks, &next.place.pico, &next.count],
     )
 }
@@ -107,7 +107,7 @@ fn rows_before<S: Alter>(
 {
     select(
         conn,
-        "SELECT origin, number, tick, node, time, pico, asked, who, value FROM records2 WHERE node = ?1 AND time <= ?2 AND (time < ?2 OR pico < ?3) ORDER BY time DESC, pico DESC, tick DESC, origin DESC LIMIT ?4",
+        "SELECT origin, number, tick, node, time, pico, asked, who, value FROM records2 WHERE node = ?1 AND time <= ?2 AND CASE WHEN time < ?2 THEN 1 ELSE pico < ?3 END ORDER BY time DESC, pico DESC, tick DESC, origin DESC LIMIT ?4",
         params![node, &next.place.ticks, &next.place.pico, &next.count],
     )
 }
