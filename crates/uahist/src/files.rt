@@ -142,7 +142,10 @@ fn open_counted<'a>(
     progress: &'a Progress<'a>,
     files: Files<StoreFile>,
     terms: StoreTerms,
-) -> Result<FileArchive<'a>, StoreFault> {
+) -> Result<FileArchive<'a>, StoreFault>
+    requires log { IsTrue (file_is_usable ⟦<Unknown as Start>⟧ files.log) }
+    requires db { IsTrue (file_is_usable ⟦<Unknown as Start>⟧ files.db) }
+{
     let seed = match RandomState::new(rt) {
         Ok(state) => state.hash_one(&0u8),
         Err(_) => return Err(StoreFault::Refused),
@@ -188,8 +191,9 @@ pub fn open<'a>(
     path: &str,
     terms: StoreTerms,
 ) -> Result<FileArchive<'a>, StoreFault> {
+    let is_indexed = terms.is_indexed;
     let mut archive = open_told(rt, progress, path, terms)?;
-    if !terms.is_indexed {
+    if !is_indexed {
         return Ok(archive);
     }
     match archive.index_live_values() {
