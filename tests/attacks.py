@@ -1028,6 +1028,23 @@ def lying_peers():
         listener.close()
 
 
+def large_settings():
+    """Settings with very many users, folders or variables."""
+    count = 100_000
+    users = "".join(f"\n[[user]]\nname = 'user{k:06}'\npassword = 'x'\n" for k in range(count))
+    folders = "".join(f"\n[[folder]]\nid = 'f{k:06}'\nname = 'f'\n" for k in range(count))
+    variables = "".join(f"\n[[variable]]\nid = 'v{k:06}'\nname = 'v'\ntype = 'Int32'\nfolder = 'f{count - 1 - k:06}'\n" for k in range(count))
+    for what, tables, status, line in (
+            (f"{count} users", users, 0, ""),
+            (f"{count} users, of whom the last has the first one's name", users.replace(f"user{count - 1:06}", "user000000"), 2, "[[user]] 1, name"),
+            (f"{count} folders, and as many variables in them", folders + variables, 2, f"{2 * count} folders and variables")):
+        server = Server(store=False, tables=tables)
+        done = run([program, "check", "--settings", server.settings], most=120)
+        tell(done.status == status and line in done.said, f"{what} are judged", (done.status, done.said[-300:]))
+        tell(done.processor < 1.5, f"{what} are judged within a second and a half of a processor", f"{done.processor:.2f} s")
+        note(f"{what}: {done.processor:.2f} s")
+
+
 def a_limit_of_files():
     """A limit of the shell's on how long a file may be."""
     server = Server().start("ulimit -f 400")
@@ -1047,7 +1064,7 @@ def a_limit_of_files():
 
 resource.setrlimit(resource.RLIMIT_NOFILE, (4096, max(4096, resource.getrlimit(resource.RLIMIT_NOFILE)[1])))
 checks = [small_requests, large_exchange, a_wide_folder, long_turns, deleted_values, deep, large_requests, a_flood_of_chunks, places, unread_answers, taken_answers, browsers, descriptors,
-          guesses, guesses_from_many, sessions, secrets, copies, lying_peers, a_limit_of_files]
+          guesses, guesses_from_many, sessions, secrets, copies, lying_peers, large_settings, a_limit_of_files]
 checks = [check for check in checks if not sys.argv[2:] or check.__name__ in sys.argv[2:]]
 for check in checks:
     begin = time.monotonic()
