@@ -1,17 +1,9 @@
 //! The files of a store, before it is opened.
 
-ghost use Rattle.std.specs.Prelude.{IfOk, IsTrue};
-ghost use Rattle.sqlite_std_file.specs.File.{file_is_usable};
-
 use crate::causes;
-use crate::counting::CountingDisk;
-use crate::progress::Progress;
 use archive::StoreFault;
-use sql_archive::SqlArchive;
-use sqlite::{File as StoreFile, FileStore, Files, Options, Start, Unknown};
-use sqlite_std_file::OpenError;
+use sql_archive::{FileArchive, SqlArchive};
 use std::fs::{File, OpenOptions};
-use std::hash::{BuildHasher, RandomState};
 use std::io::{ErrorKind, Write};
 use std::os::unix::fs::{MetadataExt, OpenOptionsExt, PermissionsExt};
 use std::{fs, io};
@@ -113,87 +105,12 @@ fn prepare(rt: &HostRuntime, path: &str) -> Result<(), StoreFault> {
     Ok(())
 }
 
-/// An archive in a file of this machine.
-pub type FileArchive<'a> = SqlArchive<FileStore<CountingDisk<'a, StoreFile>>>;
-
-/// Why the files at a path aren't opened.
-fn refusal_of(error: OpenError) -> StoreFault {
-    match error {
-        OpenError::OutOfMemory => StoreFault::OutOfMemory,
-        OpenError::Io(error) if error.kind() == ErrorKind::OutOfMemory => StoreFault::OutOfMemory,
-        _ => StoreFault::Refused,
-    }
-}
-
-/// The files of a store at a path, which lies in no memory and is no URI. One program at a time opens them.
-fn open_files(rt: &HostRuntime, path: &str) -> Result<Files<StoreFile>, StoreFault>
-    ensures { IfOk result (λ files. IsTrue (file_is_usable ⟦<Unknown as Start>⟧ files.log)
-        × IsTrue (file_is_usable ⟦<Unknown as Start>⟧ files.db)) }
-{
-    if path == ":memory:" || path.starts_with("file:") {
-        return Err(StoreFault::Refused);
-    }
-    sqlite_std_file::open(rt, path, Unknown).map_err(refusal_of)
-}
-
-/// The archive in these files of a store.
-fn open_counted<'a>(
-    rt: &HostRuntime,
-    progress: &'a Progress<'a>,
-    files: Files<StoreFile>,
-    terms: StoreTerms,
-) -> Result<FileArchive<'a>, StoreFault>
-    requires log { IsTrue (file_is_usable ⟦<Unknown as Start>⟧ files.log) }
-    requires db { IsTrue (file_is_usable ⟦<Unknown as Start>⟧ files.db) }
-{
-    let seed = match RandomState::new(rt) {
-        Ok(state) => state.hash_one(&0u8),
-        Err(_) => return Err(StoreFault::Refused),
-    };
-    let counted = Files {
-        log: CountingDisk::new(files.log, progress),
-        db: CountingDisk::new(files.db, progress),
-    };
-    match SqlArchive::open_files(
-        rt.alloc(),
-        counted,
-        Options::new(seed),
-        terms.archive,
-        terms.replica,
-    ) {
-        Ok(archive) => Ok(archive),
-        Err((fault, _)) => Err(fault),
-    }
-}
-
-/// The archive of the store at a path, which is made where none stands, as it is opened; how far that has come is told.
-fn open_told<'a>(
-    rt: &HostRuntime,
-    progress: &'a Progress<'a>,
-    path: &str,
-    terms: StoreTerms,
-) -> Result<FileArchive<'a>, StoreFault> {
-    prepare(rt, path)?;
-    if terms.tells_progress {
-        progress.begin_opening(length(rt, path).unwrap_or(0));
-    }
-    let files = open_files(rt, path)?;
-    let opened = open_counted(rt, progress, files, terms);
-    progress.end_opening();
-    opened
-}
-
 /// The archive of the store at a path, which is made where none stands, with an index of live values where the terms want one.
 /// Where that can't be made it is refused.
-pub fn open<'a>(
-    rt: &HostRuntime,
-    progress: &'a Progress<'a>,
-    path: &str,
-    terms: StoreTerms,
-) -> Result<FileArchive<'a>, StoreFault> {
-    let is_indexed = terms.is_indexed;
-    let mut archive = open_told(rt, progress, path, terms)?;
-    if !is_indexed {
+pub fn open(rt: &HostRuntime, path: &str, terms: StoreTerms) -> Result<FileArchive, StoreFault> {
+    prepare(rt, path)?;
+    let mut archive = SqlArchive::open(rt, path, terms.archive, terms.replica)?;
+    if !terms.is_indexed {
         return Ok(archive);
     }
     match archive.index_live_values() {
@@ -204,7 +121,7 @@ pub fn open<'a>(
 }
 
 /// Closes the archive of a store that broke, and says why it broke, as far as its files tell.
-pub fn why_broken(archive: FileArchive<'_>) -> &'static str {
+pub fn why_broken(archive: FileArchive) -> &'static str {
     let files = archive.into_files();
     let met = files.tally();
     match (files.may_be_used(), met.caught > 0, met.refused > 0) {
