@@ -1029,15 +1029,15 @@ def lying_peers():
 
 
 def large_settings():
-    """Settings with very many users, folders or variables."""
-    count = 100_000
+    """Settings with very many users, folders or variables, beside the two variables and the user that each server here has."""
+    count, half = 100_000, 50_000
     users = "".join(f"\n[[user]]\nname = 'user{k:06}'\npassword = 'x'\n" for k in range(count))
-    folders = "".join(f"\n[[folder]]\nid = 'f{k:06}'\nname = 'f'\n" for k in range(count))
-    variables = "".join(f"\n[[variable]]\nid = 'v{k:06}'\nname = 'v'\ntype = 'Int32'\nfolder = 'f{count - 1 - k:06}'\n" for k in range(count))
+    folders = "".join(f"\n[[folder]]\nid = 'f{k:06}'\nname = 'f'\n" for k in range(half))
+    variables = "".join(f"\n[[variable]]\nid = 'v{k:06}'\nname = 'v'\ntype = 'Int32'\nfolder = 'f{half - 1 - k:06}'\n" for k in range(half))
     for what, tables, status, line in (
             (f"{count} users", users, 0, ""),
-            (f"{count} users, of whom the last has the first one's name", users.replace(f"user{count - 1:06}", "user000000"), 2, "[[user]] 1, name"),
-            (f"{count} folders, and as many variables in them", folders + variables, 2, f"{2 * count} folders and variables")):
+            (f"{count} users, of whom the last has the first one's name", users.replace(f"user{count - 1:06}", "user000000"), 2, "[[user]] 2, name"),
+            (f"{half} folders, and as many variables in them", folders + variables, 2, f"{count + 2} folders and variables")):
         server = Server(store=False, tables=tables)
         done = run([program, "check", "--settings", server.settings], most=120)
         tell(done.status == status and line in done.said, f"{what} are judged", (done.status, done.said[-300:]))
